@@ -1,5 +1,6 @@
 -- The lemmas.
 mod CoderLemmas
+mod ConverterRunLemmas
 mod EncodingNumberLemmas
 mod IndexFileLemmas
 mod Openings

@@ -1,6 +1,5 @@
 -- A conversion by steps: what a converter is, and what a call of its handle does.
 use Rattle.std.specs.Prelude.{◌≡◌, ◌≢◌, ◌⊎◌, ◌↔◌, ◌≤◌, ℕ, Bool, true, false, IsFalse, IsTrue, List, [], ◌++◌, drop, length, take, Option, None, Some, Result, Ok, IfErr, OnOk}
-use Rattle.encoding_tables.specs.IndexLists.{IndexLists}
 use Rattle.recode.specs.Devices.{Devices, known}
 use Rattle.recode.specs.Session.{IsNewSession, IsOver, IsStepped, Tells, View}
 use Rattle.recode.specs.Step.{Finishes, Stops, StepsOn}
@@ -10,7 +9,6 @@ use Rattle.recode.specs.declared.job.Job.{Job}
 use Rattle.recode.specs.declared.job.Progress.{Progress}
 use Rattle.recode.specs.declared.job.Report.{Report as RunReport}
 use Rattle.recode.specs.declared.session.Phase.TheVariants.{Done}
-use Rattle.jillapun_c.specs.Asked.{IsAskedIn}
 use Rattle.jillapun_c.specs.Coders.{converter_in}
 use Rattle.jillapun_c.specs.Conversions.{IsToldFault, IsToldReport}
 use Rattle.jillapun_c.specs.Losses.{log_of_losses}
@@ -44,14 +42,6 @@ pub record IsNewConverter (c : Converter) (j : Job) : Type 0 where
   pub fault : c.fault ≡ None
   pub empty : HoldsNothing c
   pub open_ : c.is_finished ≡ false
-
--- a handle holds a converter that has read nothing, of a valid job that the numbers of a call ask for
-pub record HoldsNewConverter (tables : Option IndexLists) (from to mark policy limit : ℕ) (held : Option Coder) : Type 0 where
-  pub job : Job
-  pub asked : IsAskedIn tables from to mark policy limit job
-  pub converter : Converter
-  pub held_is : converter_in held ≡ Some converter
-  pub is_new : IsNewConverter converter job
 
 -- what a step of a session returned, and what it did to the session and its devices
 pub record StepReturns (before after : Devices) (v v' : View) (answer : Result Progress Fault) : Type 0 where

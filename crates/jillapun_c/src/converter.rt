@@ -1,9 +1,10 @@
 //! The exports that convert by steps.
 
-ghost use Rattle.std.specs.Prelude.{◌≡◌, ◌≢◌, IsSome, None};
+ghost use Rattle.std.specs.Prelude.{◌≡◌, ◌≢◌, [], IsSome, None};
 ghost use Rattle.recode.specs.Job.{IsValidJob};
 ghost use Rattle.jillapun_c.specs.Asked.{AreKnown};
-ghost use Rattle.jillapun_c.specs.Converters.{HoldsNewConverter, IsNewConverter};
+ghost use Rattle.jillapun_c.specs.ConverterRuns.{HasConverted, HoldsNewConverter};
+ghost use Rattle.jillapun_c.specs.Converters.{IsNewConverter};
 ghost use Rattle.jillapun_c.specs.declared.status.TheConstants.{CLOSED, IN_USE, OK, UNKNOWN};
 
 pub(crate) mod made;
@@ -16,6 +17,7 @@ use crate::losses::Loss;
 use crate::request::Request;
 use crate::status::{CLOSED, IN_USE, NO_MEMORY, OK};
 use crate::tables_handle::TablesHandle;
+use recode::laws::steps_are_a_run;
 use recode::{Fault, Job, Session};
 use std::alloc::Global;
 
@@ -42,8 +44,10 @@ impl Converter {
     // One that has read nothing.
     fn new(alloc: Global, job: Job<'static>) -> Converter
         requires { IsValidJob job }
-        ensures { IsNewConverter result job.entry }
+        ensures is_new { IsNewConverter result job.entry }
+        ensures so_far { HasConverted job.entry [] [] [] result }
     {
+        steps_are_a_run();
         Converter {
             session: Session::new(job),
             fault: None,

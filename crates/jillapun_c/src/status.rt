@@ -13,7 +13,8 @@ pub const UNKNOWN: u8 = 2;
 pub const NOT_READY: u8 = 3;
 /// The text of an index has a faulty line, and the fault says which. Nothing was kept.
 pub const BAD_INDEX: u8 = 4;
-/// Memory was refused. Nothing was kept, and the call can be made again.
+/// Memory was refused. Nothing was kept, and the call can be made again. A conversion by steps has
+/// ended.
 pub const NO_MEMORY: u8 = 5;
 /// The handle holds nothing: it is zeroed, or was freed. Nothing was done.
 pub const CLOSED: u8 = 6;

@@ -3,6 +3,7 @@
 ghost use Rattle.std.specs.Prelude.{◌≡◌, ◌↔◌, IsTrue, None, Some, false, true};
 ghost use Rattle.recode.specs.Session.{IsOver};
 ghost use Rattle.jillapun_c.specs.Coders.{converter_in};
+ghost use Rattle.jillapun_c.specs.ConverterRuns.{JoinsToCalls};
 ghost use Rattle.jillapun_c.specs.Converters.{ConvertsByStep, IsIdle, MakesStep, MayStep};
 ghost use Rattle.jillapun_c.specs.Converters.{StepsIfMay, TellsStatus, view_in};
 ghost use Rattle.jillapun_c.specs.declared.converter.Converter.{Converter};
@@ -19,6 +20,7 @@ use crate::report::{Report, told};
 use crate::run::step_in_buffers;
 use crate::status::{CLOSED, FINISHED, GOES_ON};
 use recode::Counted;
+use recode::laws::{known_input, steps_are_a_run, stops_at_first_loss};
 use std::alloc::Global;
 use std::mem;
 
@@ -90,8 +92,8 @@ impl Converter {
 /// call with `last` and no bytes reads the end. What finds no room is kept, and calls read nothing
 /// until all of it was handed out (`wants_room`).
 ///
-/// - `GOES_ON`: call again, with what of `src` was not read, or with what follows if all was. Make
-///   room first if `progress` wants it.
+/// - `GOES_ON`: call again, with what of `src` was not read, or with what follows if all was; and
+///   with room, if `progress` says that it is wanted.
 /// - `OK`: all was converted and handed out. Nothing was malformed, and the output, read again, is
 ///   the text of the input. `LOSSY`: the same, but something was lost. The report has the counts.
 /// - `STOPPED`: the policy is `STOP`, and the character that has no bytes is in the report. What is
@@ -122,6 +124,9 @@ pub extern "C" fn jillapun_converter_step(
     ensures converts { (c : Converter) → converter_in converter.old.coder.coder ≡ Some c
         → c.is_finished ≡ false → ConvertsByStep c converter.new.coder.coder src.now last dst.old
         dst.new losses.old losses.new progress.new report.new result }
+    ensures joins { (c : Converter) → converter_in converter.old.coder.coder ≡ Some c
+        → c.is_finished ≡ false → JoinsToCalls c converter.new.coder.coder src.now dst.new
+        losses.new progress.new report.new result }
     ensures unchanged { IsIdle (converter_in converter.old.coder.coder)
         → converter.new.coder.coder ≡ converter.old.coder.coder }
     ensures kept { IsIdle (converter_in converter.old.coder.coder)
@@ -129,6 +134,9 @@ pub extern "C" fn jillapun_converter_step(
     ensures nothing { IsIdle (converter_in converter.old.coder.coder)
         → (progress.new ≡ progress_.NONE) × (report.new ≡ report_.NONE) }
 {
+    steps_are_a_run();
+    known_input();
+    stops_at_first_loss();
     *progress = ConverterProgress::NONE;
     *report = Report::NONE;
     let Some(mut coder) = converter.coder.take(alloc) else {

@@ -75,22 +75,24 @@ fn by_steps(
         kind: 0,
     }; 8];
     let mut progress = ConverterProgress::NONE;
-    let mut at = 0;
+    let (room, records) = (room.min(32), records.min(8));
+    let mut rest = src;
     for _ in 0..200 {
-        let end = src.len().min(at + chunk);
+        let part = &rest[..chunk.min(rest.len())];
         given.status = jillapun_converter_step(
             alloc,
             &mut converter,
-            &src[at..end],
-            end == src.len(),
+            part,
+            part.len() == rest.len(),
             &mut dst[..room],
             &mut losses[..records],
             &mut progress,
             &mut given.report,
         );
-        at += progress.read;
-        given.output.extend_from_slice(&dst[..progress.written])?;
-        given.losses.extend_from_slice(&losses[..progress.losses])?;
+        rest = rest.get(progress.read..).unwrap_or(&[]);
+        let (written, told) = (progress.written.min(32), progress.losses.min(8));
+        given.output.extend_from_slice(&dst[..written])?;
+        given.losses.extend_from_slice(&losses[..told])?;
         if given.status != GOES_ON {
             break;
         }
