@@ -20,12 +20,12 @@ use Rattle.jillapun_c.specs.declared.converter.progress.ConverterProgress.{Conve
 use Rattle.jillapun_c.specs.declared.losses.Loss.{Loss}
 use Rattle.jillapun_c.specs.declared.report.Report.{Report}
 
--- an input of which so much is still to be read, and what was written to an output and a log
+-- an input of which this is still to be read, and what was written to an output and a log
 abbrev pub devices_of : (input output log : List ℕ) → Devices
 devices_of input output log = record { input = Some input; written = known output log; failures = record { reader = 0; writer = 0; log = 0 } }
 
--- A run of a job stands at a view: so much of its input was read, and so much was written to output and log. The view is
--- that of a run that goes on, of one that came to its end, or of one that a fault ended.
+-- A run of a job has read this input, and written this output and this log, and a view is where it stands: it goes on,
+-- whatever bytes follow, or it came to its end, or this fault ended it.
 pub record HasRunTo (j : Job) (input output log : List ℕ) (v : View) (fault : Option Fault) : Type 0 where
   pub new : View
   pub is_new : IsNewSession new j
@@ -34,8 +34,8 @@ pub record HasRunTo (j : Job) (input output log : List ℕ) (v : View) (fault : 
   pub done : v.phase ≡ Done → (p : RunReport) → Tells v p → Completes (devices_of input [] []) (devices_of [] output log) j p
   pub failed : (f : Fault) → fault ≡ Some f → Fails (devices_of input [] []) (devices_of [] output log) j f
 
--- the calls of a converter, from a new one of a job on, read this input and handed out this output and these records:
--- with what it still holds, a run has written that
+-- The calls of a converter, from a new one of a job on, have read this input and handed out this output and these records:
+-- a run has written that and what the converter still holds.
 abbrev pub HasConverted : Job → (input output : List ℕ) → List Loss → Converter → Type 0
 HasConverted j input output losses c = HasRunTo j input (output ++ held_output c) (log_of_losses (losses ++ held_losses c)) (view_in c) c.fault
 
@@ -47,7 +47,8 @@ pub record HoldsConversion (j : Job) (input output : List ℕ) (losses : List Lo
   pub so_far : HasConverted j input output losses converter
   pub told : ConvertsInMemory j input output losses report status
 
--- what a call read and handed out is joined to that of the calls before it
+-- a call of a converter goes on with what the calls before it read and handed out: what it read and handed out is joined to
+-- that, and what it tells is true of all
 abbrev pub JoinsToCalls : Converter → (held : Option Coder) (src dst : List ℕ) → List Loss → ConverterProgress → Report → (status : ℕ) → Type 0
 JoinsToCalls c held src dst losses p report status = (j : Job) (input output : List ℕ) (records : List Loss) → IsValidJob j → HasConverted j input output records c
     → HoldsConversion j (input ++ take p.read src) (output ++ take p.written dst) (records ++ take p.losses losses) held report status

@@ -1,5 +1,5 @@
-/* Converts standard input to standard output, chunk by chunk and by their descriptors, and says on standard error what was
-   lost: pipe FROM TO [INDEX..] < input > output, where INDEX is the path of an index text that an encoding needs.
+/* Converts standard input to standard output by their descriptors, and says on standard error what was lost:
+   pipe FROM TO [INDEX..] < input > output, where INDEX is the path of an index text that an encoding needs.
    The exit status is the verdict: 0 if nothing was lost, 1 if something was, and 2 if not all was converted. */
 #define _POSIX_C_SOURCE 200809L
 #include <jillapun.h>
@@ -35,7 +35,7 @@ static bool put(const uint8_t *bytes, size_t len) {
     return true;
 }
 
-/* Converts the input to its end. Returns the last status, or `JILLAPUN_GOES_ON` if a read or a write failed. */
+/* Converts the input to its end. Returns the last status, JILLAPUN_GOES_ON if a read or a write failed. */
 static uint8_t convert(jillapun_converter *converter) {
     static uint8_t chunk[1 << 14], output[1 << 16];
     static jillapun_loss losses[256];
@@ -70,7 +70,7 @@ int main(int argc, char **argv) {
         return 2;
     uint8_t from = jillapun_for_label((const uint8_t *)argv[1], strlen(argv[1]));
     uint8_t to = jillapun_for_label((const uint8_t *)argv[2], strlen(argv[2]));
-    if (jillapun_converter_new(tables, from, to, JILLAPUN_SNIFF, JILLAPUN_DECIMAL, UINT64_MAX, &converter) != JILLAPUN_OK)
+    if (jillapun_converter_new(tables, from, to, JILLAPUN_SNIFF, JILLAPUN_DECIMAL, UINT64_MAX, &converter))
         return 2;
     uint8_t status = convert(&converter);
     jillapun_converter_free(&converter);

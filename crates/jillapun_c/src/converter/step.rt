@@ -102,9 +102,9 @@ impl Converter {
 /// - `FINISHED`: an earlier call returned one of the five above, which end the conversion.
 ///   `CLOSED`: the handle holds no converter. Nothing is done, and all of `progress` is 0.
 ///
-/// The outputs of all calls, joined, are what `jillapun_convert` writes for the whole input, and so
-/// are the records, however the input is cut and however little room there is. At `TOO_LONG` and
-/// `NO_MEMORY` they are the first part of that. The report is 0 before the end.
+/// The outputs of all calls, joined, are what `jillapun_convert` writes for all that was read, and
+/// so are the records and the report, however the input is cut and however little room there is. At
+/// `TOO_LONG` and `NO_MEMORY` they are the first part of that. Before the end the report is 0.
 ///
 /// What is kept is never more than what one call reads gives: memory does not grow with the input.
 #[unsafe(no_mangle)]
