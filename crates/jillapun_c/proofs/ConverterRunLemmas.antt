@@ -1,10 +1,10 @@
 -- Steps of a converter as steps of one run.
-use Rattle.std.proofs.Common.{◌≡◌, ◌≢◌, ℕ, ◌⊎◌, inl, inr, List, [], ◌∷◌, ◌++◌, ◌<◌, arith, length, take, drop, refl, sym, ap, ◌∙◌, subst, append_assoc, append-nil, Option, Some, None, Result, Ok, Err, OnOk, IfErr, Bool, true, false}
+use Rattle.std.proofs.Common.{◌≡◌, ◌≢◌, ℕ, ◌⊎◌, inl, inr, List, [], ◌∷◌, ◌++◌, ◌<◌, arith, take, drop, refl, sym, ap, ◌∙◌, subst, append_assoc, append-nil, Option, Some, None, Result, Ok, Err, OnOk, IfErr, Bool, true, false}
 use Rattle.std.proofs.lemmas.Grind.{flat_map-append}
 use Rattle.std.proofs.lemmas.List.{append_cancel_right, take-append-drop}
 use Rattle.recode_log.specs.Line.{line_bytes}
 use Rattle.recode_log.specs.declared.line.LogLine.TheVariants.{Lost}
-use Rattle.recode.specs.Devices.{Devices, Failures, KeepsWritten, Written, known}
+use Rattle.recode.specs.Devices.{Devices, Failures, known}
 use Rattle.recode.specs.Session.{Completes, Fails, IsConverted, IsNewSession, IsOver, Tells, View}
 use Rattle.recode.specs.State.{State}
 use Rattle.recode.specs.Step.{Finishes, HasRun, Stops, StepsOn, WrotePrefix}
@@ -19,7 +19,7 @@ use Rattle.recode.specs.declared.job.Progress.{Progress}
 use Rattle.recode.specs.declared.job.Report.{Report as RunReport}
 use Rattle.recode.specs.declared.session.Phase.{Phase}
 use Rattle.recode.specs.declared.session.Phase.TheVariants.{Done, Open, Stopped}
-use Rattle.jillapun_c.specs.ConverterRuns.{HasConverted, HasRunTo, HoldsConversion, JoinsToCalls, devices_of}
+use Rattle.jillapun_c.specs.ConverterRuns.{HasConverted, HasRunTo, JoinsToCalls, devices_of}
 use Rattle.jillapun_c.specs.Conversions.{ConvertsInMemory, IsDone, IsToldReport}
 use Rattle.jillapun_c.specs.Converters.{ConvertsByStep, HandsOut, HoldsNothing, IsNewConverter, MakesStep, MayStep, StepReturns, StepsIfMay, TellsEnd, TellsStatus, held_losses, held_output, view_in}
 use Rattle.jillapun_c.specs.Losses.{line_of, log_of_losses}
