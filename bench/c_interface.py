@@ -3,8 +3,9 @@
 
     python3 bench/c_interface.py [--rounds N] [--megabytes N] [--write] [WORD..]
 
-`jillapun_convert` from memory to memory, called through the Python package, beside `recode` and, where cargo and the crate
-are there, a program over encoding_rs, on the inputs of `programs.py`; and texts of 20 bytes beside Python's own codecs.
+`jillapun_convert` from memory to memory, called through the Python package, and `jillapun_converter_step`, into a room of
+64 KiB that is used again, beside `recode` and, where cargo and the crate are there, a program over encoding_rs, on the
+inputs of `programs.py`; and texts of 20 bytes beside Python's own codecs.
 It wants `recode` built (`make build`) and the library (`make c`, or JILLAPUN_LIBRARY). With words it measures the
 workloads that have one of them in their names.
 
@@ -64,6 +65,39 @@ class Call:
         return time.thread_time() - start
 
 
+class Steps:
+    """A conversion of one input by steps, into room that is used again."""
+
+    SIZE, RECORDS = 1 << 16, 1 << 10
+
+    def __init__(self, data, source, target):
+        self.data, self.handle = data, library.Handle()
+        words = number_of(source), number_of(target), library.MARKS["keep"], library.POLICIES["decimal"]
+        self.words = (handle_of(None), *words, library.NO_LIMIT, ctypes.byref(self.handle))
+        self.room, self.losses = ctypes.create_string_buffer(self.SIZE), (library.Loss * self.RECORDS)()
+        self.progress, self.report = library.ConverterProgress(), library.Report()
+
+    def calls(self):
+        """Each call of the step, after it was made."""
+        lent = self.room, self.SIZE, self.losses, self.RECORDS, ctypes.byref(self.progress), ctypes.byref(self.report)
+        handle, start, size, at, status = ctypes.byref(self.handle), library.address_of(self.data), len(self.data), 0, library.GOES_ON
+        library.streams().jillapun_converter_new(*self.words)
+        while status == library.GOES_ON:
+            status = library.library.jillapun_converter_step(handle, start + at, size - at, True, *lent)
+            at += self.progress.read
+            yield status
+        library.library.jillapun_converter_free(handle)
+
+    def made(self):
+        return b"".join(self.room[: self.progress.written] for _ in self.calls())
+
+    def spent(self):
+        start = time.thread_time()
+        for _ in self.calls():
+            pass
+        return time.thread_time() - start
+
+
 def compared(ours, theirs, rounds):
     """How many times as fast ours is, and the median time of each."""
     ratios, own, other = [], [], []
@@ -85,10 +119,10 @@ def whole_rows(given, work):
         path = programs.write_input(work, texts[name].encode(codec), given.megabytes)
         with open(path, "rb") as file:
             data = file.read()
-        call, size = Call(data, source, target), len(data) / 1e6
+        call, steps, size = Call(data, source, target), Steps(data, source, target), len(data) / 1e6
         commands = [programs.recode(given.program, source, target)] + ([[other, source, target]] if other else [])
         made = call.made()
-        cells = [title]
+        cells = [title + (" (steps differ)" if steps.made() != made else "")]
         for command in commands:
             target_path = os.path.join(work, "output")
             programs.run(command, path, target_path)
@@ -96,7 +130,9 @@ def whole_rows(given, work):
                 if file.read() != made:
                     cells[0] += " (differs)"
             ratio, own, theirs = compared(call.spent, lambda: programs.run(command, path, os.devnull)[0], given.rounds)
-            cells += ([] if len(cells) > 1 else ["%.0f" % (size / own)]) + ["%.0f" % (size / theirs), str(ratio)]
+            if len(cells) == 1:
+                cells += ["%.0f" % (size / own), "%.0f" % (size / statistics.median(steps.spent() for _ in range(given.rounds)))]
+            cells += ["%.0f" % (size / theirs), str(ratio)]
         yield cells
 
 
@@ -148,7 +184,7 @@ def main():
         whole = list(shown(whole_rows(given, work)))
     short = list(shown(short_rows(given)))
     if given.write:
-        head = ["Workload", "`jillapun_convert`", "recode", "to recode", "encoding_rs", "to encoding_rs"]
+        head = ["Workload", "`jillapun_convert`", "by steps", "recode", "to recode", "encoding_rs", "to encoding_rs"]
         programs.write(PAGE, "c interface", about + "\n\n" + programs.table(head[: len(whole[0])], whole))
         head = ["20 bytes", "`jillapun.decode`", "Python", "`jillapun.encode`", "Python", "`jillapun_convert` alone"]
         programs.write(PAGE, "short texts", programs.table(head, short))

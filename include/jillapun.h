@@ -66,7 +66,10 @@ enum {
     JILLAPUN_NOT_READY = 3,
     /** The text of an index has a faulty line, and the fault says which. Nothing was kept. */
     JILLAPUN_BAD_INDEX = 4,
-    /** Memory was refused. Nothing was kept, and the call can be made again. */
+    /**
+     * Memory was refused. Nothing was kept, and the call can be made again. A conversion by steps
+     * has ended.
+     */
     JILLAPUN_NO_MEMORY = 5,
     /** The handle holds nothing: it is zeroed, or was freed. Nothing was done. */
     JILLAPUN_CLOSED = 6,
@@ -81,6 +84,11 @@ enum {
      * written.
      */
     JILLAPUN_ROOM = 10,
+    /**
+     * The conversion goes on: call again, with the bytes that follow, or with room for what is
+     * left.
+     */
+    JILLAPUN_GOES_ON = 11,
     /**
      * The policy is `JILLAPUN_STOP`, and a character has no bytes in the output encoding: the
      * report names it. All that stands before it was converted.
@@ -140,7 +148,7 @@ enum {
     JILLAPUN_BIDI = 2
 };
 
-/* What stands where there is no number. */
+/* What stands in place of a number if there is none. */
 enum {
     /** No encoding. Each encoding is its number, from 0 on, in the order of the names. */
     JILLAPUN_NO_ENCODING = 255
@@ -148,7 +156,7 @@ enum {
 
 /**
  * In place of a length: the room is not enough, or the bytes are not what the call is for.
- * Nothing was written, where the call does not say otherwise.
+ * Nothing was written, unless the call says otherwise.
  */
 #define JILLAPUN_REFUSED SIZE_MAX
 
@@ -358,12 +366,14 @@ typedef struct {
     uint64_t lost;
     /**
      * The bytes of the output, in memory: so many stand at the start of `dst`, or, at
-     * `JILLAPUN_ROOM`, so many are wanted. 0 where nothing was written.
+     * `JILLAPUN_ROOM`, so many are wanted. 0 if nothing was written, and in a conversion by steps:
+     * its calls tell it.
      */
     uint64_t written;
     /**
      * The records of losses, in memory: so many stand at the start of `losses`, or, at
-     * `JILLAPUN_ROOM`, so many are wanted. 0 where nothing was written.
+     * `JILLAPUN_ROOM`, so many are wanted. 0 if nothing was written, and in a conversion by steps:
+     * its calls tell it.
      */
     uint64_t losses;
     /** At `JILLAPUN_STOPPED`, how many characters of the text stand before the lost one. Else 0. */
@@ -374,6 +384,30 @@ typedef struct {
      */
     uint32_t scalar;
 } jillapun_report;
+
+/**
+ * A conversion by steps. Begin with `{0}`, which holds none; `jillapun_converter_new` fills it,
+ * and `jillapun_converter_free` empties it. Never copy it: only one of the copies may be used.
+ * One thread at a time.
+ */
+typedef struct {
+    jillapun_coder private_coder;
+} jillapun_converter;
+
+/** What a call of a converter did. */
+typedef struct {
+    /** How many bytes of `src` were read. */
+    size_t read;
+    /** How many bytes were written to `dst`. */
+    size_t written;
+    /** How many records were written to `losses`. */
+    size_t losses;
+    /**
+     * Whether room is wanted: bytes or records are left that did not fit. The next call hands them
+     * out, and reads nothing.
+     */
+    bool wants_room;
+} jillapun_converter_progress;
 
 /* The exports on encodings: found by a label or a mark, and what is told of each. An encoding
    crosses as its number, from 0 to 39, in the order of the names. */
@@ -387,8 +421,8 @@ uint8_t jillapun_for_label(const uint8_t *label, size_t label_len);
 
 /**
  * The number of the encoding whose byte order mark stands at the start of `bytes`, and in
- * `length` the length of the mark in bytes; `JILLAPUN_NO_ENCODING` and 0 where there is none
- * ("BOM sniff" of the Encoding Standard, section 6). The marks are EF BB BF of UTF-8, FE FF of
+ * `length` the length of the mark in bytes; `JILLAPUN_NO_ENCODING` and 0 if there is none ("BOM
+ * sniff" of the Encoding Standard, section 6). The marks are EF BB BF of UTF-8, FE FF of
  * UTF-16BE and FF FE of UTF-16LE.
  */
 uint8_t jillapun_for_bom(const uint8_t *bytes, size_t bytes_len, size_t *length);
@@ -463,29 +497,29 @@ void jillapun_decoder_free(jillapun_decoder *decoder);
 
 /**
  * The number of the encoding in force: the one that the decoder was made for, or that of the
- * byte order mark once all of it was read. `JILLAPUN_NO_ENCODING` where the handle holds no
+ * byte order mark once all of it was read. `JILLAPUN_NO_ENCODING` if the handle holds no
  * decoder.
  */
 uint8_t jillapun_decoder_encoding(jillapun_decoder *decoder);
 
 /**
  * How many bytes of UTF-8 are room enough for the text of `n` more bytes, with U+FFFD for each
- * malformed sequence; `SIZE_MAX` where the number passes a `size_t`, the handle holds no
- * decoder, or the stream has ended. What is pending counts too.
+ * malformed sequence; `SIZE_MAX` if the number passes a `size_t`, the handle holds no decoder,
+ * or the stream has ended. What is pending counts too.
  */
 size_t jillapun_decoder_max_utf8_length(jillapun_decoder *decoder, size_t n);
 
 /**
  * How many bytes of UTF-8 are room enough for the text of `n` more bytes up to the first
- * malformed sequence, and for one U+FFFD there; `SIZE_MAX` where the number passes a `size_t`,
- * the handle holds no decoder, or the stream has ended. What is pending counts too.
+ * malformed sequence, and for one U+FFFD there; `SIZE_MAX` if the number passes a `size_t`, the
+ * handle holds no decoder, or the stream has ended. What is pending counts too.
  */
 size_t jillapun_decoder_max_utf8_length_without_replacement(jillapun_decoder *decoder, size_t n);
 
 /**
  * How many units of UTF-16 are room enough for the text of `n` more bytes, with U+FFFD for each
- * malformed sequence; `SIZE_MAX` where the number passes a `size_t`, the handle holds no
- * decoder, or the stream has ended. What is pending counts too.
+ * malformed sequence; `SIZE_MAX` if the number passes a `size_t`, the handle holds no decoder,
+ * or the stream has ended. What is pending counts too.
  */
 size_t jillapun_decoder_max_utf16_length(jillapun_decoder *decoder, size_t n);
 
@@ -495,7 +529,7 @@ size_t jillapun_decoder_max_utf16_length(jillapun_decoder *decoder, size_t n);
  * decides, and the number is the most that is true. In the others it ends before the first byte
  * that is not ASCII, in ISO-2022-JP also before the first 0E, 0F or 1B.
  *
- * `SIZE_MAX` where it is not known: a byte order mark may still come, bytes are pending,
+ * `SIZE_MAX` if it is not known: a byte order mark may still come, bytes are pending,
  * ISO-2022-JP is in another mode than ASCII, the encoding is UTF-16BE, UTF-16LE or replacement,
  * the handle holds no decoder, or the stream has ended.
  */
@@ -511,9 +545,9 @@ size_t jillapun_decoder_latin1_byte_compatible_up_to(jillapun_decoder *decoder,
  * Returns `JILLAPUN_OK`, and `progress` tells what was done. At `JILLAPUN_INPUT_EMPTY` all of
  * `src` is read: hand in what follows; with `last` the stream has ended. At
  * `JILLAPUN_OUTPUT_FULL` fewer than 2 units are free: make room, and hand in the rest again,
- * with `last` as it was, also where nothing is left. A surrogate pair is never split, and
- * nothing after what is written changes. `JILLAPUN_OUTPUT_FULL` does not come where `dst` is as
- * long as `jillapun_decoder_max_utf16_length` returns.
+ * with `last` as it was, even if nothing is left. A surrogate pair is never split, and nothing
+ * after what is written changes. `JILLAPUN_OUTPUT_FULL` does not come if `dst` is as long as
+ * `jillapun_decoder_max_utf16_length` returns.
  *
  * Else nothing is done, and all of `progress` is 0: `JILLAPUN_CLOSED`, the handle holds no
  * decoder; `JILLAPUN_FINISHED`, the stream has ended.
@@ -528,9 +562,9 @@ uint8_t jillapun_decoder_decode_to_utf16(jillapun_decoder *decoder, const uint8_
  * Returns `JILLAPUN_OK`, and `progress` tells what was done. At `JILLAPUN_INPUT_EMPTY` all of
  * `src` is read: hand in what follows; with `last` the stream has ended. At
  * `JILLAPUN_OUTPUT_FULL` fewer than 2 units are free: make room, and hand in the rest again,
- * with `last` as it was, also where nothing is left. A surrogate pair is never split, and
- * nothing after what is written changes. `JILLAPUN_OUTPUT_FULL` does not come where `dst` is as
- * long as `jillapun_decoder_max_utf16_length` returns.
+ * with `last` as it was, even if nothing is left. A surrogate pair is never split, and nothing
+ * after what is written changes. `JILLAPUN_OUTPUT_FULL` does not come if `dst` is as long as
+ * `jillapun_decoder_max_utf16_length` returns.
  *
  * At `JILLAPUN_MALFORMED` a sequence of `malformed_length` bytes ends `malformed_after` bytes
  * before the end of what was read, and a unit is free: write U+FFFD or not, and go on as at
@@ -552,8 +586,8 @@ uint8_t jillapun_decoder_decode_to_utf16_without_replacement(jillapun_decoder *d
  * Returns `JILLAPUN_OK`, and `progress` tells what was done. At `JILLAPUN_INPUT_EMPTY` all of
  * `src` is read: hand in what follows; with `last` the stream has ended. At
  * `JILLAPUN_OUTPUT_FULL` fewer than 4 bytes are free: make room, and hand in the rest again,
- * with `last` as it was, also where nothing is left. A character is never split, and nothing
- * after what is written changes. `JILLAPUN_OUTPUT_FULL` does not come where `dst` is as long as
+ * with `last` as it was, even if nothing is left. A character is never split, and nothing after
+ * what is written changes. `JILLAPUN_OUTPUT_FULL` does not come if `dst` is as long as
  * `jillapun_decoder_max_utf8_length` returns.
  *
  * Else nothing is done, and all of `progress` is 0: `JILLAPUN_CLOSED`, the handle holds no
@@ -569,8 +603,8 @@ uint8_t jillapun_decoder_decode_to_utf8(jillapun_decoder *decoder, const uint8_t
  * Returns `JILLAPUN_OK`, and `progress` tells what was done. At `JILLAPUN_INPUT_EMPTY` all of
  * `src` is read: hand in what follows; with `last` the stream has ended. At
  * `JILLAPUN_OUTPUT_FULL` fewer than 4 bytes are free: make room, and hand in the rest again,
- * with `last` as it was, also where nothing is left. A character is never split, and nothing
- * after what is written changes. `JILLAPUN_OUTPUT_FULL` does not come where `dst` is as long as
+ * with `last` as it was, even if nothing is left. A character is never split, and nothing after
+ * what is written changes. `JILLAPUN_OUTPUT_FULL` does not come if `dst` is as long as
  * `jillapun_decoder_max_utf8_length_without_replacement` returns.
  *
  * At `JILLAPUN_MALFORMED` a sequence of `malformed_length` bytes ends `malformed_after` bytes
@@ -603,27 +637,27 @@ void jillapun_encoder_free(jillapun_encoder *encoder);
 /* What an encoder tells of itself. */
 
 /**
- * The number of the output encoding, in which the encoder writes; `JILLAPUN_NO_ENCODING` where
- * the handle holds no encoder.
+ * The number of the output encoding, in which the encoder writes; `JILLAPUN_NO_ENCODING` if the
+ * handle holds no encoder.
  */
 uint8_t jillapun_encoder_encoding(jillapun_encoder *encoder);
 
 /**
  * Whether an escape to ASCII is still to be written at the end of the stream: so only in
- * ISO-2022-JP, where another set is in force. False where the handle holds no encoder.
+ * ISO-2022-JP, where another set is in force. False if the handle holds no encoder.
  */
 bool jillapun_encoder_has_pending_state(jillapun_encoder *encoder);
 
 /**
  * How many bytes are room enough for what `n` bytes of UTF-8 are encoded to with references, if
- * each character has bytes; `SIZE_MAX` where the number passes a `size_t`, or the handle holds
- * no encoder.
+ * each character has bytes; `SIZE_MAX` if the number passes a `size_t`, or the handle holds no
+ * encoder.
  */
 size_t jillapun_encoder_max_length_from_utf8_if_no_unmappables(jillapun_encoder *encoder, size_t n);
 
 /**
  * How many bytes are room enough for what `n` bytes of UTF-8 are encoded to without
- * replacement, and for the last escape; `SIZE_MAX` where the number passes a `size_t`, or the
+ * replacement, and for the last escape; `SIZE_MAX` if the number passes a `size_t`, or the
  * handle holds no encoder.
  */
 size_t jillapun_encoder_max_length_from_utf8_without_replacement(jillapun_encoder *encoder,
@@ -631,15 +665,15 @@ size_t jillapun_encoder_max_length_from_utf8_without_replacement(jillapun_encode
 
 /**
  * How many bytes are room enough for what `n` units of UTF-16 are encoded to with references,
- * if each character has bytes; `SIZE_MAX` where the number passes a `size_t`, or the handle
- * holds no encoder.
+ * if each character has bytes; `SIZE_MAX` if the number passes a `size_t`, or the handle holds
+ * no encoder.
  */
 size_t jillapun_encoder_max_length_from_utf16_if_no_unmappables(jillapun_encoder *encoder,
     size_t n);
 
 /**
  * How many bytes are room enough for what `n` units of UTF-16 are encoded to without
- * replacement, and for the last escape; `SIZE_MAX` where the number passes a `size_t`, or the
+ * replacement, and for the last escape; `SIZE_MAX` if the number passes a `size_t`, or the
  * handle holds no encoder.
  */
 size_t jillapun_encoder_max_length_from_utf16_without_replacement(jillapun_encoder *encoder,
@@ -654,9 +688,9 @@ size_t jillapun_encoder_max_length_from_utf16_without_replacement(jillapun_encod
  *
  * Returns `JILLAPUN_OK`, and `progress` tells what was done. At `JILLAPUN_INPUT_EMPTY` all is
  * read. At `JILLAPUN_OUTPUT_FULL` something is left to do: make room, and hand in the rest
- * again, with `last` as it was, also where nothing is left; 14 bytes are always enough to go
- * on. Unless the encoding is UTF-8, the last ten bytes of `dst` are kept for a reference.
- * Nothing after what is written changes.
+ * again, with `last` as it was, even if nothing is left; 14 bytes are always enough to go on.
+ * Unless the encoding is UTF-8, the last ten bytes of `dst` are kept for a reference. Nothing
+ * after what is written changes.
  *
  * Else nothing is done, and all of `progress` is 0: `JILLAPUN_CLOSED`, the handle holds no
  * encoder.
@@ -671,9 +705,9 @@ uint8_t jillapun_encoder_encode_from_utf16(jillapun_encoder *encoder, const jill
  *
  * Returns `JILLAPUN_OK`, and `progress` tells what was done. At `JILLAPUN_INPUT_EMPTY` all is
  * read. At `JILLAPUN_OUTPUT_FULL` something is left to do: make room, and hand in the rest
- * again, with `last` as it was, also where nothing is left; 4 bytes are always enough to go on.
- * At `JILLAPUN_UNMAPPABLE` the character that was read last has no bytes: write its reference,
- * or something else in ASCII, and go on as at `JILLAPUN_OUTPUT_FULL`. Nothing after what is
+ * again, with `last` as it was, even if nothing is left; 4 bytes are always enough to go on. At
+ * `JILLAPUN_UNMAPPABLE` the character that was read last has no bytes: write its reference, or
+ * something else in ASCII, and go on as at `JILLAPUN_OUTPUT_FULL`. Nothing after what is
  * written changes.
  *
  * Else nothing is done, and all of `progress` is 0: `JILLAPUN_CLOSED`, the handle holds no
@@ -692,9 +726,9 @@ uint8_t jillapun_encoder_encode_from_utf16_without_replacement(jillapun_encoder 
  *
  * Returns `JILLAPUN_OK`, and `progress` tells what was done. At `JILLAPUN_INPUT_EMPTY` all is
  * read. At `JILLAPUN_OUTPUT_FULL` something is left to do: make room, and hand in the rest
- * again, with `last` as it was, also where nothing is left; 14 bytes are always enough to go
- * on. Unless the encoding is UTF-8, the last ten bytes of `dst` are kept for a reference.
- * Nothing after what is written changes.
+ * again, with `last` as it was, even if nothing is left; 14 bytes are always enough to go on.
+ * Unless the encoding is UTF-8, the last ten bytes of `dst` are kept for a reference. Nothing
+ * after what is written changes.
  *
  * Else nothing is done, and all of `progress` is 0: `JILLAPUN_CLOSED`, the handle holds no
  * encoder; `JILLAPUN_NOT_UTF8`, the text is not UTF-8.
@@ -709,9 +743,9 @@ uint8_t jillapun_encoder_encode_from_utf8(jillapun_encoder *encoder, const uint8
  *
  * Returns `JILLAPUN_OK`, and `progress` tells what was done. At `JILLAPUN_INPUT_EMPTY` all is
  * read. At `JILLAPUN_OUTPUT_FULL` something is left to do: make room, and hand in the rest
- * again, with `last` as it was, also where nothing is left; 4 bytes are always enough to go on.
- * At `JILLAPUN_UNMAPPABLE` the character that was read last has no bytes: write its reference,
- * or something else in ASCII, and go on as at `JILLAPUN_OUTPUT_FULL`. Nothing after what is
+ * again, with `last` as it was, even if nothing is left; 4 bytes are always enough to go on. At
+ * `JILLAPUN_UNMAPPABLE` the character that was read last has no bytes: write its reference, or
+ * something else in ASCII, and go on as at `JILLAPUN_OUTPUT_FULL`. Nothing after what is
  * written changes.
  *
  * Else nothing is done, and all of `progress` is 0: `JILLAPUN_CLOSED`, the handle holds no
@@ -787,6 +821,58 @@ uint8_t jillapun_encode(jillapun_tables tables, uint8_t encoding, const uint8_t 
 uint8_t jillapun_convert(jillapun_tables tables, uint8_t from, uint8_t to, uint8_t mark,
     uint8_t policy, uint64_t limit, const uint8_t *src, size_t src_len, uint8_t *dst,
     size_t dst_len, jillapun_loss *losses, size_t losses_len, jillapun_report *report);
+
+/* The exports that convert by steps. */
+
+/**
+ * Makes a converter of a new input, from the encoding with the number `from` to the output
+ * encoding of that with the number `to`. `mark`, `policy` and `limit` are as for
+ * `jillapun_convert`.
+ *
+ * Returns `JILLAPUN_OK`, and `out` holds the converter. Else nothing is made:
+ * `JILLAPUN_IN_USE`, `out` holds one already; `JILLAPUN_CLOSED`, there are no tables;
+ * `JILLAPUN_UNKNOWN`, a number stands for nothing; `JILLAPUN_NOT_READY`, an index that one of
+ * the encodings needs is not in the tables; `JILLAPUN_NO_MEMORY`, memory was refused.
+ */
+uint8_t jillapun_converter_new(jillapun_tables tables, uint8_t from, uint8_t to, uint8_t mark,
+    uint8_t policy, uint64_t limit, jillapun_converter *out);
+
+/** Ends a converter, and empties its handle. Nothing is done with one that holds none. */
+void jillapun_converter_free(jillapun_converter *converter);
+
+/* The export that makes a step of a conversion. */
+
+/**
+ * Converts the next bytes of an input. It reads at most 16384 bytes, from the start of `src`,
+ * writes what they give at the start of `dst`, and a record of each loss at the start of
+ * `losses`, and tells in `progress` how much of each. `last` says that nothing follows `src` in
+ * the input: a call with `last` and no bytes reads the end. What finds no room is kept, and
+ * calls read nothing until all of it was handed out (`wants_room`).
+ *
+ * - `JILLAPUN_GOES_ON`: call again, with what of `src` was not read, or with what follows if
+ *   all was; and with room, if `progress` says that it is wanted.
+ * - `JILLAPUN_OK`: all was converted and handed out. Nothing was malformed, and the output,
+ *   read again, is the text of the input. `JILLAPUN_LOSSY`: the same, but something was lost.
+ *   The report has the counts.
+ * - `JILLAPUN_STOPPED`: the policy is `JILLAPUN_STOP`, and the character that has no bytes is
+ *   in the report. What is before it was converted, and its record is the last.
+ * - `JILLAPUN_TOO_LONG`: the input is longer than the limit. `JILLAPUN_NO_MEMORY`: memory was
+ *   refused.
+ * - `JILLAPUN_FINISHED`: an earlier call returned one of the five above, which end the
+ *   conversion. `JILLAPUN_CLOSED`: the handle holds no converter. Nothing is done, and all of
+ *   `progress` is 0.
+ *
+ * The outputs of all calls, joined, are what `jillapun_convert` writes for all that was read,
+ * and so are the records and the report, however the input is cut and however little room there
+ * is. At `JILLAPUN_TOO_LONG` and `JILLAPUN_NO_MEMORY` they are the first part of that. Before
+ * the end the report is 0.
+ *
+ * What is kept is never more than what one call reads gives: memory does not grow with the
+ * input.
+ */
+uint8_t jillapun_converter_step(jillapun_converter *converter, const uint8_t *src, size_t src_len,
+    bool last, uint8_t *dst, size_t dst_len, jillapun_loss *losses, size_t losses_len,
+    jillapun_converter_progress *progress, jillapun_report *report);
 
 /* ASCII, in bytes and in units of UTF-16: checks, and copies of the ASCII at the start. */
 

@@ -26,7 +26,7 @@ COLUMNS = 100
 WIDTH = 93
 
 # The modules in the order in which their exports are best read; others come after these, and `mem` last.
-SECTIONS = ["encoding", "tables", "decoder", "encoder", "whole", "convert"]
+SECTIONS = ["encoding", "tables", "decoder", "encoder", "whole", "convert", "converter"]
 
 NUMBERS = {
     "u8": "uint8_t", "u16": PREFIX + "_char16", "u32": "uint32_t", "u64": "uint64_t", "usize": "size_t", "i8": "int8_t",

@@ -9,7 +9,7 @@ by the checks that `CHECKS` lists: what must come of a call is worked out by Pyt
 If there is a C compiler (`CC`, or cc), it and a C++ compiler (`CXX`, or c++) read the header with all warnings, and each
 NAME.c of docs/examples/c is compiled, linked with the archive and with the shared library, and once more with the
 sanitizers if the compiler has them. Run in the top folder on NAME.in with the words of NAME.args, if these are there, it must
-write NAME.out, and NAME.err to standard error. Then all is packed as `make dist` does, unpacked, and a program is built from what pkg-config says of it.
+write NAME.out, and NAME.err to standard error, and end with the status in NAME.status (0 if there is none). Then all is packed as `make dist` does, unpacked, and a program is built from what pkg-config says of it.
 What was left out is said. The status is 1 if something was wrong.
 """
 
@@ -120,6 +120,7 @@ def examples(archive, shared, folder):
     for name in names:
         path = os.path.join(EXAMPLES, name)
         words = read(path + ".args").decode().split("\n")[:-1]
+        wanted = int(read(path + ".status", b"0")), read(path + ".out"), read(path + ".err")
         for how, flags in ways:
             program = os.path.join(folder, name)
             said = compiled([cc, *WARNINGS, "-std=c99", "-O2", "-I", INCLUDE, path + ".c", *flags, "-o", program])
@@ -127,7 +128,7 @@ def examples(archive, shared, folder):
                 yield "%s.c with %s: %s" % (name, how, said)
                 continue
             ran = run([program, *words], input=read(path + ".in"))
-            if (ran.returncode, ran.stdout, ran.stderr) != (0, read(path + ".out"), read(path + ".err")):
+            if (ran.returncode, ran.stdout, ran.stderr) != wanted:
                 yield "%s.c with %s: status %d, %r, %r" % (name, how, ran.returncode, ran.stdout, ran.stderr[-2000:])
         print("example: %s.c, with %s" % (name, ", ".join(how for how, _ in ways)))
 

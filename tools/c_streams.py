@@ -282,23 +282,63 @@ class Streams:
             self.same(call, (job, points), self.coded(call, job.target, points, of_units)[:2], (plain, lost))
 
     def conversions(self, job, data):
-        """An input from memory to memory."""
+        """An input from memory to memory, in one call and by steps."""
+        self.given = data
         run = plain_recode.Run(self.encodings, job, data)
         wanted = "STOPPED" if run.stop else "OK" if run.is_faithful else "LOSSY"
         numbers = self.numbers[job.source], self.numbers[job.target], MARKS[job.mark], POLICIES[job.policy]
         self.in_memory(job, data, run, wanted, numbers)
+        self.by_steps(job, data, run, wanted, numbers)
+        if data and not run.stop:
+            self.past_the_limit(job, data, run, numbers)
 
-    def told(self, report, run):
-        """What is reported, and what has to be: counts if the run ended, else the character that stopped it."""
-        stop = run.stop or (0, 0)
-        counts = (0, 0, 0) if run.stop else (len(self.given), run.bad, run.lost)
-        return (report.read, report.bad, report.lost, report.index, report.scalar), (*counts, *stop)
+    def steps(self, numbers, limit, parts):
+        """A conversion by steps, with little room in some calls: the last status, the output, the losses and the report."""
+        handle, report = self.library.struct("ConverterHandle")(), self.library.struct("Report")()
+        self.must("converter_new", self.library.jillapun_converter_new(self.tables, *numbers, limit, handle))
+        self.must("converter_new twice", self.library.jillapun_converter_new(self.tables, *numbers, limit, handle), "IN_USE")
+        progress, most, losses = self.library.struct("ConverterProgress")(), self.random.choice((1, 9, 5000)), []
+        status, output, read, parts = NUMBERS["GOES_ON"], bytearray(), 0, [*parts, b""]
+        for _ in range(MOST_CALLS):
+            room, filled = bytearray(b"\x5a" * self.random.randint(0, most)), (self.library.struct("Loss") * self.random.randint(0, 2))()
+            last = len(parts) == 1
+            status = self.library.jillapun_converter_step(handle, parts[0], last, room, filled, progress, report)
+            parts[0], read = parts[0][progress.read :], read + progress.read
+            output += room[: progress.written]
+            losses += [(it.kind, it.place, it.number) for it in filled[: progress.losses]]
+            self.same("after the output", (numbers, parts), set(room[progress.written :]) <= {0x5A}, True)
+            if status != NUMBERS["GOES_ON"]:
+                break
+            if not parts[0] and not last and self.random.random() < 0.9:
+                del parts[0]
+        else:
+            raise Wrong("a conversion by steps does not end")
+        got = status, bytes(output), losses, (report.read, report.bad, report.lost, report.index, report.scalar)
+        self.must("after the end", self.library.jillapun_converter_step(handle, b"a", True, room, filled, progress, report), "FINISHED")
+        self.library.jillapun_converter_free(handle)
+        self.must("after it is freed", self.library.jillapun_converter_step(handle, b"a", True, room, filled, progress, report), "CLOSED")
+        return got
+
+    def by_steps(self, job, data, run, wanted, numbers):
+        """An input by steps, cut at random places."""
+        parts = fuzz.cut(self.random, data)
+        told = self.told(run)
+        got = self.steps(numbers, NO_LIMIT, parts)
+        self.same("steps", (job, data, parts), got, (NUMBERS[wanted], bytes(run.output), losses_of(run), told))
+
+    def past_the_limit(self, job, data, run, numbers):
+        """An input that is longer than the limit: what comes is a part of the output."""
+        status, output, losses, told = self.steps(numbers, self.random.randint(0, len(data) - 1), fuzz.cut(self.random, data))
+        self.same("steps", (job, data), (status, told), (NUMBERS["TOO_LONG"], (0, 0, 0, 0, 0)))
+        is_part = bytes(run.output).startswith(output) and losses_of(run)[: len(losses)] == losses
+        self.same("a part of the output", (job, data, output, losses), is_part, True)
+
+    def told(self, run):
+        """What has to be reported: counts if the run ended, else the character that stopped it."""
+        return (0, 0, 0, *run.stop) if run.stop else (len(self.given), run.bad, run.lost, 0, 0)
 
     def in_memory(self, job, data, run, wanted, numbers):
-        self.given = data
-        entries = [line.split() for line in run.log.decode().split("\n")[:-1]]
-        kinds = {"bad": NUMBERS["BAD"], "lost": NUMBERS["LOST"]}
-        losses = [(kinds[kind], int(place), int(number)) for kind, place, number in entries]
+        losses = losses_of(run)
         room = bytearray(len(run.output) + self.random.randint(0, 5))
         records = (self.library.struct("Loss") * (len(losses) + 1))()
         report = self.library.struct("Report")()
@@ -307,11 +347,19 @@ class Streams:
         got = [(it.kind, it.place, it.number) for it in records[: report.losses]]
         self.same("output", (job, data), bytes(room[: report.written]), bytes(run.output))
         self.same("losses", (job, data), got, losses)
-        self.same("report", (job, data), *self.told(report, run))
+        told = report.read, report.bad, report.lost, report.index, report.scalar
+        self.same("report", (job, data), told, self.told(run))
         if run.output:
             room = bytearray(len(run.output) - 1)
             status = self.library.jillapun_convert(self.tables, *numbers, NO_LIMIT, data, room, records, report)
             self.same("too small a room", (job, data), (status, report.written, set(room) <= {0}), (NUMBERS["ROOM"], len(run.output), True))
+
+
+def losses_of(run):
+    """The records that the log of a run stands for."""
+    entries = [line.split() for line in run.log.decode().split("\n")[:-1]]
+    kinds = {"bad": NUMBERS["BAD"], "lost": NUMBERS["LOST"]}
+    return [(kinds[kind], int(place), int(number)) for kind, place, number in entries]
 
 
 def characters(text, read, of_units):

@@ -27,9 +27,10 @@ class Terminal:
         self.count, self.done = count, 0
         self.is_shown = sys.stderr.isatty()
 
-    def show(self, name: str) -> None:
+    def show(self, name: str, part: float = 0) -> None:
+        """The file, and which part of it is converted."""
         if self.is_shown:
-            sys.stderr.write("\r\x1b[K%d of %d: %s" % (self.done + 1, self.count, name))
+            sys.stderr.write("\r\x1b[K%d of %d: %s (%d%%)" % (self.done + 1, self.count, name, 100 * part))
             sys.stderr.flush()
 
     def clear(self) -> None:
@@ -44,6 +45,8 @@ def one_status(words: argparse.Namespace, path: str, indexes: "jillapun.Indexes"
     options = {"mark": words.mark, "unmappable": words.unmappable, "indexes": indexes}
     terminal.show(path)
     try:
+        size = os.path.getsize(path) or 1
+        options["progress"] = lambda read: terminal.show(path, read / size)
         done = jillapun.convert_file(path, target, words.source, words.target, **options)
     except (OSError, MemoryError, jillapun.JillapunError) as fault:
         terminal.clear()

@@ -13,7 +13,7 @@ Long = ctypes.c_uint64
 
 # Statuses.
 OK, LOSSY, UNKNOWN, NOT_READY, BAD_INDEX, NO_MEMORY, CLOSED, IN_USE, FINISHED, NOT_UTF8, ROOM = range(11)
-STOPPED, TOO_LONG = 12, 13
+GOES_ON, STOPPED, TOO_LONG = 11, 12, 13
 
 # Outcomes of calls of streams.
 INPUT_EMPTY, OUTPUT_FULL, MALFORMED, UNMAPPABLE = range(4)
@@ -93,6 +93,10 @@ class EncoderProgress(ctypes.Structure):
     ]
 
 
+class ConverterProgress(ctypes.Structure):
+    _fields_ = [("read", Size), ("written", Size), ("losses", Size), ("wants_room", ctypes.c_bool)]
+
+
 def _places() -> List[str]:
     """Where the library may be: as the environment says, beside this package, where it is packed, built or installed, or
     where the system finds it."""
@@ -143,6 +147,10 @@ def streams() -> ctypes.CDLL:
     _declare("jillapun_encoder_new", Byte, Tables, Byte, _HANDLE)
     _declare("jillapun_encoder_encode_from_utf8_without_replacement", Byte, *call, ctypes.POINTER(EncoderProgress))
     _declare("jillapun_encoder_free", None, _HANDLE)
+    told = (ctypes.POINTER(ConverterProgress), _REPORT)
+    _declare("jillapun_converter_new", Byte, Tables, Byte, Byte, Byte, Byte, Long, _HANDLE)
+    _declare("jillapun_converter_step", Byte, _HANDLE, *_ROOM, ctypes.c_bool, *_ROOM, ctypes.POINTER(Loss), Size, *told)
+    _declare("jillapun_converter_free", None, _HANDLE)
     return library
 
 

@@ -99,7 +99,7 @@ class Stopped(JillapunError):
         self.lost = lost
         """The character."""
         self.output = output
-        """What was written before it."""
+        """What was written before it; empty where a file is converted."""
         self.faults = list(faults)
         """What was lost up to it, with it."""
 

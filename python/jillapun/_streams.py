@@ -17,7 +17,7 @@ _ROOM = 1 << 16
 _CHUNK = 1 << 16
 
 
-def _opened(call: str, *words: object) -> c.Handle:
+def opened(call: str, *words: object) -> c.Handle:
     """A handle that a call fills."""
     handle = c.Handle()
     status = getattr(c.streams(), call)(*words, ctypes.byref(handle))
@@ -42,7 +42,7 @@ class Decoder:
         self.faults: List[Bad] = []
         self._read, self._is_ended, self._lock = 0, False, threading.Lock()
         self._room = ctypes.create_string_buffer(_ROOM)
-        self._handle = _opened("jillapun_decoder_new", tables, number_of(encoding), c.MARKS[mark])
+        self._handle = opened("jillapun_decoder_new", tables, number_of(encoding), c.MARKS[mark])
 
     def decode(self, data: bytes, last: bool = False) -> str:
         """The text that these bytes decide; what is undecided waits for more. `last` ends the stream, and after it no
@@ -90,7 +90,7 @@ class Encoder:
         self._unmappable, self._index, self._is_ended, self._lock = unmappable, 0, False, threading.Lock()
         c.POLICIES[unmappable]
         self._room = ctypes.create_string_buffer(_ROOM)
-        self._handle = _opened("jillapun_encoder_new", tables, number_of(encoding))
+        self._handle = opened("jillapun_encoder_new", tables, number_of(encoding))
 
     def encode(self, text: str, last: bool = False) -> bytes:
         """The bytes of these characters. `last` ends the text, and after it no more can be encoded. For a character

@@ -92,6 +92,23 @@ class Files(unittest.TestCase):
         size = len(TEXT.encode("cp932"))
         self.assertEqual(done, (size + 1, [(size, 1)], False))
 
+    def test_convert_file_by_chunks(self) -> None:
+        """A file of some chunks, with more faults in each than a call has records for."""
+        data, told = "é日".encode() * 70000, []
+        Path(self.path).write_bytes(data)
+        done = jillapun.convert_file(self.path, self.path, "utf-8", "windows-1252", progress=told.append)
+        wanted = jillapun.convert(data, "utf-8", "windows-1252")
+        self.assertEqual(Path(self.path).read_bytes(), wanted.output)
+        self.assertEqual(done, (len(data), wanted.faults, False))
+        self.assertEqual((told[0], told[-1], len(told)), (1 << 16, len(data), 7))
+
+    def test_limit_of_file(self) -> None:
+        Path(self.path).write_bytes(b"abcd")
+        self.assertEqual(jillapun.convert_file(self.path, self.path, "utf-8", "utf-8", limit=4), (4, [], True))
+        with self.assertRaises(jillapun.TooLong):
+            jillapun.convert_file(self.path, self.path, "utf-8", "utf-8", limit=3)
+        self.assertEqual(os.listdir(self.folder.name), ["a.txt"])
+
     def test_failed_file_is_left(self) -> None:
         Path(self.path).write_bytes("日".encode())
         with self.assertRaises(jillapun.Stopped):

@@ -1,5 +1,5 @@
 -- The numbers and the words of the definitions, worked.
-use Rattle.std.specs.Prelude.{◌≡◌, false, Option, None, Some, codes, refl}
+use Rattle.std.specs.Prelude.{◌≡◌, false, None, Some, codes, refl}
 use Rattle.encoding_index.specs.declared.fault.IndexFaultKind.TheVariants as fault
 use Rattle.encoding_index.specs.declared.fault.LoadFault.TheVariants.{Text, Table}
 use Rattle.encoding_index.specs.IndexText.{memory_fault}

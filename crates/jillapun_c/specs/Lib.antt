@@ -2,6 +2,8 @@
 pub mod Asked
 pub mod Coders
 pub mod Conversions
+pub mod ConverterRuns
+pub mod Converters
 pub mod DecoderCalls
 pub mod EncoderCalls
 pub mod EncodingNumbers

@@ -30,7 +30,7 @@ pub extern "C" fn jillapun_for_label(label: &[u8]) -> u8
 }
 
 /// The number of the encoding whose byte order mark stands at the start of `bytes`, and in `length`
-/// the length of the mark in bytes; `NO_ENCODING` and 0 where there is none ("BOM sniff" of the
+/// the length of the mark in bytes; `NO_ENCODING` and 0 if there is none ("BOM sniff" of the
 /// Encoding Standard, section 6). The marks are EF BB BF of UTF-8, FE FF of UTF-16BE and FF FE of
 /// UTF-16LE.
 #[unsafe(no_mangle)]

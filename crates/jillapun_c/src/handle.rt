@@ -68,7 +68,7 @@ impl CoderHandle {
         CoderHandle::closed(nowhere)
     }
 
-    /// Takes what it holds, and leaves it closed: `None` where it holds nothing.
+    /// Takes what it holds, and leaves it closed: `None` if it holds nothing.
     pub(crate) fn take(&mut self, alloc: Global) -> Option<Box<Coder>>
         ensures closed { self.new.coder ≡ None }
         ensures coder { MatchOption result (self.old.coder ≡ None)

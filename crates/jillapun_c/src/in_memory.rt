@@ -34,7 +34,7 @@ fn run_in_memory(alloc: Global, job: Job<'_>, src: &[u8]) -> Made
     stops_at_first_loss();
     let mut reader = Counted::new(src);
     let mut writer = Counted::new(Vec::new(alloc));
-    let mut log = Counted::new(LossLog::new(alloc));
+    let mut log = Counted::new(LossLog::of(Vec::new(alloc)));
     let answer = run_in_buffers(&mut reader, &mut writer, &mut log, job);
     let (status, report) = told(answer);
     Made {

@@ -26,8 +26,8 @@ pub struct IndexFile<'a> {
 pub(crate) enum FileFault {
     /// No index has a file of this name.
     Unknown,
-    /// The text has a fault in the line of this number, from 1 on; 0 where the fault is in no line
-    /// alone, as where the index is there already.
+    /// The text has a fault in the line of this number, from 1 on; 0 if the fault is in no line
+    /// alone, for instance if the index is there already.
     Text(usize),
     /// Memory was refused.
     Memory,

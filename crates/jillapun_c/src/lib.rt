@@ -8,6 +8,7 @@
 
 mod coder;
 mod convert;
+mod converter;
 mod decoder;
 mod encoder;
 mod encoder_progress;

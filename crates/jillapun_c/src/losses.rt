@@ -1,10 +1,9 @@
 //! What a conversion lost, as records in place of the lines of a log.
 
-ghost use Rattle.std.specs.Prelude.{◌≡◌, ◌≤◌, Some, [], length};
+ghost use Rattle.std.specs.Prelude.{◌≡◌, ◌≤◌, Some, length};
 
 use crate::status::{BAD, LOST};
 use recode_log::LogLine;
-use std::alloc::Global;
 use std::io;
 use std::io::{ErrorKind, Write};
 
@@ -53,13 +52,11 @@ pub(crate) struct LossLog {
 impl LossLog {
     ghost use Rattle.jillapun_c.specs.Losses.{log_of_losses};
 
-    /// A log that has no line.
-    pub(crate) fn new(alloc: Global) -> LossLog
-        ensures { result.losses.items ≡ [] }
+    /// A log whose lines are those of these records, to which more are added.
+    pub(crate) fn of(losses: Vec<Loss>) -> LossLog
+        ensures { result.losses.items ≡ losses.items }
     {
-        LossLog {
-            losses: Vec::new(alloc),
-        }
+        LossLog { losses }
     }
 
     /// The records of its lines.

@@ -18,10 +18,10 @@ pub struct Report {
     /// The characters of the text that the output encoding has no bytes for.
     pub lost: u64,
     /// The bytes of the output, in memory: so many stand at the start of `dst`, or, at `ROOM`, so
-    /// many are wanted. 0 where nothing was written.
+    /// many are wanted. 0 if nothing was written, and in a conversion by steps: its calls tell it.
     pub written: u64,
     /// The records of losses, in memory: so many stand at the start of `losses`, or, at `ROOM`, so
-    /// many are wanted. 0 where nothing was written.
+    /// many are wanted. 0 if nothing was written, and in a conversion by steps: its calls tell it.
     pub losses: u64,
     /// At `STOPPED`, how many characters of the text stand before the lost one. Else 0.
     pub index: u64,
@@ -31,7 +31,7 @@ pub struct Report {
 }
 
 impl Report {
-    /// What is reported where nothing was done.
+    /// What is reported if nothing was done.
     pub(crate) const NONE: Report = Report {
         read: 0,
         bad: 0,

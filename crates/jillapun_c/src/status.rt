@@ -13,7 +13,8 @@ pub const UNKNOWN: u8 = 2;
 pub const NOT_READY: u8 = 3;
 /// The text of an index has a faulty line, and the fault says which. Nothing was kept.
 pub const BAD_INDEX: u8 = 4;
-/// Memory was refused. Nothing was kept, and the call can be made again.
+/// Memory was refused. Nothing was kept, and the call can be made again. A conversion by steps has
+/// ended.
 pub const NO_MEMORY: u8 = 5;
 /// The handle holds nothing: it is zeroed, or was freed. Nothing was done.
 pub const CLOSED: u8 = 6;
@@ -26,6 +27,8 @@ pub const NOT_UTF8: u8 = 9;
 /// The room is too small, and the report, or `written`, says how much is wanted. Nothing was
 /// written.
 pub const ROOM: u8 = 10;
+/// The conversion goes on: call again, with the bytes that follow, or with room for what is left.
+pub const GOES_ON: u8 = 11;
 /// The policy is `STOP`, and a character has no bytes in the output encoding: the report names it.
 /// All that stands before it was converted.
 pub const STOPPED: u8 = 12;
@@ -77,10 +80,10 @@ pub const LEFT_TO_RIGHT: u32 = 1;
 /// Some character may be written from right to left, or the bytes are not UTF-8.
 pub const BIDI: u32 = 2;
 
-// What stands where there is no number.
+// What stands in place of a number if there is none.
 
 /// No encoding. Each encoding is its number, from 0 on, in the order of the names.
 pub const NO_ENCODING: u8 = 255;
 /// In place of a length: the room is not enough, or the bytes are not what the call is for. Nothing
-/// was written, where the call does not say otherwise.
+/// was written, unless the call says otherwise.
 pub const REFUSED: usize = usize::MAX;

@@ -1,5 +1,6 @@
 //! Calls of the exports for tables, streams and whole texts, with results worked by hand.
 
+mod converter;
 mod queries;
 mod whole;
 

@@ -167,7 +167,7 @@ fn encode_into(
     }
 }
 
-// Writes an output at the start of the room, where it fits, and tells its length.
+// Writes an output at the start of the room, if it fits, and tells its length.
 fn put(output: &[u8], is_lossy: bool, room: &mut [u8], written: &mut usize) -> u8
     ensures puts { PutsIfRoom output.now room.old room.new is_lossy written.new result }
     ensures kept { result ≢ OK → result ≢ LOSSY → room.new ≡ room.old }

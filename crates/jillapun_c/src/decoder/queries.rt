@@ -15,7 +15,7 @@ use crate::status::{NO_ENCODING, REFUSED};
 use std::alloc::Global;
 
 /// The number of the encoding in force: the one that the decoder was made for, or that of the byte
-/// order mark once all of it was read. `NO_ENCODING` where the handle holds no decoder.
+/// order mark once all of it was read. `NO_ENCODING` if the handle holds no decoder.
 #[unsafe(no_mangle)]
 pub extern "C" fn jillapun_decoder_encoding(alloc: Global, decoder: &mut DecoderHandle) -> u8
     ensures encoding { MatchOption (decoder_in decoder.old.coder.coder) (result ≡ NO_ENCODING)
@@ -27,16 +27,15 @@ pub extern "C" fn jillapun_decoder_encoding(alloc: Global, decoder: &mut Decoder
     };
     let number = match &*coder {
         Coder::Decoder(decoder) => number_of(decoder.encoding()),
-        Coder::Encoder(_) => NO_ENCODING,
+        Coder::Encoder(_) | Coder::Converter(_) => NO_ENCODING,
     };
     decoder.coder.put(coder);
     number
 }
 
 /// How many bytes of UTF-8 are room enough for the text of `n` more bytes, with U+FFFD for each
-/// malformed sequence; `SIZE_MAX` where the number
-/// passes a `size_t`, the handle holds no decoder, or the stream has ended. What is pending counts
-/// too.
+/// malformed sequence; `SIZE_MAX` if the number passes a `size_t`, the handle holds no decoder, or
+/// the stream has ended. What is pending counts too.
 #[unsafe(no_mangle)]
 pub extern "C" fn jillapun_decoder_max_utf8_length(
     alloc: Global,
@@ -57,10 +56,9 @@ pub extern "C" fn jillapun_decoder_max_utf8_length(
     room.unwrap_or(REFUSED)
 }
 
-/// How many bytes of UTF-8 are room enough for the text of `n` more bytes up to the first
-/// malformed sequence, and for one U+FFFD there; `SIZE_MAX` where the number
-/// passes a `size_t`, the handle holds no decoder, or the stream has ended. What is pending counts
-/// too.
+/// How many bytes of UTF-8 are room enough for the text of `n` more bytes up to the first malformed
+/// sequence, and for one U+FFFD there; `SIZE_MAX` if the number passes a `size_t`, the handle holds
+/// no decoder, or the stream has ended. What is pending counts too.
 #[unsafe(no_mangle)]
 pub extern "C" fn jillapun_decoder_max_utf8_length_without_replacement(
     alloc: Global,
@@ -83,9 +81,8 @@ pub extern "C" fn jillapun_decoder_max_utf8_length_without_replacement(
 }
 
 /// How many units of UTF-16 are room enough for the text of `n` more bytes, with U+FFFD for each
-/// malformed sequence; `SIZE_MAX` where the number
-/// passes a `size_t`, the handle holds no decoder, or the stream has ended. What is pending counts
-/// too.
+/// malformed sequence; `SIZE_MAX` if the number passes a `size_t`, the handle holds no decoder, or
+/// the stream has ended. What is pending counts too.
 #[unsafe(no_mangle)]
 pub extern "C" fn jillapun_decoder_max_utf16_length(
     alloc: Global,
@@ -111,9 +108,9 @@ pub extern "C" fn jillapun_decoder_max_utf16_length(
 /// decides, and the number is the most that is true. In the others it ends before the first byte
 /// that is not ASCII, in ISO-2022-JP also before the first 0E, 0F or 1B.
 ///
-/// `SIZE_MAX` where it is not known: a byte order mark may still come, bytes are pending,
-/// ISO-2022-JP is in another mode than ASCII, the encoding is UTF-16BE, UTF-16LE or replacement,
-/// the handle holds no decoder, or the stream has ended.
+/// `SIZE_MAX` if it is not known: a byte order mark may still come, bytes are pending, ISO-2022-JP
+/// is in another mode than ASCII, the encoding is UTF-16BE, UTF-16LE or replacement, the handle
+/// holds no decoder, or the stream has ended.
 #[unsafe(no_mangle)]
 pub extern "C" fn jillapun_decoder_latin1_byte_compatible_up_to(
     alloc: Global,

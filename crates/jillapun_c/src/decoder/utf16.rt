@@ -21,9 +21,9 @@ use std::alloc::Global;
 ///
 /// Returns `OK`, and `progress` tells what was done. At `INPUT_EMPTY` all of `src` is read: hand in
 /// what follows; with `last` the stream has ended. At `OUTPUT_FULL` fewer than 2 units are free:
-/// make room, and hand in the rest again, with `last` as it was, also where nothing is left. A
+/// make room, and hand in the rest again, with `last` as it was, even if nothing is left. A
 /// surrogate pair is never split, and nothing after what is written changes. `OUTPUT_FULL` does not
-/// come where `dst` is as long as `jillapun_decoder_max_utf16_length` returns.
+/// come if `dst` is as long as `jillapun_decoder_max_utf16_length` returns.
 ///
 /// Else nothing is done, and all of `progress` is 0: `CLOSED`, the handle holds no decoder;
 /// `FINISHED`, the stream has ended.
@@ -99,9 +99,9 @@ fn to_utf16(
 ///
 /// Returns `OK`, and `progress` tells what was done. At `INPUT_EMPTY` all of `src` is read: hand in
 /// what follows; with `last` the stream has ended. At `OUTPUT_FULL` fewer than 2 units are free:
-/// make room, and hand in the rest again, with `last` as it was, also where nothing is left. A
+/// make room, and hand in the rest again, with `last` as it was, even if nothing is left. A
 /// surrogate pair is never split, and nothing after what is written changes. `OUTPUT_FULL` does not
-/// come where `dst` is as long as `jillapun_decoder_max_utf16_length` returns.
+/// come if `dst` is as long as `jillapun_decoder_max_utf16_length` returns.
 ///
 /// At `MALFORMED` a sequence of `malformed_length` bytes ends `malformed_after` bytes before the
 /// end of what was read, and a unit is free: write U+FFFD or not, and go on as at `OUTPUT_FULL`.

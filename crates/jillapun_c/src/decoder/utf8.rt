@@ -22,9 +22,9 @@ use std::alloc::Global;
 ///
 /// Returns `OK`, and `progress` tells what was done. At `INPUT_EMPTY` all of `src` is read: hand in
 /// what follows; with `last` the stream has ended. At `OUTPUT_FULL` fewer than 4 bytes are free:
-/// make room, and hand in the rest again, with `last` as it was, also where nothing is left. A
+/// make room, and hand in the rest again, with `last` as it was, even if nothing is left. A
 /// character is never split, and nothing after what is written changes. `OUTPUT_FULL` does not come
-/// where `dst` is as long as `jillapun_decoder_max_utf8_length` returns.
+/// if `dst` is as long as `jillapun_decoder_max_utf8_length` returns.
 ///
 /// Else nothing is done, and all of `progress` is 0: `CLOSED`, the handle holds no decoder;
 /// `FINISHED`, the stream has ended.
@@ -94,9 +94,9 @@ fn to_utf8(coder: &mut Coder, src: &[u8], dst: &mut [u8], last: bool, progress: 
 ///
 /// Returns `OK`, and `progress` tells what was done. At `INPUT_EMPTY` all of `src` is read: hand in
 /// what follows; with `last` the stream has ended. At `OUTPUT_FULL` fewer than 4 bytes are free:
-/// make room, and hand in the rest again, with `last` as it was, also where nothing is left. A
+/// make room, and hand in the rest again, with `last` as it was, even if nothing is left. A
 /// character is never split, and nothing after what is written changes. `OUTPUT_FULL` does not come
-/// where `dst` is as long as `jillapun_decoder_max_utf8_length_without_replacement` returns.
+/// if `dst` is as long as `jillapun_decoder_max_utf8_length_without_replacement` returns.
 ///
 /// At `MALFORMED` a sequence of `malformed_length` bytes ends `malformed_after` bytes before the
 /// end of what was read, and 3 bytes are free: write U+FFFD or not, and go on as at `OUTPUT_FULL`.

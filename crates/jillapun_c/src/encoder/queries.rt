@@ -14,7 +14,7 @@ use crate::encoding_number::number_of;
 use crate::status::{NO_ENCODING, REFUSED};
 use std::alloc::Global;
 
-/// The number of the output encoding, in which the encoder writes; `NO_ENCODING` where the handle
+/// The number of the output encoding, in which the encoder writes; `NO_ENCODING` if the handle
 /// holds no encoder.
 #[unsafe(no_mangle)]
 pub extern "C" fn jillapun_encoder_encoding(alloc: Global, encoder: &mut EncoderHandle) -> u8
@@ -26,7 +26,7 @@ pub extern "C" fn jillapun_encoder_encoding(alloc: Global, encoder: &mut Encoder
         return NO_ENCODING;
     };
     let number = match &*coder {
-        Coder::Decoder(_) => NO_ENCODING,
+        Coder::Decoder(_) | Coder::Converter(_) => NO_ENCODING,
         Coder::Encoder(encoder) => number_of(encoder.encoding()),
     };
     encoder.coder.put(coder);
@@ -34,7 +34,7 @@ pub extern "C" fn jillapun_encoder_encoding(alloc: Global, encoder: &mut Encoder
 }
 
 /// Whether an escape to ASCII is still to be written at the end of the stream: so only in
-/// ISO-2022-JP, where another set is in force. False where the handle holds no encoder.
+/// ISO-2022-JP, where another set is in force. False if the handle holds no encoder.
 #[unsafe(no_mangle)]
 pub extern "C" fn jillapun_encoder_has_pending_state(
     alloc: Global,
@@ -48,7 +48,7 @@ pub extern "C" fn jillapun_encoder_has_pending_state(
         return false;
     };
     let is_pending = match &*coder {
-        Coder::Decoder(_) => false,
+        Coder::Decoder(_) | Coder::Converter(_) => false,
         Coder::Encoder(encoder) => encoder.has_pending_state(),
     };
     encoder.coder.put(coder);
@@ -56,7 +56,7 @@ pub extern "C" fn jillapun_encoder_has_pending_state(
 }
 
 /// How many bytes are room enough for what `n` bytes of UTF-8 are encoded to with references, if
-/// each character has bytes; `SIZE_MAX` where the number passes a `size_t`, or the handle holds no
+/// each character has bytes; `SIZE_MAX` if the number passes a `size_t`, or the handle holds no
 /// encoder.
 #[unsafe(no_mangle)]
 pub extern "C" fn jillapun_encoder_max_length_from_utf8_if_no_unmappables(
@@ -72,7 +72,7 @@ pub extern "C" fn jillapun_encoder_max_length_from_utf8_if_no_unmappables(
         return REFUSED;
     };
     let room = match &*coder {
-        Coder::Decoder(_) => None,
+        Coder::Decoder(_) | Coder::Converter(_) => None,
         Coder::Encoder(encoder) => encoder.max_buffer_length_from_utf8_if_no_unmappables(n),
     };
     encoder.coder.put(coder);
@@ -80,7 +80,7 @@ pub extern "C" fn jillapun_encoder_max_length_from_utf8_if_no_unmappables(
 }
 
 /// How many bytes are room enough for what `n` bytes of UTF-8 are encoded to without replacement,
-/// and for the last escape; `SIZE_MAX` where the number passes a `size_t`, or the handle holds no
+/// and for the last escape; `SIZE_MAX` if the number passes a `size_t`, or the handle holds no
 /// encoder.
 #[unsafe(no_mangle)]
 pub extern "C" fn jillapun_encoder_max_length_from_utf8_without_replacement(
@@ -96,7 +96,7 @@ pub extern "C" fn jillapun_encoder_max_length_from_utf8_without_replacement(
         return REFUSED;
     };
     let room = match &*coder {
-        Coder::Decoder(_) => None,
+        Coder::Decoder(_) | Coder::Converter(_) => None,
         Coder::Encoder(encoder) => encoder.max_buffer_length_from_utf8_without_replacement(n),
     };
     encoder.coder.put(coder);
@@ -104,7 +104,7 @@ pub extern "C" fn jillapun_encoder_max_length_from_utf8_without_replacement(
 }
 
 /// How many bytes are room enough for what `n` units of UTF-16 are encoded to with references, if
-/// each character has bytes; `SIZE_MAX` where the number passes a `size_t`, or the handle holds no
+/// each character has bytes; `SIZE_MAX` if the number passes a `size_t`, or the handle holds no
 /// encoder.
 #[unsafe(no_mangle)]
 pub extern "C" fn jillapun_encoder_max_length_from_utf16_if_no_unmappables(
@@ -120,7 +120,7 @@ pub extern "C" fn jillapun_encoder_max_length_from_utf16_if_no_unmappables(
         return REFUSED;
     };
     let room = match &*coder {
-        Coder::Decoder(_) => None,
+        Coder::Decoder(_) | Coder::Converter(_) => None,
         Coder::Encoder(encoder) => encoder.max_buffer_length_from_utf16_if_no_unmappables(n),
     };
     encoder.coder.put(coder);
@@ -128,7 +128,7 @@ pub extern "C" fn jillapun_encoder_max_length_from_utf16_if_no_unmappables(
 }
 
 /// How many bytes are room enough for what `n` units of UTF-16 are encoded to without replacement,
-/// and for the last escape; `SIZE_MAX` where the number passes a `size_t`, or the handle holds no
+/// and for the last escape; `SIZE_MAX` if the number passes a `size_t`, or the handle holds no
 /// encoder.
 #[unsafe(no_mangle)]
 pub extern "C" fn jillapun_encoder_max_length_from_utf16_without_replacement(
@@ -144,7 +144,7 @@ pub extern "C" fn jillapun_encoder_max_length_from_utf16_without_replacement(
         return REFUSED;
     };
     let room = match &*coder {
-        Coder::Decoder(_) => None,
+        Coder::Decoder(_) | Coder::Converter(_) => None,
         Coder::Encoder(encoder) => encoder.max_buffer_length_from_utf16_without_replacement(n),
     };
     encoder.coder.put(coder);

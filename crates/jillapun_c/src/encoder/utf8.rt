@@ -21,9 +21,9 @@ use std::str;
 /// written too, and the encoder is as a new one.
 ///
 /// Returns `OK`, and `progress` tells what was done. At `INPUT_EMPTY` all is read. At `OUTPUT_FULL`
-/// something is left to do: make room, and hand in the rest again, with `last` as it was, also
-/// where nothing is left; 14 bytes are always enough to go on. Unless the encoding is UTF-8, the
-/// last ten bytes of `dst` are kept for a reference. Nothing after what is written changes.
+/// something is left to do: make room, and hand in the rest again, with `last` as it was, even if
+/// nothing is left; 14 bytes are always enough to go on. Unless the encoding is UTF-8, the last ten
+/// bytes of `dst` are kept for a reference. Nothing after what is written changes.
 ///
 /// Else nothing is done, and all of `progress` is 0: `CLOSED`, the handle holds no encoder;
 /// `NOT_UTF8`, the text is not UTF-8.
@@ -94,9 +94,9 @@ fn from_utf8(
 /// new one.
 ///
 /// Returns `OK`, and `progress` tells what was done. At `INPUT_EMPTY` all is read. At `OUTPUT_FULL`
-/// something is left to do: make room, and hand in the rest again, with `last` as it was, also
-/// where nothing is left; 4 bytes are always enough to go on. At `UNMAPPABLE` the character that
-/// was read last has no bytes: write its reference, or something else in ASCII, and go on as at
+/// something is left to do: make room, and hand in the rest again, with `last` as it was, even if
+/// nothing is left; 4 bytes are always enough to go on. At `UNMAPPABLE` the character that was read
+/// last has no bytes: write its reference, or something else in ASCII, and go on as at
 /// `OUTPUT_FULL`. Nothing after what is written changes.
 ///
 /// Else nothing is done, and all of `progress` is 0: `CLOSED`, the handle holds no encoder;
