@@ -2,7 +2,6 @@
 use Rattle.std.proofs.Common.{◌≡◌, ◌≢◌, ℕ, ◌⊎◌, inl, inr, List, [], ◌∷◌, ◌++◌, ◌<◌, arith, take, drop, refl, sym, ap, ◌∙◌, subst, append_assoc, append-nil, Option, Some, None, Result, Ok, Err, OnOk, IfErr, Bool, true, false}
 use Rattle.std.proofs.lemmas.Grind.{flat_map-append}
 use Rattle.std.proofs.lemmas.List.{append_cancel_right, take-append-drop}
-use Rattle.recode_log.specs.Line.{line_bytes}
 use Rattle.recode_log.specs.declared.line.LogLine.TheVariants.{Lost}
 use Rattle.recode.specs.Devices.{Devices, Failures, known}
 use Rattle.recode.specs.Session.{Completes, Fails, IsConverted, IsNewSession, IsOver, Tells, View}
@@ -22,7 +21,7 @@ use Rattle.recode.specs.declared.session.Phase.TheVariants.{Done, Open, Stopped}
 use Rattle.jillapun_c.specs.ConverterRuns.{HasConverted, HasRunTo, JoinsToCalls, devices_of}
 use Rattle.jillapun_c.specs.Conversions.{ConvertsInMemory, HasNoCounts, IsDone, IsToldReport}
 use Rattle.jillapun_c.specs.Converters.{ConvertsByStep, HandsOut, HoldsNothing, IsNewConverter, MakesStep, MayStep, StepReturns, StepsIfMay, TellsEnd, TellsStatus, held_losses, held_output, view_in}
-use Rattle.jillapun_c.specs.Losses.{line_of, log_of_losses}
+use Rattle.jillapun_c.specs.Losses.{log_of_losses, loss_bytes}
 use Rattle.jillapun_c.specs.declared.coder.Coder.{Coder}
 use Rattle.jillapun_c.specs.declared.converter.Converter.{Converter}
 use Rattle.jillapun_c.specs.declared.converter.progress.ConverterProgress.{ConverterProgress}
@@ -212,7 +211,7 @@ stepped laws j x a b src o l read v v' fault fault' f g (Err e) valid h live ste
 -- ---- calls of a converter
 
 log_of_both : (records more : List Loss) → log_of_losses (records ++ more) ≡ log_of_losses records ++ log_of_losses more
-log_of_both records more = flat_map-append (λ loss. line_bytes (line_of loss)) records more
+log_of_both records more = flat_map-append loss_bytes records more
 
 told_as : (j : Job) (x a a' b b' : List ℕ) (v v' : View) (fault fault' : Option Fault) → a ≡ a' → b ≡ b' → v ≡ v' → fault ≡ fault' → HasRunTo j x a b v fault → HasRunTo j x a' b' v' fault'
 told_as j x a a' b b' v v' fault fault' p q r s h = subst (λ z. HasRunTo j x z b' v' fault') p
