@@ -863,12 +863,12 @@ void jillapun_converter_free(jillapun_converter *converter);
  *   `progress` is 0.
  *
  * The outputs of all calls, joined, are what `jillapun_convert` writes for all that was read,
- * and so are the records and the report, however the input is cut and however little room there
+ * and so are the records and the counts, however the input is cut and however little room there
  * is. At `JILLAPUN_TOO_LONG` and `JILLAPUN_NO_MEMORY` they are the first part of that. Before
  * the end the report is 0.
  *
  * What is kept is never more than what one call reads gives: memory does not grow with the
- * input.
+ * input. A call takes some 70 KiB of stack.
  */
 uint8_t jillapun_converter_step(jillapun_converter *converter, const uint8_t *src, size_t src_len,
     bool last, uint8_t *dst, size_t dst_len, jillapun_loss *losses, size_t losses_len,

@@ -21,17 +21,19 @@ def words_of(arguments: Optional[List[str]]) -> argparse.Namespace:
 
 
 class Terminal:
-    """Which file is converted, in the last line of a terminal; nothing if standard error is none."""
+    """Which file is converted, and how far, in the last line of a terminal; nothing if standard error is none."""
 
     def __init__(self, count: int):
-        self.count, self.done = count, 0
+        self.count, self.done, self.line = count, 0, ""
         self.is_shown = sys.stderr.isatty()
 
     def show(self, name: str, part: float = 0) -> None:
         """The file, and which part of it is converted."""
-        if self.is_shown:
-            sys.stderr.write("\r\x1b[K%d of %d: %s (%d%%)" % (self.done + 1, self.count, name, 100 * part))
+        line = "%d of %d: %s (%d%%)" % (self.done + 1, self.count, name, 100 * part)
+        if self.is_shown and line != self.line:
+            sys.stderr.write("\r\x1b[K" + line)
             sys.stderr.flush()
+            self.line = line
 
     def clear(self) -> None:
         if self.is_shown:

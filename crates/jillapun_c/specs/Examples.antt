@@ -11,6 +11,7 @@ use Rattle.jillapun_c.specs.Asked.{policy_at}
 use Rattle.jillapun_c.specs.EncodingNumbers.{encoding_at, mark_at, needed_file}
 use Rattle.jillapun_c.specs.IndexFiles.{told_of}
 use Rattle.jillapun_c.specs.declared.index_files.FileFault.TheVariants as told
+use Rattle.jillapun_c.specs.declared.converter.progress.TheConstants.ConverterProgress as converter_
 use Rattle.jillapun_c.specs.declared.encoder_progress.TheConstants.EncoderProgress as encoder_
 use Rattle.jillapun_c.specs.declared.progress.TheConstants.Progress as decoder_
 use Rattle.jillapun_c.specs.declared.report.TheConstants.Report as report_
@@ -84,6 +85,9 @@ nothing_is_decoded = refl
 
 pub nothing_is_encoded : encoder_.NONE ≡ record { read = 0; written = 0; outcome = 0; had_unmappable = false; scalar = 0 }
 nothing_is_encoded = refl
+
+pub nothing_is_converted : converter_.NONE ≡ record { read = 0; written = 0; losses = 0; wants_room = false }
+nothing_is_converted = refl
 
 pub nothing_is_reported : report_.NONE ≡ record { read = 0; bad = 0; lost = 0; written = 0; losses = 0; index = 0; scalar = 0 }
 nothing_is_reported = refl

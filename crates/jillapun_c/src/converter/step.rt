@@ -103,10 +103,11 @@ impl Converter {
 ///   `CLOSED`: the handle holds no converter. Nothing is done, and all of `progress` is 0.
 ///
 /// The outputs of all calls, joined, are what `jillapun_convert` writes for all that was read, and
-/// so are the records and the report, however the input is cut and however little room there is. At
+/// so are the records and the counts, however the input is cut and however little room there is. At
 /// `TOO_LONG` and `NO_MEMORY` they are the first part of that. Before the end the report is 0.
 ///
 /// What is kept is never more than what one call reads gives: memory does not grow with the input.
+/// A call takes some 70 KiB of stack.
 #[unsafe(no_mangle)]
 pub extern "C" fn jillapun_converter_step(
     alloc: Global,
