@@ -4,7 +4,7 @@ use Rattle.std.proofs.Common.{◌≡◌, ℕ, zero, suc, ◌+◌, ◌-◌, ◌�
 use Rattle.std.proofs.lemmas.List.{append-nil, drop-drop, take_at, take-append-le, take-take}
 use Rattle.std.specs.Char.{len_utf8}
 use Rattle.encoding_mem.specs.calls.Writing.{len_utf16, Adds}
-use Rattle.encoding_mem.specs.Piece.{Piece, well_formed, malformed, text, scalars, sizes, malformed_count, AreWellFormed, head_piece, ArePieces}
+use Rattle.encoding_mem.specs.Piece.{Piece, malformed, text, scalars, sizes, malformed_count, AreWellFormed, head_piece, ArePieces}
 use Rattle.encoding_mem.specs.laws.Piece.{sizes-append, scalars-append, text-append, malformed_count-append, well_formed_count, well_formed_text}
 use Rattle.encoding_mem.specs.calls.Decoding.{Takes, Reports, DecoderState, EndsWith, Suffices}
 use Rattle.encoding_mem.specs.calls.DecodedLength.{is_units, counts_past_malformed, replacement_len, left_after}

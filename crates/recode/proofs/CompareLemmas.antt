@@ -4,7 +4,7 @@ use Rattle.std.specs.Bool.{MatchBool}
 use Rattle.std.proofs.lemmas.Bool.{false≢true}
 use Rattle.std.proofs.lemmas.List.{append_cancel_left}
 use Rattle.encoding_mem.specs.calls.Decoding.{DecoderState, StateLaw, Waits}
-use Rattle.encoding_mem.specs.Piece.{Piece, malformed, scalars, text, AreWellFormed}
+use Rattle.encoding_mem.specs.Piece.{Piece, malformed, text, AreWellFormed}
 use Rattle.encoding_mem.specs.calls.ReadCalls.{AreRead, HasTakenPart}
 use Rattle.encoding_mem.specs.laws.Agreement.{well_formed_parts}
 use Rattle.encoding_mem.specs.laws.Piece.{AreWellFormed-append, text-append, well_formed_text}

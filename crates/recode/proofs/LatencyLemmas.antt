@@ -7,7 +7,7 @@ use Rattle.std.proofs.lemmas.Bool.{false≢true}
 use Rattle.std.proofs.lemmas.Grind.{flat_map-append}
 use Rattle.std.proofs.lemmas.List.{append_cancel_right}
 use Rattle.encoding_mem.specs.declared.reference.Reference.{Reference}
-use Rattle.encoding_mem.specs.Piece.{ArePieces, Piece, well_formed, malformed, sizes, scalars, text, piece_text, head_piece, AreWellFormed}
+use Rattle.encoding_mem.specs.Piece.{ArePieces, Piece, well_formed, malformed, sizes, text, head_piece}
 use Rattle.encoding_mem.specs.calls.Decoding.{DecoderState, Waits}
 use Rattle.encoding_mem.specs.Coding.{Coding, last_set, open_from, whole_from}
 use Rattle.encoding_mem.specs.Items.{Item, trace_from}

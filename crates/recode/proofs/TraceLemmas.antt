@@ -15,7 +15,7 @@ use Rattle.recode.specs.WrittenItems.{WritesPrefix, WritesItemsFor, WritesPrefix
 use Rattle.recode.specs.declared.job.Fault.{Fault}
 use Rattle.recode.specs.declared.job.Fault.TheVariants.{Read, Write, Log, TooLong, Unmappable}
 use Rattle.recode.specs.declared.job.Policy.{Policy}
-use Rattle.encoding_mem.specs.Coding.{Coding, IsCoding, open_from, whole_from, last_set, output, lost_count, unmapped_count, reference_bytes, AllMapped, IsMapped}
+use Rattle.encoding_mem.specs.Coding.{Coding, IsCoding, open_from, whole_from, last_set, lost_count, unmapped_count, reference_bytes, AllMapped, IsMapped}
 use Rattle.encoding_mem.specs.declared.form.EscapeState.{EscapeState}
 use Rattle.encoding_mem.specs.declared.form.EscapeState.TheVariants.{Ascii}
 use Rattle.recode.specs.declared.target.Counts.{Counts}

@@ -8,7 +8,7 @@ use Rattle.std.proofs.lemmas.List.{length-drop}
 use Rattle.std.proofs.lemmas.Option.{none-some, same_Some}
 use Rattle.std.proofs.lemmas.Str.{IsUtf8-past_char, chars-nil, chars_from_encodes, chars_past_char, encodes-chars}
 use Rattle.encoding_mem.specs.Coding.{Coding, IsMapped, bytes_from, last_set, output}
-use Rattle.encoding_mem.specs.Piece.{Piece, well_formed, malformed, head_piece, malformed_count, piece_text, scalars, text, AreWellFormed}
+use Rattle.encoding_mem.specs.Piece.{Piece, malformed, head_piece, malformed_count, piece_text, scalars, text, AreWellFormed}
 use Rattle.encoding_mem.specs.Pieces.{pieces_in}
 use Rattle.encoding_mem.specs.Utf8Coding.{utf8_coding}
 use Rattle.encoding_mem.specs.Utf8.{pieces_utf8}
