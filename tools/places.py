@@ -35,9 +35,21 @@ PATIENCE = 30
 # How much of a line is shown before a place and from it on.
 BEFORE, BEHIND = 48, 24
 
-# Shown by number: what turns a line round, or cannot be seen. Controls are, too.
-UNSEEN = {0x61C, 0xFEFF, *range(0x200B, 0x2010), *range(0x2028, 0x202F), *range(0x2060, 0x2070), *range(0xFFF9, 0xFFFC)}
-UNSEEN |= set(range(0xE0000, 0xE0080))
+# Shown by number: what Unicode says a display may ignore (Default_Ignorable_Code_Point), separators of lines and
+# paragraphs, and marks of annotations. Controls are, too.
+UNSEEN = {0xAD, 0x34F, 0x61C, 0x115F, 0x1160, 0x17B4, 0x17B5, 0x3164, 0xFEFF, 0xFFA0}
+for first, last in [
+    (0x180B, 0x180F),
+    (0x200B, 0x200F),
+    (0x2028, 0x202E),
+    (0x2060, 0x206F),
+    (0xFE00, 0xFE0F),
+    (0xFFF0, 0xFFFB),
+    (0x1BCA0, 0x1BCA3),
+    (0x1D173, 0x1D17A),
+    (0xE0000, 0xE0FFF),
+]:
+    UNSEEN |= set(range(first, last + 1))
 
 
 def is_unseen(point):
@@ -234,6 +246,20 @@ WRITTEN = [
 :3:1: U+061C has no bytes in windows-1252
   3 | <U+061C><U+000D>d
     | ^^^^^^^^
+""",
+    ),
+    (
+        ["--from", "utf-8", "--to", "shift_jis"],
+        "a\u00adb\ufe0fc\u3164\n".encode(),
+        """:1:2: U+00AD has no bytes in Shift_JIS
+  1 | a<U+00AD>b<U+FE0F>c<U+3164>
+    |  ^^^^^^^^
+:1:4: U+FE0F has no bytes in Shift_JIS
+  1 | a<U+00AD>b<U+FE0F>c<U+3164>
+    |           ^^^^^^^^
+:1:6: U+3164 has no bytes in Shift_JIS
+  1 | a<U+00AD>b<U+FE0F>c<U+3164>
+    |                    ^^^^^^^^
 """,
     ),
     (

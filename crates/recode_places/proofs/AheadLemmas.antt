@@ -150,13 +150,13 @@ ends_ahead w left z none end h =
     subst (λ ps. IsLeftOfLog (Fits w.place.index (w.read - w.decoder.pending) ps) left) (ap w.decoder.pieces none ∙ end) h
 
 -- more was passed
-pub tells_on : (a b : Asked) (fs : List Finding) (w w' : WalkState) (t u s : Option (List Entry)) (xs ys : List ℕ) → b ≡ a → TellsFound a fs (found_ahead a w xs) t u → TellsPassed b w w' xs ys u s → TellsFound a fs (found_ahead a w' ys) t s
-tells_on a b fs w w' t u s xs ys same h k = found_then a a fs (found_ahead a w xs) (found_ahead a w' ys) t u s refl h (subst (λ x. TellsPassed x w w' xs ys u s) same k)
+pub tells_passed : (a b : Asked) (fs : List Finding) (w w' : WalkState) (t u s : Option (List Entry)) (xs ys : List ℕ) → b ≡ a → TellsFound a fs (found_ahead a w xs) t u → TellsPassed b w w' xs ys u s → TellsFound a fs (found_ahead a w' ys) t s
+tells_passed a b fs w w' t u s xs ys same h k = found_then a a fs (found_ahead a w xs) (found_ahead a w' ys) t u s refl h (subst (λ x. TellsPassed x w w' xs ys u s) same k)
 
 -- what was read was passed
 pub tells_read : (a b : Asked) (fs : List Finding) (w w' : WalkState) (t u s : Option (List Entry)) (xs y z : List ℕ) → b ≡ a → y ≡ xs ++ z → TellsFound a fs (found_ahead a w y) t u → TellsPassed b w w' (xs ++ z) z u s
     → TellsFound a fs (found_ahead a w' z) t s
-tells_read a b fs w w' t u s xs y z same is h k = tells_on a b fs w w' t u s (xs ++ z) z same (subst (λ x. TellsFound a fs (found_ahead a w x) t u) is h) k
+tells_read a b fs w w' t u s xs y z same is h k = tells_passed a b fs w w' t u s (xs ++ z) z same (subst (λ x. TellsFound a fs (found_ahead a w x) t u) is h) k
 
 -- nothing is left to be found
 pub tells_all : (a : Asked) (pending : ℕ) (held pieces : List ℕ → List Piece) (w : WalkState) (t u : Option (List Entry)) → ((x : List ℕ) → held x ≡ pieces x) → (x z : List ℕ) → z ≡ [] → w.decoder.pieces [] ≡ []

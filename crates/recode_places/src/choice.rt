@@ -162,8 +162,8 @@ impl<'t, L: Read> Choice<'t, L> {
         self.folds.then_some(Finding::Folded { scalar: c, becomes })
     }
 
-    /// Whether this malformed sequence is told, for which the U+FFFD with this index stands. The
-    /// error is that of the log.
+    /// Whether this malformed sequence is told, for which the U+FFFD with this index stands: each
+    /// is, if there is no log. The error is that of the log.
     pub fn malformed(&mut self, index: u64, offset: u64, length: u8) -> Result<bool, Stop>
         ensures told { IfOk result (λ is_told. (asked_by self.old).has_log ≡ false
             → is_told ≡ true) }

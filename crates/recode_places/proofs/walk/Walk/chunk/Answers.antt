@@ -1,7 +1,7 @@
 use Rattle.std.proofs.Common.{sym, refl}
 use Rattle.std.proofs.lemmas.List.{take_rest}
 use Rattle.recode_places.specs.calls.Walks.{walk_state}
-use Rattle.recode_places.proofs.AheadLemmas.{tells_on}
+use Rattle.recode_places.proofs.AheadLemmas.{tells_passed}
 use Rattle.recode_places.proofs.CallLemmas.{on_err}
 use Rattle.recode_places.proofs.FitsLemmas.{match_err}
 use Rattle.recode_places.specs.calls.FatesViews.{asked_by}
@@ -34,7 +34,7 @@ chunk-preserved g c =
     let more = part.more c.if-part.false in
     record {
       walks = rw (take_rest c.chunk.rest.now c.in_ok-part.part.read) (walks_then _ _ _ _ _ _ _ _ _ _ c.chunk.invariant.walks part.walks);
-      finds = λ r end. rw (take_rest c.chunk.rest.now c.in_ok-part.part.read) (tells_on (asked_by c.args.choice.now) (asked_by c.chunk.choice) _ (walk_state c.chunk.self) (walk_state c.part.new.self) _ _ _ _ _ c.chunk.invariant.fates.0 (c.chunk.invariant.finds r end) (c.in_ok-part.ensures.finds r end));
+      finds = λ r end. rw (take_rest c.chunk.rest.now c.in_ok-part.part.read) (tells_passed (asked_by c.args.choice.now) (asked_by c.chunk.choice) _ (walk_state c.chunk.self) (walk_state c.part.new.self) _ _ _ _ _ c.chunk.invariant.fates.0 (c.chunk.invariant.finds r end) (c.in_ok-part.ensures.finds r end));
       fits = λ r end h. rw (take_rest c.chunk.rest.now c.in_ok-part.part.read) (c.in_ok-part.ensures.fits r end (c.chunk.invariant.fits r end h));
       lines = lines_then _ _ _ _ _ _ c.chunk.invariant.lines c.in_ok-part.ensures.lines;
       fates = fated_then _ _ _ _ _ _ c.chunk.invariant.fates c.in_ok-part.ensures.fates;
@@ -55,4 +55,4 @@ returns-then-part-clause-fits g c = rw (sym c.is_empty-last.ensures) (λ r end h
 
 pub returns-then-part-clause-finds : goal.returns-then-part-clause-finds
 returns-then-part-clause-finds g c = rw (sym c.is_empty-last.ensures) (λ r end.
-    rw (c.in_ok-part.ensures.part.done c.if-part.true).0 at (tells_on (asked_by c.args.choice.now) (asked_by c.chunk.choice) _ (walk_state c.chunk.self) (walk_state c.part.new.self) _ _ _ _ _ c.chunk.invariant.fates.0 (c.chunk.invariant.finds r end) (c.in_ok-part.ensures.finds r end)))
+    rw (c.in_ok-part.ensures.part.done c.if-part.true).0 at (tells_passed (asked_by c.args.choice.now) (asked_by c.chunk.choice) _ (walk_state c.chunk.self) (walk_state c.part.new.self) _ _ _ _ _ c.chunk.invariant.fates.0 (c.chunk.invariant.finds r end) (c.in_ok-part.ensures.finds r end)))
