@@ -59,12 +59,16 @@ enum {
      */
     JILLAPUN_LOSSY = 1,
     /**
-     * There is no such label, encoding, index file, handling of marks or policy. Nothing was done.
+     * A number stands for no encoding, handling of marks or policy, or a name for no index file.
+     * Nothing was done.
      */
     JILLAPUN_UNKNOWN = 2,
     /** An index that the encoding needs is not in the tables: load its file. Nothing was done. */
     JILLAPUN_NOT_READY = 3,
-    /** The text of an index has a faulty line, and the fault says which. Nothing was kept. */
+    /**
+     * The text of an index has a fault, or that index was loaded already; the fault says in which
+     * line, or 0 if in none alone. Nothing was kept.
+     */
     JILLAPUN_BAD_INDEX = 4,
     /**
      * Memory was refused. Nothing was kept, and the call can be made again. A conversion by steps

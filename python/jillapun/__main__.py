@@ -42,7 +42,8 @@ class Terminal:
 
 
 def one_status(words: argparse.Namespace, path: str, indexes: "jillapun.Indexes", terminal: Terminal) -> int:
-    """Converts a file, and says what was lost: 0 where nothing was, 1 where something was, 4 where it failed."""
+    """Converts a file, and says what was lost: 0 if nothing was, 1 if something was, 3 if an index is missing, and 4 if it
+    failed."""
     target = os.path.join(words.into, os.path.basename(path)) if words.into else path
     options = {"mark": words.mark, "unmappable": words.unmappable, "indexes": indexes}
     terminal.show(path)
@@ -53,7 +54,7 @@ def one_status(words: argparse.Namespace, path: str, indexes: "jillapun.Indexes"
     except (OSError, MemoryError, jillapun.JillapunError) as fault:
         terminal.clear()
         print("%s: %s" % (path, fault or type(fault).__name__), file=sys.stderr)
-        return 4
+        return 3 if isinstance(fault, jillapun.IndexesMissing) else 4
     terminal.clear()
     for fault in done.faults:
         print("%s: %s" % (path, fault))
@@ -63,7 +64,7 @@ def one_status(words: argparse.Namespace, path: str, indexes: "jillapun.Indexes"
 
 
 def main(arguments: Optional[List[str]] = None) -> int:
-    """The highest status of a file; 2 where a label is unknown, and 3 where the indexes are not there."""
+    """The highest status of a file; 2 if a label is unknown, and 3 if the indexes are not there."""
     words = words_of(arguments)
     try:
         jillapun.name(words.source), jillapun.name(words.target)

@@ -162,6 +162,7 @@ class Program(unittest.TestCase):
             with contextlib.redirect_stderr(io.StringIO()):
                 self.assertEqual(main(["--from", "none", "--to", "utf-8", good]), 2)
                 self.assertEqual(main(["--from", "utf-8", "--to", "utf-8", os.path.join(folder, "none")]), 4)
+                self.assertEqual(main(["--from", "sjis", "--to", "utf-8", "--indexes", folder, good]), 3)
 
     def test_examples(self) -> None:
         examples = os.path.join(cases.TOP, "docs/examples/python")

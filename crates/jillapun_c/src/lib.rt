@@ -1,7 +1,7 @@
 //! The libraries for C, C++, Python and Rust: one static library, whose header is
 //! `include/jillapun.h`.
 //!
-//! Each export calls one function of the crates below and says its clauses again. No export has a
+//! Each export calls functions of the crates below and says their clauses again. No export has a
 //! condition on what it is handed but for pointers and lengths: if a function below has one, the
 //! export tests it, and returns a status (`status`) or `SIZE_MAX`.
 #![tactic(auto)]

@@ -7,11 +7,13 @@
 pub const OK: u8 = 0;
 /// All was converted, and something was lost: the output, read again, is not the text of the input.
 pub const LOSSY: u8 = 1;
-/// There is no such label, encoding, index file, handling of marks or policy. Nothing was done.
+/// A number stands for no encoding, handling of marks or policy, or a name for no index file.
+/// Nothing was done.
 pub const UNKNOWN: u8 = 2;
 /// An index that the encoding needs is not in the tables: load its file. Nothing was done.
 pub const NOT_READY: u8 = 3;
-/// The text of an index has a faulty line, and the fault says which. Nothing was kept.
+/// The text of an index has a fault, or that index was loaded already; the fault says in which
+/// line, or 0 if in none alone. Nothing was kept.
 pub const BAD_INDEX: u8 = 4;
 /// Memory was refused. Nothing was kept, and the call can be made again. A conversion by steps has
 /// ended.
