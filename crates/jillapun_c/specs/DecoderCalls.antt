@@ -34,7 +34,7 @@ abbrev pub text_outcome : CoderResult → ℕ
 text_outcome text_.InputEmpty = INPUT_EMPTY
 text_outcome text_.OutputFull = OUTPUT_FULL
 
--- an outcome as it is told: its number, and of a malformed sequence its length and how many bytes were read behind it
+-- an outcome as it is told: its number, and of a malformed sequence its length and how many bytes were read after it
 abbrev pub IsOutcome : DecoderResult → (number length after : ℕ) → Type 0
 IsOutcome raw_.InputEmpty number length after = (number ≡ INPUT_EMPTY) × (length ≡ 0) × (after ≡ 0)
 IsOutcome raw_.OutputFull number length after = (number ≡ OUTPUT_FULL) × (length ≡ 0) × (after ≡ 0)

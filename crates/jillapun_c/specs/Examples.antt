@@ -15,7 +15,7 @@ use Rattle.jillapun_c.specs.declared.progress.TheConstants.Progress as decoder_
 use Rattle.jillapun_c.specs.declared.report.TheConstants.Report as report_
 use Rattle.jillapun_c.specs.declared.status.TheConstants.{SNIFF, REMOVE, KEEP, NO_ENCODING}
 
--- the numbers of encodings: the first, the last, and none behind it
+-- the numbers of encodings: the first, the last, and none after it
 pub first_encoding : encoding_at 0 ≡ Some Encoding.Big5
 first_encoding = refl
 
@@ -41,7 +41,7 @@ removes = refl
 pub keeps : mark_at KEEP ≡ Some Mark.Keep
 keeps = refl
 
--- the files of EUC-JP, and none behind them
+-- the files of EUC-JP, and none after them
 pub first_file_of_euc_jp : needed_file 1 0 ≡ Some (codes "index-jis0208.txt")
 first_file_of_euc_jp = refl
 
