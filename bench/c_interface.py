@@ -80,8 +80,9 @@ class Steps:
     def calls(self):
         """Each call of the step, after it was made."""
         lent = self.room, self.SIZE, self.losses, self.RECORDS, ctypes.byref(self.progress), ctypes.byref(self.report)
-        handle, start, size, at, status = ctypes.byref(self.handle), library.address_of(self.data), len(self.data), 0, library.GOES_ON
+        handle, start, size = ctypes.byref(self.handle), library.address_of(self.data), len(self.data)
         library.streams().jillapun_converter_new(*self.words)
+        at, status = 0, library.GOES_ON
         while status == library.GOES_ON:
             status = library.library.jillapun_converter_step(handle, start + at, size - at, True, *lent)
             at += self.progress.read
@@ -131,7 +132,8 @@ def whole_rows(given, work):
                     cells[0] += " (differs)"
             ratio, own, theirs = compared(call.spent, lambda: programs.run(command, path, os.devnull)[0], given.rounds)
             if len(cells) == 1:
-                cells += ["%.0f" % (size / own), "%.0f" % (size / statistics.median(steps.spent() for _ in range(given.rounds)))]
+                by_steps = statistics.median(steps.spent() for _ in range(given.rounds))
+                cells += ["%.0f" % (size / own), "%.0f" % (size / by_steps)]
             cells += ["%.0f" % (size / theirs), str(ratio)]
         yield cells
 

@@ -9,7 +9,8 @@ by the checks that `CHECKS` lists: what must come of a call is worked out by Pyt
 If there is a C compiler (`CC`, or cc), it and a C++ compiler (`CXX`, or c++) read the header with all warnings, and each
 NAME.c of docs/examples/c is compiled, linked with the archive and with the shared library, and once more with the
 sanitizers if the compiler has them. Run in the top folder on NAME.in with the words of NAME.args, if these are there, it must
-write NAME.out, and NAME.err to standard error, and end with the status in NAME.status (0 if there is none). Then all is packed as `make dist` does, unpacked, and a program is built from what pkg-config says of it.
+write NAME.out, and NAME.err to standard error, and end with the status of NAME.status, 0 if there is none. Then all is packed
+as `make dist` does, unpacked, and a program is built from what pkg-config says of it.
 What was left out is said. The status is 1 if something was wrong.
 """
 

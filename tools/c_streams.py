@@ -294,16 +294,17 @@ class Streams:
 
     def steps(self, numbers, limit, parts):
         """A conversion by steps, with little room in some calls: the last status, the output, the losses and the report."""
+        new, step, loss = self.library.jillapun_converter_new, self.library.jillapun_converter_step, self.library.struct("Loss")
         handle, report = self.library.struct("ConverterHandle")(), self.library.struct("Report")()
-        self.must("converter_new", self.library.jillapun_converter_new(self.tables, *numbers, limit, handle))
-        self.must("converter_new twice", self.library.jillapun_converter_new(self.tables, *numbers, limit, handle), "IN_USE")
+        self.must("converter_new", new(self.tables, *numbers, limit, handle))
+        self.must("converter_new twice", new(self.tables, *numbers, limit, handle), "IN_USE")
         progress, most, losses = self.library.struct("ConverterProgress")(), self.random.choice((1, 9, 5000)), []
-        status, output, read, parts = NUMBERS["GOES_ON"], bytearray(), 0, [*parts, b""]
+        output, parts = bytearray(), [*parts, b""]
         for _ in range(MOST_CALLS):
-            room, filled = bytearray(b"\x5a" * self.random.randint(0, most)), (self.library.struct("Loss") * self.random.randint(0, 2))()
+            room, filled = bytearray(b"\x5a" * self.random.randint(0, most)), (loss * self.random.randint(0, 2))()
             last = len(parts) == 1
-            status = self.library.jillapun_converter_step(handle, parts[0], last, room, filled, progress, report)
-            parts[0], read = parts[0][progress.read :], read + progress.read
+            status = step(handle, parts[0], last, room, filled, progress, report)
+            parts[0] = parts[0][progress.read :]
             output += room[: progress.written]
             losses += [(it.kind, it.place, it.number) for it in filled[: progress.losses]]
             self.same("after the output", (numbers, parts), set(room[progress.written :]) <= {0x5A}, True)
@@ -314,9 +315,9 @@ class Streams:
         else:
             raise Wrong("a conversion by steps does not end")
         got = status, bytes(output), losses, (report.read, report.bad, report.lost, report.index, report.scalar)
-        self.must("after the end", self.library.jillapun_converter_step(handle, b"a", True, room, filled, progress, report), "FINISHED")
+        self.must("after the end", step(handle, b"a", True, room, filled, progress, report), "FINISHED")
         self.library.jillapun_converter_free(handle)
-        self.must("after it is freed", self.library.jillapun_converter_step(handle, b"a", True, room, filled, progress, report), "CLOSED")
+        self.must("after it is freed", step(handle, b"a", True, room, filled, progress, report), "CLOSED")
         return got
 
     def by_steps(self, job, data, run, wanted, numbers):

@@ -8,7 +8,7 @@ use Rattle.jillapun_c.specs.Converters.{FillsRoom}
 room_length : {X : Type 0} (part room : List X) (n : ℕ) → length part ≡ n → n ≤ length room → length (part ++ drop n room) ≡ length room
 room_length part room n is fits = length-append part (drop n room) ∙ omega (arith, is, fits, length-drop n room)
 
--- so many elements stand at the start of the room, and as many are behind them as before
+-- so many elements stand at the start of the room, and what is after them is as before
 put : {X : Type 0} (held part rest room : List X) (n : ℕ) → length part ≡ n → n ≤ length room → held ≡ part ++ rest → (rest ≡ []) ⊎ (n ≡ length room)
     → FillsRoom held rest room (part ++ drop n room) n
 put held part rest room n is fits parts full = record {

@@ -14,7 +14,7 @@ use Rattle.jillapun_c.specs.declared.losses.Loss.{Loss}
 use Rattle.jillapun_c.specs.declared.report.Report.{Report}
 use Rattle.jillapun_c.specs.declared.status.TheConstants.{LOSSY, NO_MEMORY, OK, ROOM, STOPPED, TOO_LONG}
 
--- some bytes and some records are what a job makes of an input: all, or, where its policy stops, all up to there
+-- some bytes and some records are what a job makes of an input: all, or, if its policy stops, all up to there
 pub record IsMadeOf (j : Job) (input output : List ℕ) (losses : List Loss) : Type 0 where
   pub is_output : output ≡ output_of j input
   pub is_log : log_of_losses losses ≡ log_of j input
@@ -47,7 +47,7 @@ IsVerdict status = (status ≡ OK) ⊎ (status ≡ LOSSY)
 abbrev pub IsDone : (status : ℕ) → Type 0
 IsDone status = IsVerdict status ⊎ (status ≡ STOPPED)
 
--- What a status says of a job on an input, and of the bytes and records that were made: where something was converted
+-- What a status says of a job on an input, and of the bytes and records that were made: if something was converted,
 -- they are what the job makes of it.
 pub record ConvertsInMemory (j : Job) (input output : List ℕ) (losses : List Loss) (report : Report) (status : ℕ) : Type 0 where
   pub made : IsDone status → IsMadeOf j input output losses

@@ -73,7 +73,7 @@ IsFaultTold told.Unknown status line = (status ≡ UNKNOWN) × (line ≡ 0)
 IsFaultTold (told.Text n) status line = (status ≡ BAD_INDEX) × (line ≡ n)
 IsFaultTold told.Memory status line = (status ≡ NO_MEMORY) × (line ≡ 0)
 
--- a status, the number of a file and a line tell why the file was not loaded; or memory was refused behind all
+-- a status, the number of a file and a line tell why the file was not loaded; or memory was refused after all
 abbrev pub IsToldAt : List IndexFile → (number line status : ℕ) → Type 0
 IsToldAt files number line status =
     ((fault : FileFault) × IsRefusedAt files number fault × IsFaultTold fault status line) ⊎ ((status ≡ NO_MEMORY) × (number ≡ length files))
