@@ -61,6 +61,19 @@ def encoded(encoder, points):
     return bytes(plain) + end, bytes(replaced) + end, lost
 
 
+# The byte order marks, with the encodings that they name, and the indexes that some encodings need.
+BOMS = [("UTF-8", b"\xef\xbb\xbf"), ("UTF-16BE", b"\xfe\xff"), ("UTF-16LE", b"\xff\xfe")]
+NEEDS = {
+    "UTF-8": (),
+    "windows-1252": ("windows-1252",),
+    "Shift_JIS": ("jis0208",),
+    "EUC-JP": ("jis0208", "jis0212"),
+    "ISO-2022-JP": ("jis0208", "iso-2022-jp-katakana"),
+    "gb18030": ("gb18030", "gb18030-ranges"),
+    "replacement": (),
+}
+
+
 class Streams:
     """The calls over tables with all indexes."""
 
@@ -117,6 +130,20 @@ class Streams:
             self.same("output_encoding", name, output, self.numbers[self.encodings[name].output])
         self.same("for_label", "?", self.library.jillapun_for_label(b"?"), NUMBERS["NO_ENCODING"])
         self.same("name", 40, self.library.jillapun_name(40, bytearray(40)), NUMBERS["REFUSED"])
+        length = ctypes.c_size_t()
+        for name, mark in (*BOMS, (None, b"\xef\xbb"), (None, b"")):
+            number = self.library.jillapun_for_bom(mark + b"a" if name else mark, length)
+            want = (self.numbers[name], len(mark)) if name else (NUMBERS["NO_ENCODING"], 0)
+            self.same("for_bom", mark, (number, length.value), want)
+
+    def needs(self):
+        """The files that encodings need, one after the other."""
+        for name, files in NEEDS.items():
+            for place, file in enumerate((*files, None)):
+                room = bytearray(40)
+                length = self.library.jillapun_needs(self.numbers[name], place, room)
+                got = None if length == NUMBERS["REFUSED"] else bytes(room[:length]).decode()
+                self.same("needs", (name, place), got, file and "index-%s.txt" % file)
 
     def latin1(self):
         """How far a new decoder says that bytes are Latin1: they are so if each alone is the character of its number, and, where
@@ -193,6 +220,9 @@ class Streams:
             self.must("decoder_new twice", self.library.jillapun_decoder_new(self.tables, 0, 0, handle), "IN_USE")
             self.same("encoding", job, self.library.jillapun_decoder_encoding(handle), self.numbers[job.source])
             size = getattr(self.library, "jillapun_decoder_max_%s_length" % name)(handle, len(data))
+            if name == "utf8":
+                least = self.library.jillapun_decoder_max_utf8_length_without_replacement(handle, len(data))
+                self.same("room without U+FFFD", job, least <= size, True)
             room = bytearray(size) if name == "utf8" else (units([0] * size), size)
             call = "jillapun_decoder_decode_to_" + name
             self.must(call, getattr(self.library, call)(handle, data, room, True, progress))
@@ -280,6 +310,32 @@ class Streams:
             self.same(call, (job, points), self.coded(call, job.target, points, of_units), (replaced, [], bool(lost)))
             call += "_without_replacement"
             self.same(call, (job, points), self.coded(call, job.target, points, of_units)[:2], (plain, lost))
+            if not lost:
+                self.asked(call, "jillapun_encoder_max_length_from_%s_without_replacement" % name, job, points, of_units, plain)
+                call = "jillapun_encoder_encode_from_" + name
+                self.asked(call, "jillapun_encoder_max_length_from_%s_if_no_unmappables" % name, job, points, of_units, plain)
+
+    def asked(self, call, query, job, points, of_units, plain):
+        """A text without a lost character in one call, in the room that a query asks for; and what else an encoder tells."""
+        handle, progress = self.library.struct("EncoderHandle")(), self.library.struct("EncoderProgress")()
+        self.must("encoder_new", self.library.jillapun_encoder_new(self.tables, self.numbers[job.target], handle))
+        number = self.library.jillapun_encoder_encoding(handle)
+        self.same("encoder_encoding", job.target, number, self.numbers[self.encodings[job.target].output])
+        source = self.source(text_of(points), of_units)
+        room = bytearray(getattr(self.library, query)(handle, source[1] if of_units else len(source)))
+        self.must(call, getattr(self.library, call)(handle, source, room, True, progress))
+        self.same(query, (job, points), (progress.outcome, bytes(room[: progress.written])), (NUMBERS["INPUT_EMPTY"], plain))
+        self.same("after the end", job.target, self.library.jillapun_encoder_has_pending_state(handle), False)
+        self.library.jillapun_encoder_free(handle)
+
+    def pending(self):
+        """The set in force of ISO-2022-JP, up to the end of the text."""
+        handle, progress = self.library.struct("EncoderHandle")(), self.library.struct("EncoderProgress")()
+        self.must("encoder_new", self.library.jillapun_encoder_new(self.tables, self.numbers["ISO-2022-JP"], handle))
+        for text, last, is_pending in (("a", False, False), ("\u3042", False, True), ("b", False, False), ("\u3042", True, False)):
+            self.library.jillapun_encoder_encode_from_utf8(handle, text.encode(), bytearray(40), last, progress)
+            self.same("pending", text, self.library.jillapun_encoder_has_pending_state(handle), is_pending)
+        self.library.jillapun_encoder_free(handle)
 
     def conversions(self, job, data):
         """An input from memory to memory, in one call and by steps."""
@@ -381,6 +437,8 @@ def faults(library):
     """What is wrong with the exports for streams and conversions."""
     streams = Streams(library)
     streams.labels()
+    streams.needs()
+    streams.pending()
     streams.refused()
     streams.latin1()
     for _ in range(ROUNDS):
