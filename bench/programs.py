@@ -1,18 +1,19 @@
 #!/usr/bin/env python3
-"""Measures `recode` beside iconv and a program over the crate encoding_rs: see docs/PERFORMANCE.md.
+"""Measures `recode` beside iconv, uconv and programs over the crate encoding_rs: see docs/PERFORMANCE.md.
 
     python3 bench/programs.py [--rounds N] [--megabytes N] [--program PATH] [--linear|--damaged] [--write] [WORD..]
 
-With words it measures the workloads that have one of them in their names. It wants `recode` built (`make build`);
-for the program over encoding_rs cargo and Debian's package librust-encoding-rs-dev. It makes its inputs, words of
-characters that the indexes map, the same in each run. What counts is the processor time of whole runs. In a round
-`recode` runs between two runs of each peer, and what it is compared with is their mean: so a machine that is slow
-for a moment is slow for both. A ratio is the median of all rounds, with its quartiles; one whose quartiles are more
-than a tenth apart has a `~`, and is no figure to quote. Each output of `recode` is compared with that of the program
-over encoding_rs. With --linear it measures something else: whether ten times the input takes ten times the
-processor time and no more memory. With --damaged it measures inputs with many faults, beside `iconv -c`, which writes
-no log, to /dev/null and to files. With --write the table goes into docs/PERFORMANCE.md, and docs/programs.svg shows
-that of the workloads.
+With words it measures the workloads that have one of them in their names. It wants `recode` built (`make build`); for
+the programs over encoding_rs cargo and Debian's package librust-encoding-rs-dev, for uconv Debian's icu-devtools. It
+makes its inputs, words of characters that the indexes map, the same in each run. What counts is the processor time of
+whole runs. In a round `recode` runs between two runs of each peer, and what it is compared with is their mean: so a
+machine that is slow for a moment is slow for both. A ratio is the median of all rounds, with its quartiles. If those
+are more than a tenth apart, as many rounds are run again, up to five times in all; one that stays so has a `~`, and
+is no figure to quote. Each output of `recode` is compared with that of the program over encoding_rs. With --linear it
+measures something else: whether ten times the input takes ten times the processor time and no more memory. With
+--damaged it measures inputs with many faults, to /dev/null and to files, beside the program over encoding_rs, which
+hands its log on in blocks, and `iconv -c`, which writes none. With --write the table goes into docs/PERFORMANCE.md,
+and docs/programs.svg shows that of the workloads.
 """
 
 import argparse
@@ -51,6 +52,13 @@ WORKLOADS = [
     ("UTF-8 to EUC-KR", "korean", "utf-8", "euc-kr"),
 ]
 
+# Texts in which much is lost: name, text, the encoding that it is in, source, target.
+LOSSY = [
+    ("windows-1252 read as UTF-8", "western", "windows-1252", "utf-8", "utf-8"),
+    ("Big5 to EUC-JP", "traditional", "big5", "big5", "euc-jp"),
+    ("mixed, UTF-8 to Shift_JIS", "mixed", "utf-8", "utf-8", "shift_jis"),
+]
+
 # Damaged inputs: name, what stands in an ASCII text, in how many bytes it does once, source, target.
 DAMAGED = [
     ("a malformed byte in 7, UTF-8 to UTF-8", b"\xff", 7, "utf-8", "utf-8"),
@@ -62,8 +70,9 @@ DAMAGED = [
 # The sources and targets of the shortest runs.
 STARTS = [("utf-8", "utf-8"), ("shift_jis", "utf-8"), ("gb18030", "utf-8"), ("big5", "euc-jp")]
 
-# The names that iconv has for the same tables, and those of Python's codecs, if they differ.
+# The names that iconv and uconv have for the same tables, and those of Python's codecs, if they differ.
 ICONV = {"windows-1252": "CP1252", "shift_jis": "CP932", "euc-kr": "UHC"}
+UCONV = {"shift_jis": "windows-31j", "euc-kr": "windows-949"}
 PYTHON = {"windows-1252": "cp1252", "shift_jis": "cp932", "euc-kr": "cp949"}
 
 
@@ -144,13 +153,13 @@ def resident_once(command, source):
     return most
 
 
-def peer(work):
-    """The program over encoding_rs, built if it can be."""
+def peer(work, *features):
+    """The program over encoding_rs with these features, built if it can be."""
     if not shutil.which("cargo") or not os.path.isdir("/usr/share/cargo/registry"):
         return None
-    folder = os.path.join(work, "programs")
+    folder = os.path.join(work, "-".join(("programs", *features)))
     shutil.copytree(os.path.join(HERE, "programs"), folder)
-    built = subprocess.run(["cargo", "build", "--release", "--offline", "--quiet"], cwd=folder)
+    built = subprocess.run(["cargo", "build", "--release", "--offline", "--quiet", "--features", ",".join(features)], cwd=folder)
     return os.path.join(folder, "target", "release", "programs") if built.returncode == 0 else None
 
 
@@ -161,11 +170,15 @@ def recode(program, source, target, *options):
 def peers(work):
     """What `recode` is compared with, by name: what to run for two encodings."""
     tools = {}
-    other = peer(work)
+    other, fast = peer(work), peer(work, "fast")
     if other:
         tools["encoding_rs"] = lambda source, target: [other, source, target]
-    if shutil.which("iconv"):
-        tools["iconv"] = lambda source, target: ["iconv", "-f", ICONV.get(source, source), "-t", ICONV.get(target, target)]
+    if fast:
+        tools["encoding_rs, fast"] = lambda source, target: [fast, source, target, "65536"]
+    for name, names in (("iconv", ICONV), ("uconv", UCONV)):
+        if shutil.which(name):
+            tools[name] = lambda source, target, name=name, names=names: [
+                name, "-f", names.get(source, source), "-t", names.get(target, target)]
     return tools
 
 
@@ -176,8 +189,11 @@ class Ratio:
         self.median = statistics.median(ratios)
         self.low, _, self.high = statistics.quantiles(ratios, n=4) if len(ratios) > 1 else 3 * ratios
 
+    def is_steady(self):
+        return self.high - self.low <= self.median / 10
+
     def __str__(self):
-        unsteady = "~" if self.high - self.low > self.median / 10 else ""
+        unsteady = "" if self.is_steady() else "~"
         return "%s%.2f (%.2f to %.2f)" % (unsteady, self.median, self.low, self.high)
 
 
@@ -185,7 +201,9 @@ def compared(ours, theirs, path, rounds, targets=(os.devnull, os.devnull)):
     """The ratio of two commands on an input, and the median time of each. The targets are of the output and the log."""
     ratios, own, other = [], [], []
     before = run(theirs, path, *targets)[0]
-    for _ in range(rounds):
+    for number in range(MOST_ROUNDS * rounds):
+        if number >= rounds and number % rounds == 0 and Ratio(ratios).is_steady():
+            break
         spent = run(ours, path, *targets)[0]
         after = run(theirs, path, *targets)[0]
         ratios.append((before + after) / 2 / spent)
@@ -249,6 +267,9 @@ def start_rows(program, tools, work, rounds):
 # The sizes of input, in MB, that show how the cost of a run grows.
 SIZES = (10, 100)
 
+# How many times the rounds are run, at most, until a ratio is steady.
+MOST_ROUNDS = 5
+
 
 def growth(program, labels, block, work, rounds):
     """Processor time for each MB of each size, in milliseconds, the ratio of the two, and the largest resident sets."""
@@ -256,7 +277,9 @@ def growth(program, labels, block, work, rounds):
     paths = [write_input(work, block, size, "%d MB" % size) for size in SIZES]
     sizes = [os.path.getsize(path) / 1e6 for path in paths]
     spent, ratios = [[], []], []
-    for _ in range(rounds):
+    for number in range(MOST_ROUNDS * rounds):
+        if number >= rounds and number % rounds == 0 and Ratio(ratios).is_steady():
+            break
         costs = [run(ours, path, os.devnull)[0] / size * 1000 for path, size in zip(paths, sizes)]
         ratios.append(costs[1] / costs[0])
         for all_costs, cost in zip(spent, costs):
@@ -271,23 +294,37 @@ def damaged(block, fault, distance):
     return b"".join(block[at : at + kept] + fault for at in range(0, len(block), kept))
 
 
+def damaged_inputs():
+    """The inputs with many faults: name, bytes, source, target."""
+    made = dict(texts())
+    for title, fault, distance, source, target in DAMAGED:
+        yield title, damaged(made["ascii"].encode(), fault, distance), source, target
+    for title, text, encoding, source, target in LOSSY:
+        yield title, made[text].encode(PYTHON.get(encoding, encoding), "ignore"), source, target
+
+
 def measure_damaged(given, work):
-    """The table of inputs with many faults: speeds of ours and of `iconv -c`, to /dev/null and to files."""
-    block = dict(texts())["ascii"].encode()
+    """The table of inputs with many faults: speeds of ours, beside its peers, to /dev/null and to files."""
+    tools = {name: command for name, command in peers(work).items() if name == "encoding_rs"}
+    tools["iconv -c"] = lambda source, target: [
+        "iconv", "-c", "-f", ICONV.get(source, source), "-t", ICONV.get(target, target)]
     files = [os.path.join(work, name) for name in ("output", "log")]
     rows = []
-    for title, fault, distance, source, target in DAMAGED:
+    for title, block, source, target in damaged_inputs():
         if given.words and not any(word.lower() in title.lower() for word in given.words):
             continue
-        path = write_input(work, damaged(block, fault, distance), given.megabytes)
-        theirs = ["iconv", "-c", "-f", ICONV.get(source, source), "-t", ICONV.get(target, target)]
+        path = write_input(work, block, given.megabytes)
         cells = [title]
         for targets in ((os.devnull, os.devnull), files):
-            ratio, own, other = compared(recode(given.program, source, target), theirs, path, given.rounds, targets)
-            cells += ["%.1f" % (os.path.getsize(path) / 1e6 / spent) for spent in (own, other)] + [str(ratio)]
+            found = [compared(recode(given.program, source, target), command(source, target), path, given.rounds, targets)
+                     for command in tools.values()]
+            own = statistics.median(spent for _, spent, _ in found)
+            cells += ["%.1f" % (os.path.getsize(path) / 1e6 / own)] + [str(ratio) for ratio, _, _ in found]
         rows.append(cells)
         print(" | ".join(cells), flush=True)
-    head = ["Damaged input", "recode to /dev/null", "iconv -c", "ratio", "recode to files", "iconv -c", "ratio"]
+    head = ["Damaged input"]
+    for where in ("to /dev/null", "to files"):
+        head += ["recode " + where] + ["to " + name for name in tools]
     return table(head, rows)
 
 
@@ -300,11 +337,12 @@ def plot(rows):
     """An SVG of the ratios of each workload, on a scale of powers of two."""
     import math
 
-    colours = {"encoding_rs": "#2b6cb0", "iconv": "#b7791f"}
-    left, unit, height = 210, 80, 34
+    colours = {"encoding_rs": "#2b6cb0", "encoding_rs, fast": "#90cdf4", "iconv": "#b7791f", "uconv": "#f6ad55"}
+    left, unit, height = 210, 80, 60
     place = lambda ratio: left + unit * (math.log2(max(ratio, 0.25)) + 2)
     width, bottom = place(16) + 60, 30 + height * len(rows)
-    out = ['<svg xmlns="http://www.w3.org/2000/svg" width="%d" height="%d" font-family="sans-serif" font-size="12">' % (width, bottom + 30)]
+    legend = 18 * (len(colours) + 1)
+    out = ['<svg xmlns="http://www.w3.org/2000/svg" width="%d" height="%d" font-family="sans-serif" font-size="12">' % (width, bottom + legend)]
     out.append('<rect width="100%" height="100%" fill="white"/>')
     for mark in (0.25, 0.5, 1, 2, 4, 8, 16):
         stroke = "#444" if mark == 1 else "#ddd"
@@ -312,16 +350,16 @@ def plot(rows):
         out.append('<text x="%d" y="16" text-anchor="middle">%g</text>' % (place(mark), mark))
     for number, (title, ratios) in enumerate(rows):
         top = 30 + height * number
-        out.append('<text x="%d" y="%d" text-anchor="end">%s</text>' % (left - 8, top + 18, title))
+        out.append('<text x="%d" y="%d" text-anchor="end">%s</text>' % (left - 8, top + 30, title))
         for offset, (name, ratio) in enumerate(ratios.items()):
             start, end = sorted((place(1), place(ratio.median)))
             y = top + 3 + 13 * offset
             out.append('<rect x="%.1f" y="%d" width="%.1f" height="11" fill="%s"/>' % (start, y, max(end - start, 1), colours[name]))
             out.append('<text x="%.1f" y="%d" font-size="10">%.2f</text>' % (max(end, place(1)) + 4, y + 10, ratio.median))
     for number, (name, colour) in enumerate(colours.items()):
-        x = left + 220 * number
-        out.append('<rect x="%d" y="%d" width="11" height="11" fill="%s"/>' % (x, bottom + 10, colour))
-        out.append('<text x="%d" y="%d">recode to %s (above 1: faster)</text>' % (x + 16, bottom + 20, name))
+        y = bottom + 10 + 18 * number
+        out.append('<rect x="%d" y="%d" width="11" height="11" fill="%s"/>' % (left, y, colour))
+        out.append('<text x="%d" y="%d">recode to %s (above 1: recode is faster)</text>' % (left + 16, y + 10, name))
     return "\n".join(out + ["</svg>"]) + "\n"
 
 

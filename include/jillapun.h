@@ -466,10 +466,10 @@ uint8_t jillapun_tables_is_ready(jillapun_tables tables, uint8_t encoding);
  * call.
  *
  * Returns `JILLAPUN_OK`, and `out` holds the tables; or `JILLAPUN_IN_USE`, it holds some
- * already. On an error `out` is as it was, and `fault` says which file it is:
- * `JILLAPUN_UNKNOWN`, no index has a file of that name; `JILLAPUN_BAD_INDEX`, the text has a
- * fault, or the index was loaded already; `JILLAPUN_NO_MEMORY`, memory was refused, and the
- * call can be made again.
+ * already. On an error `out` is as it was, and `fault`, which else stays as it was, says which
+ * file it is: `JILLAPUN_UNKNOWN`, no index has a file of that name; `JILLAPUN_BAD_INDEX`, the
+ * text has a fault, or the index was loaded already; `JILLAPUN_NO_MEMORY`, memory was refused,
+ * and the call can be made again.
  *
  * The tables are never freed, so that they can be shared by all threads: load them once.
  */
@@ -799,8 +799,8 @@ uint8_t jillapun_encode(jillapun_tables tables, uint8_t encoding, const uint8_t 
  * `mark` says what becomes of a byte order mark at the start (`JILLAPUN_SNIFF`,
  * `JILLAPUN_REMOVE`, `JILLAPUN_KEEP`), `policy` what is written for a character without bytes
  * (`JILLAPUN_DECIMAL`, `JILLAPUN_HEXADECIMAL`, `JILLAPUN_STOP`), and `limit` how many bytes the
- * input may have: 2^48 if it is more. Any number of threads may call at once, over the same
- * tables.
+ * input may have; a greater number than 2^48 counts as that. Any number of threads may call at
+ * once, over the same tables.
  *
  * - `JILLAPUN_OK`: nothing was malformed, and the output, read again, is the text of the input.
  * - `JILLAPUN_LOSSY`: all was converted, and something was lost. `losses` may be empty even so:

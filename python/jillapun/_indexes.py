@@ -64,7 +64,7 @@ class Indexes:
 
     def __init__(self, folder: Optional[PathLike] = None, *, texts: Optional[Mapping[str, bytes]] = None):
         """Loads the texts of a folder, whose names are `index-*.txt`, or `texts`, by those names. Raises
-        `IndexesMissing`, which says which text is faulty, and in which line."""
+        `IndexesMissing`, which says which text is faulty, and in which line, if it is in one."""
         if texts is None:
             place = Path(folder) if folder is not None else default_folder()
             texts = {path.name: path.read_bytes() for path in sorted(place.glob("index-*.txt"))}
@@ -82,7 +82,8 @@ def _loaded(texts: Mapping[str, bytes]) -> c.Tables:
     if status == c.UNKNOWN:
         raise IndexesMissing("%s: no such index" % names[fault.file])
     if status != c.OK:
-        raise IndexesMissing("%s: line %d is faulty" % (names[fault.file], fault.line))
+        place = "line %d is faulty" % fault.line if fault.line else "no line alone is faulty"
+        raise IndexesMissing("%s: %s" % (names[fault.file], place))
     return handle
 
 

@@ -3,6 +3,7 @@
 import builtins
 import ctypes
 import io
+import threading
 from typing import BinaryIO, List, Optional, Union, cast
 
 from . import _library as c
@@ -32,22 +33,26 @@ def opened(call: str, *words: object) -> c.Handle:
 class Decoder:
     """Decodes a stream chunk by chunk, wherever it is cut.
 
-    `faults` has what was malformed so far, with offsets from the start of the stream.
+    `faults` has what was malformed so far, with offsets from the start of the stream. Calls of several threads wait for
+    one another.
     """
 
     def __init__(self, encoding: str, *, mark: str = "remove", indexes: Optional[Indexes] = None):
         tables = handle_of(indexes)
         self.faults: List[Bad] = []
-        self._read, self._is_ended = 0, False
+        self._read, self._is_ended, self._lock = 0, False, threading.Lock()
         self._room = ctypes.create_string_buffer(_ROOM)
         self._handle = opened("jillapun_decoder_new", tables, number_of(encoding), c.MARKS[mark])
 
     def decode(self, data: bytes, last: bool = False) -> str:
         """The text that these bytes decide; what is undecided waits for more. `last` ends the stream, and after it no
         more can be decoded."""
+        with self._lock:
+            return self._decoded(bytes(data), last)
+
+    def _decoded(self, data: bytes, last: bool) -> str:
         if self._is_ended:
             raise ValueError("the stream has ended")
-        data = bytes(data)
         parts, at, progress, start = [], 0, c.Progress(), c.address_of(data)
         while True:
             status = c.library.jillapun_decoder_decode_to_utf8_without_replacement(
@@ -75,13 +80,14 @@ class Decoder:
 class Encoder:
     """Encodes a text chunk by chunk.
 
-    `faults` has the characters so far that have no bytes, with how many characters of the text stand before each.
+    `faults` has the characters so far that have no bytes, with how many characters of the text stand before each. Calls
+    of several threads wait for one another.
     """
 
     def __init__(self, encoding: str, *, unmappable: str = "decimal", indexes: Optional[Indexes] = None):
         tables = handle_of(indexes)
         self.faults: List[Lost] = []
-        self._unmappable, self._index, self._is_ended = unmappable, 0, False
+        self._unmappable, self._index, self._is_ended, self._lock = unmappable, 0, False, threading.Lock()
         c.POLICIES[unmappable]
         self._room = ctypes.create_string_buffer(_ROOM)
         self._handle = opened("jillapun_encoder_new", tables, number_of(encoding))
@@ -89,12 +95,13 @@ class Encoder:
     def encode(self, text: str, last: bool = False) -> bytes:
         """The bytes of these characters. `last` ends the text, and after it no more can be encoded. For a character
         without bytes its reference is written, or, with "stop", `Stopped` is raised, which has what was written."""
-        if self._is_ended:
-            raise ValueError("the text has ended")
-        parts: List[bytes] = []
-        self._put(text.encode(), last, parts)
-        self._is_ended = last
-        return b"".join(parts)
+        with self._lock:
+            if self._is_ended:
+                raise ValueError("the text has ended")
+            parts: List[bytes] = []
+            self._put(text.encode(), last, parts)
+            self._is_ended = last
+            return b"".join(parts)
 
     def _put(self, data: bytes, last: bool, parts: List[bytes], is_reference: bool = False) -> None:
         progress, at, start = c.EncoderProgress(), 0, c.address_of(data)

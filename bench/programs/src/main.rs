@@ -1,4 +1,5 @@
-//! A transcoder over encoding_rs with buffers of 4096 bytes, to measure `recode` beside: FROM TO < in > out.
+//! A transcoder over encoding_rs, to measure `recode` beside: FROM TO [BYTES] < in > out. Each buffer has so many bytes,
+//! 4096 if none are named.
 //! It logs malformed sequences and lost characters as `recode` does, and takes no byte order mark.
 
 use encoding_rs::{Decoder, DecoderResult, Encoder, EncoderResult, Encoding};
@@ -10,7 +11,7 @@ const BUFFER: usize = 4096;
 
 struct Writer {
     encoder: Encoder,
-    buffer: [u8; BUFFER],
+    buffer: Vec<u8>,
     output: File,
     log: BufWriter<Stderr>,
     // How many characters were read.
@@ -39,7 +40,7 @@ impl Writer {
 }
 
 fn convert(mut decoder: Decoder, mut writer: Writer, mut input: File) -> std::io::Result<()> {
-    let (mut bytes, mut pivot) = ([0; BUFFER], [0; BUFFER]);
+    let (mut bytes, mut pivot) = (writer.buffer.clone(), writer.buffer.clone());
     let mut place = 0;
     loop {
         let count = input.read(&mut bytes)?;
@@ -73,15 +74,16 @@ fn convert(mut decoder: Decoder, mut writer: Writer, mut input: File) -> std::io
 }
 
 fn main() -> std::io::Result<()> {
-    let labels: Vec<String> = std::env::args().skip(1).collect();
+    let words: Vec<String> = std::env::args().skip(1).collect();
     let encoding = |label: &str| Encoding::for_label(label.as_bytes()).expect("a label");
+    let size = words.get(2).map_or(BUFFER, |size| size.parse().expect("a number"));
     let writer = Writer {
-        encoder: encoding(&labels[1]).new_encoder(),
-        buffer: [0; BUFFER],
+        encoder: encoding(&words[1]).new_encoder(),
+        buffer: vec![0; size],
         output: unsafe { File::from_raw_fd(1) },
         log: BufWriter::new(std::io::stderr()),
         index: 0,
     };
-    let decoder = encoding(&labels[0]).new_decoder_without_bom_handling();
+    let decoder = encoding(&words[0]).new_decoder_without_bom_handling();
     convert(decoder, writer, unsafe { File::from_raw_fd(0) })
 }

@@ -5,7 +5,7 @@ use Rattle.std.proofs.lemmas.List.{append-nil, drop-drop, take_at, take-append-l
 use Rattle.std.specs.Char.{len_utf8}
 use Rattle.encoding_mem.specs.calls.Writing.{len_utf16, Adds}
 use Rattle.encoding_mem.specs.Piece.{Piece, well_formed, malformed, text, scalars, sizes, malformed_count, AreWellFormed, head_piece, ArePieces}
-use Rattle.encoding_mem.specs.laws.Piece.{sizes-append, scalars-append, text-append}
+use Rattle.encoding_mem.specs.laws.Piece.{sizes-append, scalars-append, text-append, malformed_count-append, well_formed_count, well_formed_text}
 use Rattle.encoding_mem.specs.calls.Decoding.{Takes, Reports, DecoderState, EndsWith, Suffices}
 use Rattle.encoding_mem.specs.calls.DecodedLength.{is_units, counts_past_malformed, replacement_len, left_after}
 use Rattle.encoding_mem.specs.declared.room.OutputUnit.{OutputUnit}
@@ -24,22 +24,6 @@ use Rattle.encoding_front.specs.calls.Stream.{IsNewDecoder, DecoderView, finishe
 use Rattle.encoding_front.specs.declared.coder_result.CoderResult.{CoderResult}
 use Rattle.encoding_front.specs.declared.encoding.Encoding.{Encoding}
 use Rattle.encoding_front.specs.declared.mark.Mark.{Mark}
-
--- well-formed pieces have the text of their scalars
-pub well_formed_text : (ps : List Piece) → AreWellFormed ps → text ps ≡ scalars ps
-well_formed_text [] h = refl
-well_formed_text (well_formed n cs ∷ ps) h = ap (λ t. cs ++ t) (well_formed_text ps h.1)
-well_formed_text (malformed n ∷ ps) h = absurd h.0
-
-pub well_formed_none : (ps : List Piece) → AreWellFormed ps → malformed_count ps ≡ 0
-well_formed_none [] h = refl
-well_formed_none (well_formed n cs ∷ ps) h = well_formed_none ps h.1
-well_formed_none (malformed n ∷ ps) h = absurd h.0
-
-pub malformed_count-append : (a b : List Piece) → malformed_count (a ++ b) ≡ malformed_count a + malformed_count b
-malformed_count-append [] b = omega arith
-malformed_count-append (well_formed n cs ∷ a) b = malformed_count-append a b
-malformed_count-append (malformed n ∷ a) b = omega (arith, malformed_count-append a b)
 
 pub starts : (P : List ℕ → List Piece) (src : List ℕ) (last : Bool) (p : ℕ) (W : List ℕ → Type 0) → W [] → TakesText P P src last p p 0 W false
 starts P src last p W w = record {
@@ -88,7 +72,7 @@ pub then_ends : (P M A : List ℕ → List Piece) (outcome : DecoderResult) (src
 then_ends P M A outcome src left last p q s n read b had V W Z is left_is writes h k =
     let well_formed_ : AreWellFormed k.taken = subst (λ (G : List Piece → Type 0). G k.taken) is k.well_formed in
     then_text P M A src left last p q s n read had had k.taken V Z left_is
-    (λ t. inl t, λ e. elim e [ inl t ↦ t | inr some ↦ absurd (omega (arith, some, well_formed_none k.taken well_formed_)) ])
+    (λ t. inl t, λ e. elim e [ inl t ↦ t | inr some ↦ absurd (omega (arith, some, well_formed_count k.taken well_formed_)) ])
     (λ t v. subst (λ (u : List ℕ). Z (t ++ u)) (sym (well_formed_text k.taken well_formed_)) (writes t (scalars k.taken) v k.writes))
     h k.within k.counted k.rest
 
@@ -271,7 +255,7 @@ pub well_formed_call : (v v' : DecoderView) (t : IndexLists) (mark : Mark) (e : 
 well_formed_call v v' t mark e x old new DecoderResult.InputEmpty read written free begins never fine ends k =
     whole_of v v' t mark e x old new k.taken written false begins (all_taken v v' t mark e x k.taken read begins k.rest ends.0 (ended ends.1))
     (subst (λ (l : List ℕ). Adds old 0 (encode_utf8_all l) new written) (sym (well_formed_text k.taken k.well_formed)) k.writes)
-    (λ h. absurd (cc), λ some. absurd (omega (arith, some, well_formed_none k.taken k.well_formed)))
+    (λ h. absurd (cc), λ some. absurd (omega (arith, some, well_formed_count k.taken k.well_formed)))
 well_formed_call v v' t mark e x old new DecoderResult.OutputFull read written free begins never fine ends k = absurd (never refl)
 well_formed_call v v' t mark e x old new (Malformed a b) read written free begins never fine ends k = absurd (fine a b refl)
 

@@ -10,6 +10,7 @@ use Rattle.encoding_mem.specs.Utf8.{second_min, second_max, scalar_of_two, scala
 use Rattle.encoding_mem.specs.laws.Utf8.{cuts_utf8}
 use Rattle.encoding_mem.specs.calls.Writing.{Adds, len_utf16, encode_utf16_all}
 use Rattle.encoding_mem.specs.laws.Writing.{adds_encoded16, adds-length, encode_utf16_all-append, length-encode_utf16, cost_fits16}
+use Rattle.encoding_mem.specs.laws.Piece.{well_formed_text}
 
 -- A piece gives some text, and no more units than it has bytes.
 record Fits (p : Piece) : Type 0 where
@@ -109,11 +110,6 @@ pub record HasWritten (src old : List ℕ) (start : ℕ) (pieces : List ℕ → 
   pub taken : List Piece
   pub whole : pieces_utf8 src ≡ taken ++ pieces (drop read src)
   pub adds : Adds old start (encode_utf16_all (text taken)) new count
-
-well_formed_text : (ps : List Piece) → AreWellFormed ps → text ps ≡ scalars ps
-well_formed_text [] h = refl
-well_formed_text (well_formed n cs ∷ ps) h = ap (λ l. cs ++ l) (well_formed_text ps h.1)
-well_formed_text (malformed n ∷ ps) h = absurd h.0
 
 pieces_on : (src : List ℕ) (read more : ℕ) (before after : List ℕ → List Piece) (prefix taken : List Piece) → pieces_utf8 src ≡ prefix ++ before (drop read src)
     → before (take (length src - read) (drop read src) ++ []) ≡ taken ++ after (drop more (take (length src - read) (drop read src)) ++ [])

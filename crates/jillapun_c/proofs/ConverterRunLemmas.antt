@@ -2,7 +2,6 @@
 use Rattle.std.proofs.Common.{◌≡◌, ◌≢◌, ℕ, ◌⊎◌, inl, inr, List, [], ◌∷◌, ◌++◌, ◌<◌, arith, take, drop, refl, sym, ap, ◌∙◌, subst, append_assoc, append-nil, Option, Some, None, Result, Ok, Err, OnOk, IfErr, Bool, true, false}
 use Rattle.std.proofs.lemmas.Grind.{flat_map-append}
 use Rattle.std.proofs.lemmas.List.{append_cancel_right, take-append-drop}
-use Rattle.recode_log.specs.Line.{line_bytes}
 use Rattle.recode_log.specs.declared.line.LogLine.TheVariants.{Lost}
 use Rattle.recode.specs.Devices.{Devices, Failures, known}
 use Rattle.recode.specs.Session.{Completes, Fails, IsConverted, IsNewSession, IsOver, Tells, View}
@@ -20,9 +19,9 @@ use Rattle.recode.specs.declared.job.Report.{Report as RunReport}
 use Rattle.recode.specs.declared.session.Phase.{Phase}
 use Rattle.recode.specs.declared.session.Phase.TheVariants.{Done, Open, Stopped}
 use Rattle.jillapun_c.specs.ConverterRuns.{HasConverted, HasRunTo, JoinsToCalls, devices_of}
-use Rattle.jillapun_c.specs.Conversions.{ConvertsInMemory, IsDone, IsToldReport}
+use Rattle.jillapun_c.specs.Conversions.{ConvertsInMemory, HasNoCounts, IsDone, IsToldReport}
 use Rattle.jillapun_c.specs.Converters.{ConvertsByStep, HandsOut, HoldsNothing, IsNewConverter, MakesStep, MayStep, StepReturns, StepsIfMay, TellsEnd, TellsStatus, held_losses, held_output, view_in}
-use Rattle.jillapun_c.specs.Losses.{line_of, log_of_losses}
+use Rattle.jillapun_c.specs.Losses.{log_of_losses, loss_bytes}
 use Rattle.jillapun_c.specs.declared.coder.Coder.{Coder}
 use Rattle.jillapun_c.specs.declared.converter.Converter.{Converter}
 use Rattle.jillapun_c.specs.declared.converter.progress.ConverterProgress.{ConverterProgress}
@@ -212,7 +211,7 @@ stepped laws j x a b src o l read v v' fault fault' f g (Err e) valid h live ste
 -- ---- calls of a converter
 
 log_of_both : (records more : List Loss) → log_of_losses (records ++ more) ≡ log_of_losses records ++ log_of_losses more
-log_of_both records more = flat_map-append (λ loss. line_bytes (line_of loss)) records more
+log_of_both records more = flat_map-append loss_bytes records more
 
 told_as : (j : Job) (x a a' b b' : List ℕ) (v v' : View) (fault fault' : Option Fault) → a ≡ a' → b ≡ b' → v ≡ v' → fault ≡ fault' → HasRunTo j x a b v fault → HasRunTo j x a' b' v' fault'
 told_as j x a a' b b' v v' fault fault' p q r s h = subst (λ z. HasRunTo j x z b' v' fault') p
@@ -330,7 +329,7 @@ all_told : (j : Job) (x y : List ℕ) (records : List Loss) (p : RunReport) (rep
     → IsToldReport p report status → ConvertsInMemory j x y records report status
 all_told j x y records p report status c t = record {
   made = λ d. record { is_output = c.whole.output; is_log = c.whole.logged };
-  counts = λ v. record { read = t.read ∙ c.report.read; bad = t.bad ∙ c.report.bad; lost = t.lost ∙ c.report.lost };
+  counts = λ v. record { read = t.read ∙ c.report.read; bad = t.bad ∙ c.report.bad; lost = t.lost ∙ c.report.lost; no_character = t.no_character };
   faithful = λ ok. c.report.faithful.0 (told_ok p.faithful status t.lossy ok);
   lossy = λ lossy f. told_lossy p.faithful status t.faithful lossy (c.report.faithful.1 f);
   stopped = λ e. absurd (never_stopped p.faithful status t.faithful t.lossy e);
@@ -340,7 +339,7 @@ all_told j x y records p report status c t = record {
 stop_told : (j : Job) (x y : List ℕ) (records : List Loss) (index scalar : ℕ) (report : Report) (status : ℕ)
     → WrotePrefix (known [] []) (known y (log_of_losses records)) j.policy (TheFault.Unmappable index scalar) (trace j x)
     → ((taken : List TaggedByte) → StopsAtLoss j.policy index scalar taken (trace j x) → take 1 (lost_log_lines (target_of j) 0 (input_text j x)) ≡ Lost index scalar ∷ [])
-    → (status ≡ STOPPED) × (report.index ≡ index) × (report.scalar ≡ scalar) → ConvertsInMemory j x y records report status
+    → (status ≡ STOPPED) × (report.index ≡ index) × (report.scalar ≡ scalar) × HasNoCounts report → ConvertsInMemory j x y records report status
 stop_told j x y records index scalar report status w first told = record {
   made = λ d. record { is_output = w.wrote.output ∙ ap output_bytes w.stopped.whole; is_log = w.wrote.lined ∙ ap log_bytes w.stopped.whole };
   counts = λ v. absurd (elim v [ inl e ↦ omega (arith, e, told.0) | inr e ↦ omega (arith, e, told.0) ]);
@@ -350,6 +349,7 @@ stop_told j x y records index scalar report status w first told = record {
     policy = w.stopped.policy;
     first = subst (λ i. take 1 (lost_log_lines (target_of j) 0 (input_text j x)) ≡ Lost i report.scalar ∷ []) (sym told.1)
         (subst (λ s. take 1 (lost_log_lines (target_of j) 0 (input_text j x)) ≡ Lost index s ∷ []) (sym told.2) (first w.taken w.stopped));
+    no_counts = told.3;
   };
 }
 

@@ -1,5 +1,7 @@
 -- The lemmas.
+mod AskedLemmas
 mod CoderLemmas
+mod ConversionLemmas
 mod ConverterRunLemmas
 mod EncodingNumberLemmas
 mod IndexFileLemmas

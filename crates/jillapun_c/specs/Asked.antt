@@ -1,10 +1,11 @@
 -- What the numbers of a call ask for.
-use Rattle.std.specs.Prelude.{◌≡◌, ℕ, ◌^◌, min, [], ◌∷◌, Option, Some, None, IsSome, slice_get}
+use Rattle.std.specs.Prelude.{◌≡◌, ◌⊎◌, ℕ, ◌^◌, min, [], ◌∷◌, Option, Some, IsSome, MatchOption, slice_get}
 use Rattle.encoding_tables.specs.IndexLists.{IndexLists}
 use Rattle.recode.specs.Job.{IsValidJob}
 use Rattle.recode.specs.declared.job.Job.{Job}
 use Rattle.recode.specs.declared.job.Policy.{Policy}
 use Rattle.jillapun_c.specs.EncodingNumbers.{encoding_at, mark_at}
+use Rattle.jillapun_c.specs.declared.status.TheConstants.{CLOSED, NOT_READY, UNKNOWN}
 
 -- the policy with that number, if there is one
 abbrev pub policy_at : ℕ → Option Policy
@@ -31,7 +32,23 @@ pub record IsAskedFor (tables : IndexLists) (from to mark policy limit : ℕ) (j
   pub named : NamesJob tables from to mark policy limit j
   pub valid : IsValidJob j
 
--- a valid job of what the numbers of a call ask for, over the tables that a handle has
-abbrev pub IsAskedIn : Option IndexLists → (from to mark policy limit : ℕ) → Job → Type 0
-IsAskedIn None from to mark policy limit j = ⊥
-IsAskedIn (Some tables) from to mark policy limit j = IsAskedFor tables from to mark policy limit j
+-- the job that the numbers of a call name is valid, and so the call goes on, or an index is missing
+pub record NamesJobThen (tables : IndexLists) (from to mark policy limit : ℕ) (Then : Job → Type 0) (status : ℕ) : Type 0 where
+  pub job : Job
+  pub named : NamesJob tables from to mark policy limit job
+  pub goes_on : (IsValidJob job × Then job) ⊎ ((¬ (IsValidJob job)) × (status ≡ NOT_READY))
+
+-- the call goes on with the job that its numbers name, or one of them stands for nothing
+abbrev pub IfKnown : IndexLists → (from to mark policy limit : ℕ) → (Then : Job → Type 0) → (status : ℕ) → Type 0
+IfKnown tables from to mark policy limit Then status =
+    NamesJobThen tables from to mark policy limit Then status ⊎ ((¬ (AreKnown from to mark policy)) × (status ≡ UNKNOWN))
+
+-- The first of these that holds decides the status: the handle has no tables, a number stands for nothing, an index is
+-- missing; else the call goes on.
+abbrev pub IfAsked : Option IndexLists → (from to mark policy limit : ℕ) → (Then : Job → Type 0) → (status : ℕ) → Type 0
+IfAsked tables from to mark policy limit Then status =
+    MatchOption tables (status ≡ CLOSED) (λ t. IfKnown t from to mark policy limit Then status)
+
+-- a call ends with this status before it goes on, over these tables
+abbrev pub EndsAtOnce : IndexLists → (from to mark policy limit status : ℕ) → Type 0
+EndsAtOnce tables from to mark policy limit status = IfKnown tables from to mark policy limit (λ j. ⊥) status

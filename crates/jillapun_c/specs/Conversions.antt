@@ -1,5 +1,5 @@
 -- What a conversion leaves, by its status.
-use Rattle.std.specs.Prelude.{◌≡◌, ◌⊎◌, ℕ, List, [], ◌∷◌, drop, length, take, true, false}
+use Rattle.std.specs.Prelude.{◌≡◌, ◌⊎◌, ◌<◌, ◌≤◌, ℕ, List, [], ◌∷◌, drop, length, take, true, false}
 use Rattle.encoding_mem.specs.Piece.{malformed_count}
 use Rattle.encoding_mem.specs.Coding.{lost_count}
 use Rattle.recode_log.specs.declared.line.LogLine.TheVariants.{Lost}
@@ -12,23 +12,32 @@ use Rattle.recode.specs.declared.job.Report.{Report as RunReport}
 use Rattle.jillapun_c.specs.Losses.{log_of_losses}
 use Rattle.jillapun_c.specs.declared.losses.Loss.{Loss}
 use Rattle.jillapun_c.specs.declared.report.Report.{Report}
-use Rattle.jillapun_c.specs.declared.status.TheConstants.{LOSSY, NO_MEMORY, OK, STOPPED, TOO_LONG}
+use Rattle.jillapun_c.specs.declared.status.TheConstants.{LOSSY, NO_MEMORY, OK, ROOM, STOPPED, TOO_LONG}
 
 -- some bytes and some records are what a job makes of an input: all, or, if its policy stops, all up to there
 pub record IsMadeOf (j : Job) (input output : List ℕ) (losses : List Loss) : Type 0 where
   pub is_output : output ≡ output_of j input
   pub is_log : log_of_losses losses ≡ log_of j input
 
--- the counts that are reported are those of the input
+-- the counts that are reported are those of the input, and no character is named
 pub record AreCountsOf (j : Job) (input : List ℕ) (report : Report) : Type 0 where
   pub read : report.read ≡ length input
   pub bad : report.bad ≡ malformed_count (input_pieces j input)
   pub lost : report.lost ≡ lost_count (target_of j) (input_text j input)
+  pub no_character : (report.index ≡ 0) × (report.scalar ≡ 0)
 
--- the policy stopped a job at the first character of the input's text that has no bytes, and the report names it
+-- the counts that are reported are 0
+pub record HasNoCounts (report : Report) : Type 0 where
+  pub read : report.read ≡ 0
+  pub bad : report.bad ≡ 0
+  pub lost : report.lost ≡ 0
+
+-- the policy stopped a job at the first character of the input's text that has no bytes, and the report names it, and
+-- counts nothing
 pub record StopsAtFirst (j : Job) (input : List ℕ) (report : Report) : Type 0 where
   pub policy : j.policy ≡ Policy.Stop
   pub first : take 1 (lost_log_lines (target_of j) 0 (input_text j input)) ≡ Lost report.index report.scalar ∷ []
+  pub no_counts : HasNoCounts report
 
 -- a status by which all was converted: it is the verdict
 abbrev pub IsVerdict : (status : ℕ) → Type 0
@@ -54,6 +63,7 @@ pub record IsToldReport (p : RunReport) (report : Report) (status : ℕ) : Type 
   pub read : report.read ≡ p.read
   pub bad : report.bad ≡ p.bad
   pub lost : report.lost ≡ p.lost
+  pub no_character : (report.index ≡ 0) × (report.scalar ≡ 0)
 
 -- what the fault of a run in memory becomes: `NO_MEMORY`, `TOO_LONG`, or `STOPPED` with the character
 abbrev pub IsToldFault : Fault → Report → (status : ℕ) → Type 0
@@ -61,15 +71,34 @@ IsToldFault TheFault.Read report status = status ≡ NO_MEMORY
 IsToldFault TheFault.Write report status = status ≡ NO_MEMORY
 IsToldFault TheFault.Log report status = status ≡ NO_MEMORY
 IsToldFault TheFault.TooLong report status = status ≡ TOO_LONG
-IsToldFault (TheFault.Unmappable index scalar) report status = (status ≡ STOPPED) × (report.index ≡ index) × (report.scalar ≡ scalar)
+IsToldFault (TheFault.Unmappable index scalar) report status = (status ≡ STOPPED) × (report.index ≡ index) × (report.scalar ≡ scalar) × HasNoCounts report
 
--- memory begins with what is reported, and nothing after it has changed
+-- memory begins with what is reported, which it has room for, and nothing after it has changed
 pub record IsHandedOver (j : Job) (input : List ℕ) (dst dst' : List ℕ) (losses losses' : List Loss) (report : Report) (status : ℕ) : Type 0 where
+  pub fits : report.written ≤ length dst'
+  pub losses_fit : report.losses ≤ length losses'
   pub converted : ConvertsInMemory j input (take report.written dst') (take report.losses losses') report status
-  pub behind : drop report.written dst' ≡ drop report.written dst
-  pub losses_behind : drop report.losses losses' ≡ drop report.losses losses
+  pub kept : drop report.written dst' ≡ drop report.written dst
+  pub losses_kept : drop report.losses losses' ≡ drop report.losses losses
 
--- so many bytes and records are wanted as a job makes of an input
+-- so many bytes and records are wanted as a job makes of an input, and nothing else is reported
 pub record IsWanted (j : Job) (input : List ℕ) (report : Report) : Type 0 where
   pub written : report.written ≡ length (output_of j input)
   pub records : (made : List Loss) × (log_of_losses made ≡ log_of j input) × (report.losses ≡ length made)
+  pub no_counts : HasNoCounts report
+  pub no_character : (report.index ≡ 0) × (report.scalar ≡ 0)
+
+-- there is less room than is wanted, and the report says how much is
+pub record IsRoomShort (j : Job) (input dst : List ℕ) (losses : List Loss) (report : Report) : Type 0 where
+  pub wanted : IsWanted j input report
+  pub short : (length dst < report.written) ⊎ (length losses < report.losses)
+
+-- an input within the limit is converted, or there is too little room, or memory was refused
+abbrev pub ConvertsWithin : Job → (input dst dst' : List ℕ) → (losses losses' : List Loss) → Report → (status : ℕ) → Type 0
+ConvertsWithin j input dst dst' losses losses' report status =
+    (IsDone status × IsHandedOver j input dst dst' losses losses' report status) ⊎ ((status ≡ ROOM) × IsRoomShort j input dst' losses' report) ⊎ (status ≡ NO_MEMORY)
+
+-- an input is converted, if the limit of the job allows its length
+abbrev pub ConvertsIfShort : Job → (input dst dst' : List ℕ) → (losses losses' : List Loss) → Report → (status : ℕ) → Type 0
+ConvertsIfShort j input dst dst' losses losses' report status =
+    ((length input ≤ j.limit) × ConvertsWithin j input dst dst' losses losses' report status) ⊎ ((j.limit < length input) × (status ≡ TOO_LONG))

@@ -1,5 +1,5 @@
 -- What the calls of a converter make together.
-use Rattle.std.specs.Prelude.{◌≡◌, ℕ, List, [], ◌++◌, take, Option, Some}
+use Rattle.std.specs.Prelude.{◌≡◌, ◌⊎◌, ℕ, List, [], ◌++◌, take, MatchOption, Option, Some}
 use Rattle.encoding_tables.specs.IndexLists.{IndexLists}
 use Rattle.recode.specs.Devices.{Devices, known}
 use Rattle.recode.specs.Job.{IsValidJob}
@@ -9,7 +9,7 @@ use Rattle.recode.specs.declared.job.Fault.{Fault}
 use Rattle.recode.specs.declared.job.Job.{Job}
 use Rattle.recode.specs.declared.job.Report.{Report as RunReport}
 use Rattle.recode.specs.declared.session.Phase.TheVariants.{Done, Open}
-use Rattle.jillapun_c.specs.Asked.{IsAskedIn}
+use Rattle.jillapun_c.specs.Asked.{IfAsked}
 use Rattle.jillapun_c.specs.Coders.{converter_in}
 use Rattle.jillapun_c.specs.Conversions.{ConvertsInMemory}
 use Rattle.jillapun_c.specs.Converters.{IsNewConverter, held_losses, held_output, view_in}
@@ -19,6 +19,7 @@ use Rattle.jillapun_c.specs.declared.converter.Converter.{Converter}
 use Rattle.jillapun_c.specs.declared.converter.progress.ConverterProgress.{ConverterProgress}
 use Rattle.jillapun_c.specs.declared.losses.Loss.{Loss}
 use Rattle.jillapun_c.specs.declared.report.Report.{Report}
+use Rattle.jillapun_c.specs.declared.status.TheConstants.{IN_USE, NO_MEMORY, OK}
 
 -- an input of which this is still to be read, and what was written to an output and a log
 abbrev pub devices_of : (input output log : List ℕ) → Devices
@@ -53,11 +54,18 @@ abbrev pub JoinsToCalls : Converter → (held : Option Coder) (src dst : List �
 JoinsToCalls c held src dst losses p report status = (j : Job) (input output : List ℕ) (records : List Loss) → IsValidJob j → HasConverted j input output records c
     → HoldsConversion j (input ++ take p.read src) (output ++ take p.written dst) (records ++ take p.losses losses) held report status
 
--- a handle holds a converter that has read nothing, of a valid job that the numbers of a call ask for
-pub record HoldsNewConverter (tables : Option IndexLists) (from to mark policy limit : ℕ) (held : Option Coder) : Type 0 where
-  pub job : Job
-  pub asked : IsAskedIn tables from to mark policy limit job
+-- a handle holds a converter of a job that has read nothing
+pub record HoldsNewConverter (job : Job) (held : Option Coder) : Type 0 where
   pub converter : Converter
   pub held_is : converter_in held ≡ Some converter
   pub is_new : IsNewConverter converter job
   pub so_far : HasConverted job [] [] [] converter
+
+-- a converter of a job is made, or memory is refused
+abbrev pub MakesConverter : (new : Option Coder) (status : ℕ) → Job → Type 0
+MakesConverter new status j = ((status ≡ OK) × HoldsNewConverter j new) ⊎ (status ≡ NO_MEMORY)
+
+-- a converter is made of the job that the numbers of a call ask for, unless the handle holds something already
+abbrev pub OpensConverter : (held : Option Coder) (tables : Option IndexLists) (from to mark policy limit : ℕ) (new : Option Coder) (status : ℕ) → Type 0
+OpensConverter held tables from to mark policy limit new status =
+    MatchOption held (IfAsked tables from to mark policy limit (MakesConverter new status) status) (λ coder. status ≡ IN_USE)

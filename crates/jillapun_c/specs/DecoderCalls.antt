@@ -47,6 +47,7 @@ pub record Decodes (unit : OutputUnit) (before : Decoder) (after : Option Coder)
   pub held : decoder_in after ≡ Some decoder
   pub outcome : CoderResult
   pub told : progress.outcome ≡ text_outcome outcome
+  pub no_length : (progress.malformed_length ≡ 0) × (progress.malformed_after ≡ 0)
   pub call : TextCall (decoder_view before) (decoder_view decoder) src last progress.read Writes free room mark outcome progress.had_errors
   pub enough : IfRoomAsked (decoder_view before) unit (length src) size (outcome ≢ text_.OutputFull)
 
@@ -56,10 +57,12 @@ pub record DecodesUpToFault (unit : OutputUnit) (before : Decoder) (after : Opti
   pub held : decoder_in after ≡ Some decoder
   pub outcome : DecoderResult
   pub told : IsOutcome outcome progress.outcome progress.malformed_length progress.malformed_after
+  pub none_replaced : progress.had_errors ≡ false
   pub call : DecoderCall (decoder_view before) (decoder_view decoder) src last progress.read Writes free room mark outcome
   pub enough : IfRoomAsked (decoder_view before) unit (length src) size (outcome ≢ raw_.OutputFull)
 
--- the room that is asked for the text of so many bytes; SIZE_MAX if it passes a number, there is no decoder, or it ended
+-- the room that is asked for the text of so many bytes; SIZE_MAX if it is more than a length can say, if there is no
+-- decoder, or if its stream has ended
 abbrev pub AsksRoom : OutputUnit → Option Decoder → (size returned : ℕ) → Type 0
 AsksRoom asked_in None size returned = returned ≡ REFUSED
 AsksRoom asked_in (Some d) size returned =

@@ -33,6 +33,7 @@ pub record EncodesAll (is_units : Bool) (before : EncoderState) (after : Option 
   pub held : encoder_in after ≡ Some encoder
   pub outcome : CoderResult
   pub told : progress.outcome ≡ text_outcome outcome
+  pub no_scalar : progress.scalar ≡ 0
   pub wrote : WritesBytes old new progress.written
   pub call : Replaces before last outcome text (take progress.written new) encoder rest progress.had_unmappable (length new)
   pub enough : room_with_reference before.encoding is_units size ≤ length old → progress.had_unmappable ≡ false → outcome ≢ text_.OutputFull
@@ -43,6 +44,7 @@ pub record EncodesUpToLost (is_units : Bool) (before : EncoderState) (after : Op
   pub held : encoder_in after ≡ Some encoder
   pub outcome : EncoderResult
   pub told : IsEncoderOutcome outcome progress.outcome progress.scalar
+  pub none_replaced : progress.had_unmappable ≡ false
   pub wrote : WritesBytes old new progress.written
   pub call : Encoded before last outcome text (take progress.written new) encoder rest (length new - progress.written)
   pub enough : room_without_reference before.encoding is_units size ≤ length old → outcome ≢ raw_.OutputFull

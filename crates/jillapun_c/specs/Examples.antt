@@ -6,6 +6,8 @@ use Rattle.encoding_index.specs.IndexText.{memory_fault}
 use Rattle.encoding_tables.specs.declared.table_fault.TableFault.TheVariants as table
 use Rattle.encoding_front.specs.declared.encoding.Encoding.{Encoding}
 use Rattle.encoding_front.specs.declared.mark.Mark.{Mark}
+use Rattle.recode.specs.declared.job.Policy.{Policy}
+use Rattle.jillapun_c.specs.Asked.{policy_at}
 use Rattle.jillapun_c.specs.EncodingNumbers.{encoding_at, mark_at, needed_file}
 use Rattle.jillapun_c.specs.IndexFiles.{told_of}
 use Rattle.jillapun_c.specs.declared.index_files.FileFault.TheVariants as told
@@ -13,7 +15,7 @@ use Rattle.jillapun_c.specs.declared.converter.progress.TheConstants.ConverterPr
 use Rattle.jillapun_c.specs.declared.encoder_progress.TheConstants.EncoderProgress as encoder_
 use Rattle.jillapun_c.specs.declared.progress.TheConstants.Progress as decoder_
 use Rattle.jillapun_c.specs.declared.report.TheConstants.Report as report_
-use Rattle.jillapun_c.specs.declared.status.TheConstants.{SNIFF, REMOVE, KEEP, NO_ENCODING}
+use Rattle.jillapun_c.specs.declared.status.TheConstants.{SNIFF, REMOVE, KEEP, DECIMAL, HEXADECIMAL, STOP, NO_ENCODING}
 
 -- the numbers of encodings: the first, the last, and none after it
 pub first_encoding : encoding_at 0 ≡ Some Encoding.Big5
@@ -40,6 +42,19 @@ removes = refl
 
 pub keeps : mark_at KEEP ≡ Some Mark.Keep
 keeps = refl
+
+-- the numbers of policies
+pub in_decimal : policy_at DECIMAL ≡ Some Policy.Decimal
+in_decimal = refl
+
+pub in_hexadecimal : policy_at HEXADECIMAL ≡ Some Policy.Hexadecimal
+in_hexadecimal = refl
+
+pub stops : policy_at STOP ≡ Some Policy.Stop
+stops = refl
+
+pub no_policy : policy_at 3 ≡ None
+no_policy = refl
 
 -- the files of EUC-JP, and none after them
 pub first_file_of_euc_jp : needed_file 1 0 ≡ Some (codes "index-jis0208.txt")

@@ -1,11 +1,10 @@
 //! Conversions from memory to memory.
 
-ghost use Rattle.std.specs.Prelude.{◌≡◌, ◌≢◌, ◌<◌, ◌⊎◌, ◌^◌, None, length, min};
-ghost use Rattle.recode.specs.declared.job.Job.{Job};
-ghost use Rattle.jillapun_c.specs.Asked.{AreKnown, IsAskedIn};
-ghost use Rattle.jillapun_c.specs.Conversions.{IsDone, IsHandedOver, IsWanted};
+ghost use Rattle.std.specs.Prelude.{◌≡◌, ◌≢◌};
+ghost use Rattle.jillapun_c.specs.Asked.{IfAsked};
+ghost use Rattle.jillapun_c.specs.Conversions.{ConvertsIfShort, IsDone};
 ghost use Rattle.jillapun_c.specs.declared.report.TheConstants.Report.{NONE};
-ghost use Rattle.jillapun_c.specs.declared.status.TheConstants.{CLOSED, ROOM, TOO_LONG, UNKNOWN};
+ghost use Rattle.jillapun_c.specs.declared.status.TheConstants.{ROOM};
 
 use crate::in_memory::convert_job;
 use crate::losses::Loss;
@@ -21,8 +20,8 @@ use std::alloc::Global;
 ///
 /// `mark` says what becomes of a byte order mark at the start (`SNIFF`, `REMOVE`, `KEEP`), `policy`
 /// what is written for a character without bytes (`DECIMAL`, `HEXADECIMAL`, `STOP`), and `limit`
-/// how many bytes the input may have: 2^48 if it is more. Any number of threads may call at once,
-/// over the same tables.
+/// how many bytes the input may have; a greater number than 2^48 counts as that. Any number of
+/// threads may call at once, over the same tables.
 ///
 /// - `OK`: nothing was malformed, and the output, read again, is the text of the input.
 /// - `LOSSY`: all was converted, and something was lost. `losses` may be empty even so: some
@@ -51,19 +50,11 @@ pub extern "C" fn jillapun_convert(
     losses: &mut [Loss],
     report: &mut Report,
 ) -> u8
-    ensures converts { IsDone result → (j : Job)
-        × IsAskedIn tables.tables from to mark policy limit j
-        × IsHandedOver j src.now dst.old dst.new losses.old losses.new report.new result }
-    ensures room { result ≡ ROOM → (j : Job)
-        × IsAskedIn tables.tables from to mark policy limit j
-        × IsWanted j src.now report.new }
-    ensures small { result ≡ ROOM → (length dst.new < report.new.written)
-        ⊎ (length losses.new < report.new.losses) }
+    ensures converts { IfAsked tables.tables from to mark policy limit
+        (λ j. ConvertsIfShort j src.now dst.old dst.new losses.old losses.new report.new result)
+        result }
     ensures kept { ¬ (IsDone result) → (dst.new ≡ dst.old) × (losses.new ≡ losses.old) }
     ensures nothing { ¬ (IsDone result) → result ≢ ROOM → report.new ≡ NONE }
-    ensures unknown { result ≡ UNKNOWN → ¬ (AreKnown from to mark policy) }
-    ensures long { result ≡ TOO_LONG → min limit (2 ^ 48) < length src.now }
-    ensures closed { tables.tables ≡ None → result ≡ CLOSED }
 {
     *report = Report::NONE;
     let Some(tables) = tables.get() else {

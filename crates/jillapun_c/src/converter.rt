@@ -1,11 +1,10 @@
 //! The exports that convert by steps.
 
-ghost use Rattle.std.specs.Prelude.{◌≡◌, ◌≢◌, [], IsSome, None};
+ghost use Rattle.std.specs.Prelude.{◌≡◌, ◌≢◌, [], None};
 ghost use Rattle.recode.specs.Job.{IsValidJob};
-ghost use Rattle.jillapun_c.specs.Asked.{AreKnown};
-ghost use Rattle.jillapun_c.specs.ConverterRuns.{HasConverted, HoldsNewConverter};
+ghost use Rattle.jillapun_c.specs.ConverterRuns.{HasConverted, OpensConverter};
 ghost use Rattle.jillapun_c.specs.Converters.{IsNewConverter};
-ghost use Rattle.jillapun_c.specs.declared.status.TheConstants.{CLOSED, IN_USE, OK, UNKNOWN};
+ghost use Rattle.jillapun_c.specs.declared.status.TheConstants.{OK};
 
 pub(crate) mod made;
 pub(crate) mod progress;
@@ -87,12 +86,9 @@ pub extern "C" fn jillapun_converter_new(
     limit: u64,
     out: &mut ConverterHandle,
 ) -> u8
-    ensures opens { result ≡ OK
-        → HoldsNewConverter tables.tables from to mark policy limit out.new.coder.coder }
+    ensures opens { OpensConverter out.old.coder.coder tables.tables from to mark policy limit
+        out.new.coder.coder result }
     ensures unchanged { result ≢ OK → out.new.coder.coder ≡ out.old.coder.coder }
-    ensures in_use { IsSome out.old.coder.coder → result ≡ IN_USE }
-    ensures closed { out.old.coder.coder ≡ None → tables.tables ≡ None → result ≡ CLOSED }
-    ensures unknown { result ≡ UNKNOWN → ¬ (AreKnown from to mark policy) }
 {
     if let Some(held) = out.coder.take(alloc) {
         out.coder.put(held);

@@ -1,11 +1,11 @@
 //! Runs from memory to memory.
 
-ghost use Rattle.std.specs.Prelude.{◌≡◌, ◌≢◌, ◌↔◌, ◌<◌, ◌⊎◌, ◌++◌};
+ghost use Rattle.std.specs.Prelude.{◌≡◌, ◌≢◌, ◌<◌, ◌≤◌, ◌⊎◌, ◌++◌};
 ghost use Rattle.std.specs.Prelude.{drop, false, length, true, vec_len};
 ghost use Rattle.recode.specs.Job.{IsValidJob};
-ghost use Rattle.jillapun_c.specs.Conversions.{ConvertsInMemory, IsDone, IsHandedOver, IsWanted};
+ghost use Rattle.jillapun_c.specs.Conversions.{ConvertsIfShort, ConvertsInMemory, IsDone};
 ghost use Rattle.jillapun_c.specs.declared.report.TheConstants.Report.{NONE};
-ghost use Rattle.jillapun_c.specs.declared.status.TheConstants.{ROOM, TOO_LONG, UNKNOWN};
+ghost use Rattle.jillapun_c.specs.declared.status.TheConstants.{ROOM};
 
 use crate::losses::{Loss, LossLog};
 use crate::report::{Report, told};
@@ -48,10 +48,16 @@ fn run_in_memory(alloc: Global, job: Job<'_>, src: &[u8]) -> Made
 // Puts what was made at the start of the caller's memory, if there is room for it, and reports how
 // much it is. Returns whether there is.
 fn hand_over(made: &Made, dst: &mut [u8], losses: &mut [Loss], report: &mut Report) -> bool
-    ensures report { report.new ≡ record made.now.report {
+    ensures report { result ≡ true → report.new ≡ record made.now.report {
       written = vec_len made.now.output;
       losses = vec_len made.now.losses;
     } }
+    ensures wanted { result ≡ false → report.new ≡ record NONE {
+      written = vec_len made.now.output;
+      losses = vec_len made.now.losses;
+    } }
+    ensures fits { result ≡ true → (vec_len made.now.output ≤ length dst.new)
+        × (vec_len made.now.losses ≤ length losses.new) }
     ensures output { result ≡ true
         → dst.new ≡ made.now.output.items ++ drop (vec_len made.now.output) dst.old }
     ensures losses { result ≡ true
@@ -60,14 +66,21 @@ fn hand_over(made: &Made, dst: &mut [u8], losses: &mut [Loss], report: &mut Repo
     ensures small { result ≡ false → (length dst.new < report.new.written)
         ⊎ (length losses.new < report.new.losses) }
 {
-    *report = Report {
-        written: made.output.len() as u64,
-        losses: made.losses.len() as u64,
-        ..made.report
-    };
+    let written = made.output.len() as u64;
+    let records = made.losses.len() as u64;
     if dst.len() < made.output.len() || losses.len() < made.losses.len() {
+        *report = Report {
+            written,
+            losses: records,
+            ..Report::NONE
+        };
         return false;
     }
+    *report = Report {
+        written,
+        losses: records,
+        ..made.report
+    };
     dst[..made.output.len()].copy_from_slice(&made.output);
     losses[..made.losses.len()].copy_from_slice(&made.losses);
     true
@@ -83,15 +96,10 @@ pub(crate) fn convert_job(
     report: &mut Report,
 ) -> u8
     requires { IsValidJob job }
-    ensures done { IsDone result → IsHandedOver job.entry src.now dst.old dst.new losses.old
-        losses.new report.new result }
-    ensures room { result ≡ ROOM → IsWanted job.entry src.now report.new }
-    ensures small { result ≡ ROOM → (length dst.new < report.new.written)
-        ⊎ (length losses.new < report.new.losses) }
+    ensures converts { ConvertsIfShort job.entry src.now dst.old dst.new losses.old losses.new
+        report.new result }
     ensures kept { ¬ (IsDone result) → (dst.new ≡ dst.old) × (losses.new ≡ losses.old) }
     ensures nothing { ¬ (IsDone result) → result ≢ ROOM → report.new ≡ NONE }
-    ensures known { result ≢ UNKNOWN }
-    ensures long { result ≡ TOO_LONG ↔ (job.entry.limit < length src.now) }
 {
     *report = Report::NONE;
     if src.len() as u64 > job.limit {

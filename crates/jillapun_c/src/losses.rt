@@ -26,7 +26,7 @@ impl Loss {
 
     // The record of a line of the log.
     fn of(line: LogLine) -> Loss
-        ensures { line_of result ≡ line }
+        ensures { line_of result ≡ Some line }
     {
         match line {
             LogLine::Bad { offset, length } => Loss {

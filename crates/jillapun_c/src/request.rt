@@ -1,8 +1,7 @@
 //! The numbers of a call, and the job that they ask for.
 
-ghost use Rattle.std.specs.Prelude.{◌≡◌, ◌⊎◌, IfErr, IfNone, IfOk, IfSome};
-ghost use Rattle.jillapun_c.specs.Asked.{AreKnown, IsAskedFor, NamesJob, policy_at};
-ghost use Rattle.jillapun_c.specs.declared.status.TheConstants.{NOT_READY, UNKNOWN};
+ghost use Rattle.std.specs.Prelude.{◌≡◌, IfErr, IfNone, IfOk, IfSome};
+ghost use Rattle.jillapun_c.specs.Asked.{AreKnown, EndsAtOnce, IsAskedFor, NamesJob, policy_at};
 
 use crate::encoding_number::{encoding_of, mark_of};
 use crate::status::{DECIMAL, HEXADECIMAL, NOT_READY, STOP, UNKNOWN};
@@ -57,9 +56,8 @@ impl Request {
     pub(crate) fn job(self, tables: &Tables) -> Result<Job<'_>, u8>
         ensures ok { IfOk result
             (IsAskedFor tables.now self.from self.to self.mark self.policy self.limit) }
-        ensures err { IfErr result (λ s. (s ≡ UNKNOWN) ⊎ (s ≡ NOT_READY)) }
-        ensures unknown { IfErr result (λ s. s ≡ UNKNOWN
-            → ¬ (AreKnown self.from self.to self.mark self.policy)) }
+        ensures err { IfErr result
+            (EndsAtOnce tables.now self.from self.to self.mark self.policy self.limit) }
     {
         let Some(job) = self.named(tables) else {
             return Err(UNKNOWN);

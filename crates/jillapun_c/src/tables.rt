@@ -1,6 +1,6 @@
 //! The exports that load tables.
 
-ghost use Rattle.std.specs.Prelude.{◌≡◌, ◌≢◌, None, IsSome, IsSomeAnd};
+ghost use Rattle.std.specs.Prelude.{◌≡◌, ◌≢◌, ◌⊎◌, None, IsSome, IsSomeAnd};
 ghost use Rattle.jillapun_c.specs.IndexFiles.{HoldFiles, IsFaultTold, IsToldAt};
 ghost use Rattle.jillapun_c.specs.declared.status.TheConstants.{IN_USE, OK};
 
@@ -24,9 +24,9 @@ pub struct IndexFault {
 /// be used, or all that the Encoding Standard publishes. The texts are not needed after the call.
 ///
 /// Returns `OK`, and `out` holds the tables; or `IN_USE`, it holds some already. On an error `out`
-/// is as it was, and `fault` says which file it is: `UNKNOWN`, no index has a file of that name;
-/// `BAD_INDEX`, the text has a fault, or the index was loaded already; `NO_MEMORY`, memory was
-/// refused, and the call can be made again.
+/// is as it was, and `fault`, which else stays as it was, says which file it is: `UNKNOWN`, no
+/// index has a file of that name; `BAD_INDEX`, the text has a fault, or the index was loaded
+/// already; `NO_MEMORY`, memory was refused, and the call can be made again.
 ///
 /// The tables are never freed, so that they can be shared by all threads: load them once.
 #[unsafe(no_mangle)]
@@ -41,6 +41,7 @@ pub extern "C" fn jillapun_tables_new(
     ensures refused { out.old.tables ≡ None → result ≢ OK
         → IsToldAt files.now fault.new.file fault.new.line result }
     ensures unchanged { result ≢ OK → out.new.tables ≡ out.old.tables }
+    ensures untold { (result ≡ OK) ⊎ (result ≡ IN_USE) → fault.new ≡ fault.old }
 {
     if let Some(held) = out.take() {
         *out = TablesHandle::of(held);

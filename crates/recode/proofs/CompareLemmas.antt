@@ -7,7 +7,7 @@ use Rattle.encoding_mem.specs.calls.Decoding.{DecoderState, StateLaw, Waits}
 use Rattle.encoding_mem.specs.Piece.{Piece, malformed, scalars, text, AreWellFormed}
 use Rattle.encoding_mem.specs.calls.ReadCalls.{AreRead, HasTakenPart}
 use Rattle.encoding_mem.specs.laws.Agreement.{well_formed_parts}
-use Rattle.encoding_mem.specs.laws.Piece.{AreWellFormed-append, text-append}
+use Rattle.encoding_mem.specs.laws.Piece.{AreWellFormed-append, text-append, well_formed_text}
 use Rattle.encoding_mem.specs.laws.Verdict.{part_begins, part_ends, part_is_decided}
 use Rattle.encoding_mem.specs.declared.decoder_result.DecoderResult.{DecoderResult}
 use Rattle.encoding_mem.specs.declared.decoder_result.DecoderResult.TheVariants.{InputEmpty, OutputFull, Malformed}
@@ -24,11 +24,6 @@ pub record HasCompared (before now : List ℕ → List Piece) (bytes left t expe
 pub compares_start : (before : List ℕ → List Piece) (bytes t : List ℕ) → HasCompared before before bytes bytes t t
 compares_start before bytes t = record { taken = []; has = part_begins before bytes; well_formed = tt; same = refl }
 
-pub text_of_scalars : (ps : List Piece) → AreWellFormed ps → text ps ≡ scalars ps
-text_of_scalars [] h = refl
-text_of_scalars (Rattle.encoding_mem.specs.Piece.well_formed n cs ∷ ps) h = ap (λ x. cs ++ x) (text_of_scalars ps h.1)
-text_of_scalars (malformed n ∷ ps) h = absurd h.0
-
 no_last : (r : List ℕ) → false ≡ true → r ≡ []
 no_last r h = absurd (false≢true h)
 
@@ -43,7 +38,7 @@ module _ (before : List ℕ → List Piece) (s s' : DecoderState) (bytes left t 
     taken = h.taken ++ k.taken;
     has = taken_on h k.taken (λ r. k.rest r (no_last r)) h;
     well_formed = AreWellFormed-append h.taken k.taken h.well_formed k.fine;
-    same = h.same ∙ ap (λ l. text h.taken ++ l) (is ∙ ap (λ l. l ++ more) (k.text_is ∙ sym (text_of_scalars k.taken k.fine))) ∙ sym (append_assoc (text h.taken) (text k.taken) more)
+    same = h.same ∙ ap (λ l. text h.taken ++ l) (is ∙ ap (λ l. l ++ more) (k.text_is ∙ sym (well_formed_text k.taken k.fine))) ∙ sym (append_assoc (text h.taken) (text k.taken) more)
         ∙ ap (λ l. l ++ more) (sym (text-append h.taken k.taken));
   }
 
@@ -59,7 +54,7 @@ module _ (before : List ℕ → List Piece) (s s' : DecoderState) (bytes left t 
   pub compares_other : (h : HasCompared before s.pieces bytes left t expected) (k : WellFormedCall s s' left false read part) → (((more : List ℕ) × (expected ≡ part ++ more)) → ⊥) → ReadsAsOther before s'.pieces bytes t
   compares_other h k differs =
       let has = taken_on h k.taken (λ r. k.rest r (no_last r)) h in
-      inl (h.taken ++ k.taken, part_is_decided before s'.pieces bytes (drop read left) (h.taken ++ k.taken) has, other_part h k.taken (text_of_scalars k.taken k.fine ∙ sym k.text_is) differs)
+      inl (h.taken ++ k.taken, part_is_decided before s'.pieces bytes (drop read left) (h.taken ++ k.taken) has, other_part h k.taken (well_formed_text k.taken k.fine ∙ sym k.text_is) differs)
 
   pub compares_malformed : (h : HasCompared before s.pieces bytes left t expected) (a b : ℕ) (k : MalformedCall s s' left false read a b part) → ReadsAsOther before s'.pieces bytes t
   compares_malformed h a b k =

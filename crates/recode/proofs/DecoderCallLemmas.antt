@@ -13,6 +13,8 @@ use Rattle.encoding_mem.specs.calls.Decoding.{DecoderState, Takes, StateLaw}
 use Rattle.encoding_mem.specs.declared.form.EscapeState.TheVariants.{Ascii}
 use Rattle.encoding_mem.specs.declared.decoder_result.DecoderResult.{DecoderResult}
 use Rattle.encoding_mem.specs.declared.decoder_result.DecoderResult.TheVariants.{InputEmpty, OutputFull, Malformed}
+use Rattle.encoding_mem.specs.laws.Piece.{scalars-append, sizes-append}
+use Rattle.encoding_mem.specs.laws.EncoderCalls.{last_set-append}
 use Rattle.recode.specs.calls.TraceToWrite.{trace_to_write, AreSound}
 use Rattle.recode.specs.declared.target.Counts.{Counts}
 
@@ -26,10 +28,6 @@ open_items-append ref e s i (c ∷ a) b =
     (open_items-append ref e (e.set s c) (i + 1) a b ∙ ap (λ (n : ℕ). open_items ref e (e.set s c) (i + 1) a ++ open_items ref e (last_set e (e.set s c) a) n b) same)
     ∙ ap (λ x. map Byte (e.escape s (e.set s c)) ++ x) (sym (append_assoc (Rattle.encoding_mem.specs.Items.form_items ref i (e.form c)) (open_items ref e (e.set s c) (i + 1) a) rest))
     ∙ sym (append_assoc (map Byte (e.escape s (e.set s c))) (Rattle.encoding_mem.specs.Items.form_items ref i (e.form c) ++ open_items ref e (e.set s c) (i + 1) a) rest)
-
-pub last_set-append : (e : Coding) (s : EscapeState) (a b : List ℕ) → last_set e s (a ++ b) ≡ last_set e (last_set e s a) b
-last_set-append e s [] b = refl
-last_set-append e s (c ∷ a) b = last_set-append e (e.set s c) a b
 
 -- of well-formed pieces, and then others
 pub trace_well_formed : (ref : Reference) (e : Coding) (s : EscapeState) (offset i : ℕ) (ps qs : List Piece) → AreWellFormed ps
@@ -72,14 +70,6 @@ all_scalars-append (c ∷ a) b h k =
 pub scalars_are : (ps : List Piece) → ArePieces ps → all_scalars (scalars ps) ≡ true
 scalars_are [] h = refl
 scalars_are (p ∷ ps) h = all_scalars-append (piece_scalars p) (scalars ps) h.0.are_scalars (scalars_are ps h.1)
-
-pub sizes-append : (a b : List Piece) → sizes (a ++ b) ≡ sizes a + sizes b
-sizes-append [] b = omega arith
-sizes-append (p ∷ a) b = omega (arith, sizes-append a b)
-
-pub scalars-append : (a b : List Piece) → scalars (a ++ b) ≡ scalars a ++ scalars b
-scalars-append [] b = refl
-scalars-append (p ∷ a) b = ap (λ x. piece_scalars p ++ x) (scalars-append a b) ∙ sym (append_assoc (piece_scalars p) (scalars a) (scalars b))
 
 -- U+FFFD
 pub replacement_text : chars (239 ∷ 191 ∷ 189 ∷ []) ≡ 0xFFFD ∷ []

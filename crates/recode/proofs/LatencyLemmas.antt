@@ -14,6 +14,8 @@ use Rattle.encoding_mem.specs.Items.{Item, trace_from}
 use Rattle.encoding_mem.specs.declared.form.EscapeState.{EscapeState}
 use Rattle.encoding_mem.specs.declared.form.EscapeState.TheVariants.{Ascii}
 use Rattle.encoding_mem.specs.Decided.{AreBytes, IsDecided, IsFixed}
+use Rattle.encoding_mem.specs.laws.Piece.{sizes-append, text-append, well_formed_text}
+use Rattle.encoding_mem.specs.laws.EncoderCalls.{last_set-append, open_from-append}
 use Rattle.recode_log.specs.Line.{line_bytes}
 use Rattle.recode_log.specs.declared.line.LogLine.{LogLine}
 use Rattle.recode_log.specs.declared.line.LogLine.TheVariants.{Bad}
@@ -30,26 +32,16 @@ use Rattle.recode.specs.Session.{IsNewSession, View}
 use Rattle.recode.specs.declared.target.Counts.{Counts}
 use Rattle.recode.specs.declared.job.Job.{Job}
 use Rattle.recode.specs.declared.job.Policy.{Policy}
-use Rattle.recode.proofs.DecoderCallLemmas.{MalformedCall, WellFormedCall, last_set-append, sizes-append}
+use Rattle.recode.proofs.DecoderCallLemmas.{MalformedCall, WellFormedCall}
 use Rattle.recode.proofs.HeldLemmas.{written_whole}
-use Rattle.recode.proofs.TraceLemmas.{log_bytes-append_of_items, tagged-append, output_bytes-append, log_bytes-trace, output_bytes-trace, whole_from-append, open_from-append}
-
--- The text of pieces in a row.
-pub text-append : (a b : List Piece) → text (a ++ b) ≡ text a ++ text b
-text-append [] b = refl
-text-append (p ∷ a) b = ap (λ x. piece_text p ++ x) (text-append a b) ∙ sym (append_assoc (piece_text p) (text a) (text b))
-
-text_well_formed : (ps : List Piece) → AreWellFormed ps → text ps ≡ scalars ps
-text_well_formed [] h = refl
-text_well_formed (well_formed n cs ∷ ps) h = ap (λ x. cs ++ x) (text_well_formed ps h.1)
-text_well_formed (malformed n ∷ ps) h = absurd h.0
+use Rattle.recode.proofs.TraceLemmas.{log_bytes-append_of_items, tagged-append, output_bytes-append, log_bytes-trace, output_bytes-trace, whole_from-append}
 
 -- If it does not end.
 module _ (before after : DecoderState) (src : List ℕ) (read : ℕ) (t : List ℕ) where
   pub well_formed_advances : (last : Bool) (k : WellFormedCall before after src last read t) (e : Coding) (s s' : EscapeState) (c c' : Counts) → last ≡ false → s' ≡ last_set e s t → c'.index ≡ c.index + length t
       → Advances (λ r. before.pieces (src ++ r)) (λ r. after.pieces (drop read src ++ r)) e s s' c c'
   well_formed_advances last k e s s' c c' on set_is index_is =
-      let is : t ≡ text k.taken = k.text_is ∙ sym (text_well_formed k.taken k.fine) in
+      let is : t ≡ text k.taken = k.text_is ∙ sym (well_formed_text k.taken k.fine) in
       record {
         taken = k.taken;
         rest = λ r. k.rest r (λ h. absurd (false≢true (sym on ∙ h)));
@@ -62,7 +54,7 @@ module _ (before after : DecoderState) (src : List ℕ) (read : ℕ) (t : List �
       → Advances (λ r. before.pieces (src ++ r)) (λ r. after.pieces (drop read src ++ r)) e s s' c c'
   malformed_advances last a b k e s s1 s' c c1 c' on set1_is index1_is set_is index_is =
       let is : text (k.prefix ++ (malformed a ∷ [])) ≡ t ++ (0xFFFD ∷ []) =
-      text-append k.prefix (malformed a ∷ []) ∙ ap (λ x. x ++ (0xFFFD ∷ [])) (text_well_formed k.prefix k.fine ∙ sym k.text_is) in
+      text-append k.prefix (malformed a ∷ []) ∙ ap (λ x. x ++ (0xFFFD ∷ [])) (well_formed_text k.prefix k.fine ∙ sym k.text_is) in
       record {
         taken = k.prefix ++ (malformed a ∷ []);
         rest = λ r. k.rest r (λ h. absurd (false≢true (sym on ∙ h))) ∙ sym (append_assoc k.prefix (malformed a ∷ []) (after.pieces (drop read src ++ r)));

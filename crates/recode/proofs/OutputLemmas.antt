@@ -11,6 +11,7 @@ use Rattle.encoding_mem.specs.laws.EncoderCalls.{utf8_lost_count}
 use Rattle.encoding_mem.specs.laws.ReadBack.{all_in_utf8, none_lost, all_mapped}
 use Rattle.encoding_mem.specs.Utf8Coding.{utf8_coding}
 use Rattle.encoding_mem.specs.declared.form.EscapeState.TheVariants.{Ascii}
+use Rattle.encoding_mem.specs.laws.Piece.{well_formed_count}
 use Rattle.encoding_front.specs.Encodings.{IsUtf8Encoding, coding_of, output_encoding_of}
 use Rattle.encoding_front.specs.laws.Input.{marked_scalars, recoded_at_once}
 use Rattle.encoding_front.specs.Marks.{marked_pieces, marked_text}
@@ -26,7 +27,7 @@ use Rattle.recode.specs.Session.{IsReport, IsConverted}
 use Rattle.recode.specs.declared.job.Job.{Job}
 use Rattle.recode.specs.declared.job.Report.{Report}
 use Rattle.recode.proofs.TraceLemmas.{lost_line_count-trace}
-use Rattle.recode.proofs.RunLemmas.{well_formed_count, none_malformed}
+use Rattle.recode.proofs.RunLemmas.{none_malformed}
 use Rattle.recode.proofs.StopLemmas.{kept_where_quiet, mapped_through, mapped_where_faithful, output_where_spared, quiet_where_kept, runs_through, trace_where_spared}
 
 -- The output, read back.

@@ -34,11 +34,6 @@ none_malformed [] h = tt
 none_malformed (well_formed n cs ∷ ps) h = (tt, none_malformed ps h)
 none_malformed (malformed n ∷ ps) h = absurd (omega arith)
 
-pub well_formed_count : (ps : List Piece) → AreWellFormed ps → malformed_count ps ≡ 0
-well_formed_count [] h = refl
-well_formed_count (well_formed n cs ∷ ps) h = well_formed_count ps h.1
-well_formed_count (malformed n ∷ ps) h = absurd h.0
-
 -- nothing was lost if each piece is well-formed and each character has bytes, and only then
 pub faithful_where_kept : (j : Job) (x : List ℕ) → IsValidJob j → KeepsCharacters j.to → AreWellFormed (input_pieces j x) → AllMapped (target_of j) (input_text j x) → Faithful j x
 faithful_where_kept j x v keeps h k =

@@ -14,7 +14,7 @@ use Rattle.encoding_mem.specs.declared.form.Form.TheVariants.{Mapped, Unmapped}
 use Rattle.encoding_mem.specs.declared.form.EscapeState.{EscapeState}
 use Rattle.encoding_mem.specs.declared.form.EscapeState.TheVariants.{Ascii}
 use Rattle.encoding_mem.specs.laws.Agreement.{open_reads}
-use Rattle.encoding_mem.specs.laws.EncoderCalls.{item_bytes-append, item_bytes-bytes, mapped_open}
+use Rattle.encoding_mem.specs.laws.EncoderCalls.{item_bytes-append, item_bytes-bytes, mapped_open, last_set-append}
 use Rattle.encoding_mem.specs.laws.ReadBack.{none_lost}
 use Rattle.encoding_mem.specs.laws.ReadCalls.{begins_along, broken_never_reads_on, lost_never_reads, reads_on, scalars_parts}
 use Rattle.encoding_front.specs.Encodings.{set_pieces_of}
@@ -29,7 +29,6 @@ use Rattle.recode.specs.TaggedByte.{log_bytes, output_bytes, tagged}
 use Rattle.recode.specs.WrittenItems.{IsSpared}
 use Rattle.recode.specs.declared.job.Job.{Job}
 use Rattle.recode.specs.declared.job.Policy.{Policy}
-use Rattle.recode.proofs.DecoderCallLemmas.{last_set-append}
 use Rattle.recode.proofs.TraceLemmas.{cut_spared, kept_where_no_lines, log_bytes-trace, lost_line_count-bytes, lost_line_count-trace, no_lines, no_lines_without_bytes, output_bytes-append, output_bytes-tagged, output_bytes-trace, tagged-append, written_whole}
 
 -- If nothing stops it.

@@ -21,12 +21,11 @@ use Rattle.encoding_mem.specs.declared.form.EscapeState.TheVariants.{Ascii}
 use Rattle.recode.specs.declared.target.Counts.{Counts}
 use Rattle.std.specs.List.{flat_map}
 use Rattle.encoding_mem.specs.Piece.{Piece, well_formed, malformed, text, malformed_count, AreWellFormed}
-use Rattle.encoding_mem.specs.laws.EncoderCalls.{item_bytes-append, item_bytes-bytes, item_bytes-open_items}
+use Rattle.encoding_mem.specs.laws.EncoderCalls.{item_bytes-append, item_bytes-bytes, item_bytes-open_items, all_mapped-append, last_set-append, open_from-append}
 use Rattle.encoding_mem.specs.declared.form.Form.{Form}
 use Rattle.encoding_mem.specs.declared.form.Form.TheVariants.{Mapped, Unmapped}
 use Rattle.recode_log.specs.declared.line.LogLine.{LogLine}
 use Rattle.recode.specs.Job.{form_lines, lost_log_lines, log_lines}
-use Rattle.recode.proofs.DecoderCallLemmas.{last_set-append}
 use Rattle.recode_log.specs.declared.line.LogLine.TheVariants.{Bad, Lost}
 
 pub output_bytes-append : (s t : List TaggedByte) → output_bytes (s ++ t) ≡ output_bytes s ++ output_bytes t
@@ -295,15 +294,6 @@ output_bytes-tagged (MalformedAt offset size ∷ t) =
 output_bytes-tagged (LostAt index scalar ∷ t) =
     output_bytes-append (map Line (line_bytes (LogLine.Lost index scalar))) (tagged t) ∙ ap (λ x. x ++ output_bytes (tagged t)) (output_bytes-lines (line_bytes (LogLine.Lost index scalar))) ∙ output_bytes-tagged t
 
-pub open_from-append : (ref : Reference) (e : Coding) (s : EscapeState) (a b : List ℕ) → open_from ref e s (a ++ b) ≡ open_from ref e s a ++ open_from ref e (last_set e s a) b
-open_from-append ref e s [] b = refl
-open_from-append ref e s (c ∷ a) b =
-    let escape : List ℕ = e.escape s (e.set s c) in
-    let form : List ℕ = Rattle.encoding_mem.specs.Coding.spelled ref (e.form c) in
-    ap (λ x. escape ++ (form ++ x)) (open_from-append ref e (e.set s c) a b)
-    ∙ ap (λ x. escape ++ x) (sym (append_assoc form (open_from ref e (e.set s c) a) (open_from ref e (last_set e (e.set s c) a) b)))
-    ∙ sym (append_assoc escape (form ++ open_from ref e (e.set s c) a) (open_from ref e (last_set e (e.set s c) a) b))
-
 pub whole_from-append : (ref : Reference) (e : Coding) (s : EscapeState) (a b : List ℕ) → whole_from ref e s (a ++ b) ≡ open_from ref e s a ++ whole_from ref e (last_set e s a) b
 whole_from-append ref e s a b =
     ap (λ x. x ++ e.escape (last_set e s (a ++ b)) Ascii) (open_from-append ref e s a b)
@@ -448,10 +438,6 @@ mapped_before : (e : Coding) (a b : List ℕ) → AllMapped e (a ++ b) → AllMa
 mapped_before e [] b h = (tt, h)
 mapped_before e (c ∷ a) b h = let more = mapped_before e a b h.1 in ((h.0, more.0), more.1)
 
-mapped_both : (e : Coding) (a b : List ℕ) → AllMapped e a → AllMapped e b → AllMapped e (a ++ b)
-mapped_both e [] b h k = k
-mapped_both e (c ∷ a) b h k = (h.0, mapped_both e a b h.1 k)
-
 -- Pieces have no line of the log exactly when none is malformed and each scalar of their text has bytes.
 pub no_lines : (e : Coding) (offset i : ℕ) (ps : List Piece) → AreWellFormed ps → AllMapped e (text ps) → log_lines e offset i ps ≡ []
 no_lines e offset i [] h k = refl
@@ -465,7 +451,7 @@ kept_where_no_lines e offset i [] h = (tt, tt)
 kept_where_no_lines e offset i (well_formed n cs ∷ ps) h =
     let one = mapped_where_no_line e i cs (log_lines e (offset + n) (i + length cs) ps) h in
     let more = kept_where_no_lines e (offset + n) (i + length cs) ps one.1 in
-    ((tt, more.0), mapped_both e cs (text ps) one.0 more.1)
+    ((tt, more.0), all_mapped-append e cs (text ps) one.0 more.1)
 kept_where_no_lines e offset i (malformed n ∷ ps) h = absurd (cc)
 
 -- a line has bytes

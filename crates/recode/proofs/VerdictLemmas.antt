@@ -11,7 +11,7 @@ use Rattle.encoding_mem.specs.Piece.{Piece, well_formed, malformed, text, AreWel
 use Rattle.encoding_mem.specs.calls.ReadCalls.{CallsAlong, HoldsAfter, KeepsVerdict, IsNotUnmappable, ReadsAlong, ReadsWhole}
 use Rattle.encoding_mem.specs.calls.Decoding.{DecoderState}
 use Rattle.encoding_mem.specs.laws.Agreement.{well_formed_parts}
-use Rattle.encoding_mem.specs.laws.Piece.{AreWellFormed-append, text-append}
+use Rattle.encoding_mem.specs.laws.Piece.{AreWellFormed-append, text-append, well_formed_text}
 use Rattle.encoding_mem.specs.laws.ReadCalls.{begins_along, differing_part_never_reads, ends_along, lost_never_reads, next_along, verdict_of_call}
 use Rattle.encoding_mem.specs.laws.Verdict.{keeps_agreed, keeps_false, keeps_lost}
 use Rattle.encoding_mem.specs.declared.form.EscapeState.{EscapeState}
@@ -20,7 +20,6 @@ use Rattle.encoding_mem.specs.declared.reference.Reference.{Reference}
 use Rattle.encoding_mem.specs.declared.encoder_result.EncoderResult.{EncoderResult}
 use Rattle.encoding_mem.specs.declared.encoder_result.EncoderResult.TheVariants.{InputEmpty, OutputFull, Unmappable}
 use Rattle.recode.specs.calls.Verdict.{CanTell, IsFaithfulFor, IsReadAlong, IsReadBack, IsToldAtEnd, IsToldByLog, VerdictIsKept, ReadsAsOther, ReadsAsText, VerdictView, to_read}
-use Rattle.recode.proofs.CompareLemmas.{text_of_scalars}
 use Rattle.recode.proofs.DecoderCallLemmas.{MalformedCall, WellFormedCall}
 
 -- ---- facts that have one proof
@@ -218,7 +217,7 @@ module _ (ref : Reference) (before after : DecoderState) (src : List ℕ) (last 
   pub well_formed_verdict : (k : WellFormedCall before after src last read t) (ended : Bool) → VerdictIsKept e ended v s t v' s' [] → (IsTrue ended → (r : List ℕ) → (last ≡ true → r ≡ []) → after.pieces (drop read src ++ r) ≡ [])
       → (r : List ℕ) → (last ≡ true → r ≡ []) → IsFaithfulFor ref v e s (before.pieces (src ++ r)) ↔ IsFaithfulFor ref v' e s' (after.pieces (drop read src ++ r))
   well_formed_verdict k ended keeps none r h =
-      faithful_on ref e ended v v' s s' k.taken (after.pieces (drop read src ++ r)) (before.pieces (src ++ r)) t keeps (λ end. ap text (none end r h)) k.fine (text_of_scalars k.taken k.fine ∙ sym k.text_is) (k.rest r h)
+      faithful_on ref e ended v v' s s' k.taken (after.pieces (drop read src ++ r)) (before.pieces (src ++ r)) t keeps (λ end. ap text (none end r h)) k.fine (well_formed_text k.taken k.fine ∙ sym k.text_is) (k.rest r h)
 
   pub malformed_verdict : (a b : ℕ) (k : MalformedCall before after src last read a b t) → v'.faithful ≡ false
       → (r : List ℕ) → (last ≡ true → r ≡ []) → IsFaithfulFor ref v e s (before.pieces (src ++ r)) ↔ IsFaithfulFor ref v' e s' (after.pieces (drop read src ++ r))

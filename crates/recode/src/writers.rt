@@ -25,13 +25,15 @@ pub struct MalformedLine {
 /// character without bytes.
 ///
 /// What is to be written is held first: the line of a malformed sequence, and after it bytes of
-/// the output, at the start of the buffer. It is delivered before the next line, so each line is
-/// written after the bytes that come before it; and if the buffer has little room left. All bytes
-/// that are held go out in one call, and so do two lines with no bytes between them.
+/// the output, at the start of the buffer. It is delivered before the next line, so that each line
+/// is written after the bytes that come before it; if the buffer has little room left; and at the
+/// end of a step. All bytes that are held go out in one call, and so do two lines with no bytes
+/// between them.
 #[derive(Drop)]
 pub struct Writers<'w, W, L> {
-    /// It is the first field, since of three references the prover follows the last two to the end
-    /// of a step, and of the buffer the length is enough.
+    /// The bytes that are held stand at its start. It is the first field since the prover follows
+    /// the last two of three references to the end of a step, and of this one needs the length
+    /// alone.
     pub buffer: &'w mut [u8],
     /// The line that is held, which is written before the bytes.
     pub line: Option<MalformedLine>,

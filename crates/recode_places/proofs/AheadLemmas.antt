@@ -1,4 +1,4 @@
--- What is left of a log fits what a walk has still to pass.
+-- What a walk has still to pass: what is left of a log fits it, and what is found in it is still to be told.
 use Rattle.std.proofs.Common.{◌≡◌, ℕ, ◌+◌, ◌-◌, ◌<◌, ◌≤◌, Bool, true, Option, Some, None, Result, Ok, Err, IfErr, IsErrAnd, IsOk, List, [], ◌∷◌, ◌++◌, refl, sym, ◌∙◌, ap, subst, arith, append-nil, append_assoc, drop}
 use Rattle.encoding_mem.specs.Piece.{Piece, well_formed, malformed, sizes, scalars, text, AreWellFormed, ArePieces}
 use Rattle.encoding_mem.specs.laws.Piece.{sizes-append}
@@ -8,11 +8,16 @@ use Rattle.encoding_mem.specs.declared.decoder_result.DecoderResult.TheVariants.
 use Rattle.std.proofs.lemmas.Bool.{false≢true}
 use Rattle.std.proofs.lemmas.Option.{none-some, same_Some}
 use Rattle.std.specs.Io.KnownBytes.{Consumes, IsAtEnd}
+use Rattle.recode_places.specs.Findings.{Asked, TellsFound, found_in, found_in_text}
 use Rattle.recode_places.specs.Fits.{Fits, FitsFrom, FitsText, IsLeftOfLog, IsNotUnfit}
+use Rattle.recode_places.specs.declared.entry.Entry.{Entry}
+use Rattle.recode_places.specs.declared.entry.Finding.{Finding}
+use Rattle.recode_places.specs.declared.entry.Finding.TheVariants as found
 use Rattle.recode_places.specs.declared.entry.Stop.{Stop}
 use Rattle.recode_places.specs.Logs.{IsLogEnd, LogLeft, bytes, ended, broken, unknown}
-use Rattle.recode_places.specs.calls.Walks.{FitsAhead, WalkState}
+use Rattle.recode_places.specs.calls.Walks.{FitsAhead, TellsPassed, WalkState, found_ahead}
 use Rattle.recode_places.proofs.CallLemmas.{IsCutAt, cut_at, reported, taken_pieces}
+use Rattle.recode_places.proofs.FoundLemmas.{found_before, found_then, pieces_found}
 
 pub left_map : (P Q : List ℕ → Type 0) (left : LogLeft) → ((x : List ℕ) → P x → Q x) → IsLeftOfLog P left → IsLeftOfLog Q left
 left_map P Q (bytes x) f h = f x h
@@ -45,21 +50,40 @@ module _ (v : WalkState) (d : DecoderState) (src : List ℕ) (last : Bool) (n : 
   abbrev pub offset_after : ℕ
   offset_after = v.read - v.decoder.pending + sizes parts.before
 
+  -- what comes next, cut after the text that a call gave
+  cut_ahead : v.decoder.pieces (src ++ r) ≡ parts.before ++ (reported o ++ d.pieces (drop n src ++ r))
+  cut_ahead = k.rest r end ∙ ap (λ ps. ps ++ d.pieces (drop n src ++ r)) parts.whole ∙ append_assoc parts.before (reported o) (d.pieces (drop n src ++ r))
+
   -- the text that a call gave
   pub ahead_text : (left : LogLeft) → FitsAhead v left (src ++ r) → IsLeftOfLog (FitsFrom v.place.index offset_after cs (reported o ++ d.pieces (drop n src ++ r))) left
   ahead_text left h =
       let qs = reported o ++ d.pieces (drop n src ++ r) in
-      let whole : v.decoder.pieces (src ++ r) ≡ parts.before ++ qs = k.rest r end ∙ ap (λ ps. ps ++ d.pieces (drop n src ++ r)) parts.whole ∙ append_assoc parts.before (reported o) (d.pieces (drop n src ++ r)) in
       subst (λ t. IsLeftOfLog (FitsFrom v.place.index offset_after t qs) left) (sym (is ∙ parts.same))
-      (left_map _ _ left (λ x m. fits_text v.place.index (v.read - v.decoder.pending) parts.before qs x parts.well_formed (subst (λ ps. Fits v.place.index (v.read - v.decoder.pending) ps x) whole m)) h)
+      (left_map _ _ left (λ x m. fits_text v.place.index (v.read - v.decoder.pending) parts.before qs x parts.well_formed (subst (λ ps. Fits v.place.index (v.read - v.decoder.pending) ps x) cut_ahead m)) h)
 
   -- a call that reported nothing
+  done_offset : reported o ≡ [] → offset_after ≡ v.read + n - d.pending
+  done_offset none = omega (arith, within, k.counted, ap sizes (parts.whole ∙ ap (λ x. parts.before ++ x) none ∙ append-nil parts.before))
+
   pub ahead_done : (i : ℕ) (left : LogLeft) → reported o ≡ [] → IsLeftOfLog (Fits i offset_after (reported o ++ d.pieces (drop n src ++ r))) left
       → IsLeftOfLog (Fits i (v.read + n - d.pending) (d.pieces (drop n src ++ r))) left
   ahead_done i left none h =
-      let offset : offset_after ≡ v.read + n - d.pending = omega (arith, within, k.counted, ap sizes (parts.whole ∙ ap (λ x. parts.before ++ x) none ∙ append-nil parts.before)) in
-      subst (λ p. IsLeftOfLog (Fits i p (d.pieces (drop n src ++ r))) left) offset
+      subst (λ p. IsLeftOfLog (Fits i p (d.pieces (drop n src ++ r))) left) (done_offset none)
       (subst (λ q. IsLeftOfLog (Fits i offset_after (q ++ d.pieces (drop n src ++ r))) left) none h)
+
+  -- what is found in the text, and then what is still ahead
+  found_ahead_text : (a : Asked) → found_ahead a v (src ++ r) ≡ found_in_text a cs ++ found_in a offset_after (reported o ++ d.pieces (drop n src ++ r))
+  found_ahead_text a =
+      let qs = reported o ++ d.pieces (drop n src ++ r) in
+      ap (found_in a (v.read - v.decoder.pending)) cut_ahead ∙ pieces_found a (v.read - v.decoder.pending) parts.before qs parts.well_formed
+      ∙ ap (λ t. found_in_text a t ++ found_in a offset_after qs) (sym (is ∙ parts.same))
+
+  pub tells_done : (a : Asked) (t u : Option (List Entry)) → reported o ≡ [] → TellsFound a (found_in_text a cs) [] t u → TellsFound a (found_ahead a v (src ++ r)) (found_in a (v.read + n - d.pending) (d.pieces (drop n src ++ r))) t u
+  tells_done a t u none h =
+      let qs = d.pieces (drop n src ++ r) in
+      let rest = found_in a (v.read + n - d.pending) qs in
+      let ahead = found_ahead_text a ∙ ap (λ x. found_in_text a cs ++ x) (ap (λ q. found_in a offset_after (q ++ qs)) none ∙ ap (λ p. found_in a p qs) (done_offset none)) in
+      subst (λ fs. TellsFound a fs rest t u) (sym ahead) (found_before a (found_in_text a cs) rest t u h)
 
   -- a call that reported a malformed sequence
   module _ (a b : ℕ) (o_is : o ≡ Malformed a b) where
@@ -72,19 +96,35 @@ module _ (v : WalkState) (d : DecoderState) (src : List ℕ) (last : Bool) (n : 
     pub some_bytes : 0 < a
     some_bytes = last_piece parts.before a (subst ArePieces ends (taken_pieces v.decoder src k.taken _ (k.rest [] (λ e. refl))))
 
+    malformed_offset : (offset : ℕ) → offset + a + b ≡ v.read + n → offset_after ≡ offset
+    malformed_offset offset there = omega (arith, within, there, k.counted, ap sizes ends, sizes-append parts.before (malformed a ∷ []), pending)
+
     pub ahead_malformed : (offset i : ℕ) (left : LogLeft) → offset + a + b ≡ v.read + n → IsLeftOfLog (Fits i offset_after (reported o ++ d.pieces (drop n src ++ r))) left
         → IsLeftOfLog (Fits i offset (malformed a ∷ d.pieces (drop n src ++ r))) left
     ahead_malformed offset i left there h =
-        let same : offset_after ≡ offset = omega (arith, within, there, k.counted, ap sizes ends, sizes-append parts.before (malformed a ∷ []), pending) in
-        subst (λ p. IsLeftOfLog (Fits i p (malformed a ∷ d.pieces (drop n src ++ r))) left) same
+        subst (λ p. IsLeftOfLog (Fits i p (malformed a ∷ d.pieces (drop n src ++ r))) left) (malformed_offset offset there)
         (subst (λ q. IsLeftOfLog (Fits i offset_after (reported q ++ d.pieces (drop n src ++ r))) left) o_is h)
+
+    passed_offset : (offset : ℕ) → offset + a + b ≡ v.read + n → offset + a ≡ v.read + n - d.pending
+    passed_offset offset spot = omega (arith, spot, pending)
 
     pub ahead_passed : (offset i j : ℕ) (left : LogLeft) → offset + a + b ≡ v.read + n → j ≡ i + 1 → IsLeftOfLog (Fits (i + 1) (offset + a) (d.pieces (drop n src ++ r))) left
         → IsLeftOfLog (Fits j (v.read + n - d.pending) (d.pieces (drop n src ++ r))) left
     ahead_passed offset i j left spot index h =
-        let there : offset + a ≡ v.read + n - d.pending = omega (arith, spot, pending) in
-        subst (λ p. IsLeftOfLog (Fits j p (d.pieces (drop n src ++ r))) left) there
+        subst (λ p. IsLeftOfLog (Fits j p (d.pieces (drop n src ++ r))) left) (passed_offset offset spot)
         (subst (λ q. IsLeftOfLog (Fits q (offset + a) (d.pieces (drop n src ++ r))) left) (sym index) h)
+
+    pub tells_malformed : (q q' : Asked) (offset : ℕ) (t u w : Option (List Entry)) → offset + a + b ≡ v.read + n → q' ≡ q → TellsFound q (found_in_text q cs) [] t u → TellsFound q' (found.Malformed offset a ∷ []) [] u w
+        → TellsFound q (found_ahead q v (src ++ r)) (found_in q (v.read + n - d.pending) (d.pieces (drop n src ++ r))) t w
+    tells_malformed q q' offset t u w there same h m =
+        let qs = d.pieces (drop n src ++ r) in
+        let rest = found_in q (v.read + n - d.pending) qs in
+        let here = found_in_text q cs in
+        let next = ap (λ x. found_in q offset_after (reported x ++ qs)) o_is ∙ ap (λ p. found_in q p (malformed a ∷ qs)) (malformed_offset offset there)
+        ∙ ap (λ p. found.Malformed offset a ∷ found_in q p qs) (passed_offset offset there) in
+        subst (λ fs. TellsFound q fs rest t w) (sym (found_ahead_text q ∙ ap (λ x. here ++ x) next))
+        (found_then q q' (here ++ (found.Malformed offset a ∷ rest)) (found.Malformed offset a ∷ rest) rest t u w same
+        (found_before q here (found.Malformed offset a ∷ rest) t u h) (found_before q' (found.Malformed offset a ∷ []) rest u w m))
 
 -- ---- a whole input
 
@@ -108,6 +148,24 @@ at_end (Some x) z e h = sym (same_Some x z e) ∙ h
 pub ends_ahead : (w : WalkState) (left : LogLeft) (z : List ℕ) → z ≡ [] → w.decoder.pieces [] ≡ [] → FitsAhead w left z → IsLeftOfLog IsLogEnd left
 ends_ahead w left z none end h =
     subst (λ ps. IsLeftOfLog (Fits w.place.index (w.read - w.decoder.pending) ps) left) (ap w.decoder.pieces none ∙ end) h
+
+-- more was passed
+pub tells_on : (a b : Asked) (fs : List Finding) (w w' : WalkState) (t u s : Option (List Entry)) (xs ys : List ℕ) → b ≡ a → TellsFound a fs (found_ahead a w xs) t u → TellsPassed b w w' xs ys u s → TellsFound a fs (found_ahead a w' ys) t s
+tells_on a b fs w w' t u s xs ys same h k = found_then a a fs (found_ahead a w xs) (found_ahead a w' ys) t u s refl h (subst (λ x. TellsPassed x w w' xs ys u s) same k)
+
+-- what was read was passed
+pub tells_read : (a b : Asked) (fs : List Finding) (w w' : WalkState) (t u s : Option (List Entry)) (xs y z : List ℕ) → b ≡ a → y ≡ xs ++ z → TellsFound a fs (found_ahead a w y) t u → TellsPassed b w w' (xs ++ z) z u s
+    → TellsFound a fs (found_ahead a w' z) t s
+tells_read a b fs w w' t u s xs y z same is h k = tells_on a b fs w w' t u s (xs ++ z) z same (subst (λ x. TellsFound a fs (found_ahead a w x) t u) is h) k
+
+-- nothing is left to be found
+pub tells_all : (a : Asked) (pending : ℕ) (held pieces : List ℕ → List Piece) (w : WalkState) (t u : Option (List Entry)) → ((x : List ℕ) → held x ≡ pieces x) → (x z : List ℕ) → z ≡ [] → w.decoder.pieces [] ≡ []
+    → TellsFound a (found_in a (0 - pending) (held x)) (found_ahead a w z) t u → TellsFound a (found_in a 0 (pieces x)) [] t u
+tells_all a pending held pieces w t u is x z none end h =
+    let offset : 0 - pending ≡ 0 = omega arith in
+    let begins = ap (found_in a (0 - pending)) (is x) ∙ ap (λ p. found_in a p (pieces x)) offset in
+    let ends = ap (found_in a (w.read - w.decoder.pending)) (ap w.decoder.pieces none ∙ end) in
+    subst (λ fs. TellsFound a fs [] t u) begins (subst (λ gs. TellsFound a (found_in a (0 - pending) (held x)) gs t u) ends h)
 
 pub if_err : {T : Type 0} (r : Result T Stop) (e : Stop) → IsErrAnd r (λ x. x ≡ e) → IsNotUnfit e → IfErr r IsNotUnfit
 if_err (Ok x) e same h = tt

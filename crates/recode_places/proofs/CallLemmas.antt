@@ -10,6 +10,7 @@ use Rattle.encoding_mem.specs.calls.Decoding.{DecoderState, Reports, StateLaw}
 use Rattle.encoding_mem.specs.calls.Writing.{Adds}
 use Rattle.encoding_mem.specs.declared.decoder_result.DecoderResult.{DecoderResult}
 use Rattle.encoding_mem.specs.declared.decoder_result.DecoderResult.TheVariants.{InputEmpty, OutputFull, Malformed}
+use Rattle.encoding_mem.specs.laws.Piece.{well_formed_text}
 
 prefix_pieces : (ps qs : List Piece) → ArePieces (ps ++ qs) → ArePieces ps
 prefix_pieces [] qs h = tt
@@ -73,19 +74,14 @@ pub record IsCutAt (o : DecoderResult) (taken : List Piece) : Type 0 where
   pub whole : taken ≡ before ++ reported o
   pub same : scalars taken ≡ text before
 
-text_of_well_formed : (ps : List Piece) → AreWellFormed ps → text ps ≡ scalars ps
-text_of_well_formed [] h = refl
-text_of_well_formed (well_formed n cs ∷ ps) h = ap (λ t. cs ++ t) (text_of_well_formed ps h.1)
-text_of_well_formed (malformed n ∷ ps) h = absurd h.0
-
 no_scalars : (ps : List Piece) (n : ℕ) → AreWellFormed ps → scalars (ps ++ (malformed n ∷ [])) ≡ text ps
 no_scalars [] n h = refl
 no_scalars (well_formed m cs ∷ ps) n h = ap (λ t. cs ++ t) (no_scalars ps n h.1)
 no_scalars (malformed m ∷ ps) n h = absurd h.0
 
 pub cut_at : (o : DecoderResult) (pending : ℕ) (taken : List Piece) → Reports o pending taken → IsCutAt o taken
-cut_at InputEmpty pending taken h = record { before = taken; well_formed = h; whole = sym (append-nil taken); same = sym (text_of_well_formed taken h) }
-cut_at OutputFull pending taken h = record { before = taken; well_formed = h; whole = sym (append-nil taken); same = sym (text_of_well_formed taken h) }
+cut_at InputEmpty pending taken h = record { before = taken; well_formed = h; whole = sym (append-nil taken); same = sym (well_formed_text taken h) }
+cut_at OutputFull pending taken h = record { before = taken; well_formed = h; whole = sym (append-nil taken); same = sym (well_formed_text taken h) }
 cut_at (Malformed a b) pending taken h =
     let k = h.4 in
     record { before = k.0; well_formed = k.1; whole = k.2; same = ap scalars k.2 ∙ no_scalars k.0 a k.1 }

@@ -27,7 +27,7 @@ use Rattle.encoding_mem.specs.declared.form.EscapeState.{EscapeState}
 use Rattle.encoding_mem.specs.declared.form.EscapeState.TheVariants.{Ascii}
 use Rattle.encoding_mem.specs.declared.reference.Reference.TheVariants.{Decimal}
 use Rattle.encoding_mem.specs.laws.EncoderCalls.{mapped_open}
-use Rattle.encoding_mem.specs.laws.Piece.{text-append}
+use Rattle.encoding_mem.specs.laws.Piece.{text-append, malformed_count-append, well_formed_count, well_formed_text}
 use Rattle.encoding_tables.specs.IndexLists.{IndexLists}
 use Rattle.encoding_codecs.specs.Iso2022Jp.{pieces_in_mode}
 use Rattle.encoding_front.specs.Codecs.{codec_of}
@@ -71,23 +71,8 @@ module _ (e : Coding) (c : ℕ) (written rest : List ℕ) (s : EscapeState) wher
 
 -- ---- what was read
 
-malformed_count-append : (ps qs : List Piece) → malformed_count (ps ++ qs) ≡ malformed_count ps + malformed_count qs
-malformed_count-append [] qs = omega arith
-malformed_count-append (well_formed n cs ∷ ps) qs = malformed_count-append ps qs
-malformed_count-append (malformed n ∷ ps) qs = omega (arith, malformed_count-append ps qs)
-
-none_malformed : (ps : List Piece) → AreWellFormed ps → malformed_count ps ≡ 0
-none_malformed [] h = refl
-none_malformed (well_formed n cs ∷ ps) h = none_malformed ps h.1
-none_malformed (malformed n ∷ ps) h = absurd h.0
-
-text_is_scalars : (ps : List Piece) → AreWellFormed ps → text ps ≡ scalars ps
-text_is_scalars [] h = refl
-text_is_scalars (well_formed n cs ∷ ps) h = ap (λ t. cs ++ t) (text_is_scalars ps h.1)
-text_is_scalars (malformed n ∷ ps) h = absurd h.0
-
 read_well_formed : (ps : List Piece) → AreWellFormed ps → read_alone ps ≡ only_one (text ps)
-read_well_formed ps h = rw (eq-eqb (malformed_count ps) 0 (none_malformed ps h)) refl
+read_well_formed ps h = rw (eq-eqb (malformed_count ps) 0 (well_formed_count ps h)) refl
 
 read_malformed : (ps : List Piece) → 0 < malformed_count ps → read_alone ps ≡ None
 read_malformed ps h = rw (ne_eqb (malformed_count ps) 0 (λ e. omega (arith, h, e))) refl
@@ -118,7 +103,7 @@ module _ (d d' : DecoderState) (src : List ℕ) (read : ℕ) (old new : List ℕ
   pub read_whole : (free : ℕ) (k : Call InputEmpty) → EndsWith d' (drop read src) true free 4 3 InputEmpty → read_alone (d.pieces src) ≡ only_one (scalars k.taken)
   read_whole free k (unread, inl rested) =
       ap read_alone (all_pieces InputEmpty k ∙ ap (λ x. k.taken ++ d'.pieces (x ++ [])) unread ∙ ap (λ ps. k.taken ++ ps) rested.1 ∙ append-nil k.taken)
-      ∙ read_well_formed k.taken k.well_formed ∙ ap only_one (text_is_scalars k.taken k.well_formed)
+      ∙ read_well_formed k.taken k.well_formed ∙ ap only_one (well_formed_text k.taken k.well_formed)
   read_whole free k (unread, inr waits) = absurd (false≢true (sym waits.0))
 
   pub read_to_malformed : (a b : ℕ) (k : Call (Malformed a b)) → read_alone (d.pieces src) ≡ None
@@ -146,7 +131,7 @@ module _ (d d' : DecoderState) (src : List ℕ) (read : ℕ) (old new : List ℕ
         head,
         ends.1.2,
         some_taken,
-        ap length (text_is_scalars k.taken k.well_formed),
+        ap length (well_formed_text k.taken k.well_formed),
       ))
     where
       size : length (drop written new) + length (encode_utf8_all (scalars k.taken)) ≡ length old

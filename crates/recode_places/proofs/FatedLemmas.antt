@@ -2,7 +2,8 @@
 use Rattle.std.proofs.Common.{◌≡◌, ℕ, Bool, true, false, cond, List, [], ◌∷◌, ◌++◌, Option, Some, None, Result, Ok, Err, OnOk, inl, inr, refl, sym, ◌∙◌, ap, subst, append_assoc, append-nil}
 use Rattle.std.proofs.lemmas.Option.{none-some, same_Some}
 use Rattle.recode_places.specs.Entries.{HasOneMore}
-use Rattle.recode_places.specs.calls.FatesViews.{AreAsFated, Asked, IsAsFated, IsToldOf, TellsFates, fate_asked, told_by_fate}
+use Rattle.recode_places.specs.Findings.{Asked, fate_asked, told_by_fate}
+use Rattle.recode_places.specs.calls.FatesViews.{AreAsFated, IsAsFated, IsToldOf, TellsFates}
 use Rattle.recode_places.specs.declared.entry.Entry.{Entry}
 use Rattle.recode_places.specs.declared.entry.Finding.{Finding}
 use Rattle.recode_places.specs.declared.entry.Finding.TheVariants as found

@@ -13,3 +13,4 @@ pub mod ShortPieceLemmas
 pub mod LoggedFormLemmas
 pub mod RunLogLemmas
 pub mod FatedLemmas
+pub mod FoundLemmas

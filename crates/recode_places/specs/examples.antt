@@ -2,4 +2,5 @@
 pub mod Entries
 pub mod Fits
 pub mod Fates
+pub mod Findings
 pub mod Places

@@ -2,6 +2,7 @@
 
 ghost use Rattle.std.specs.Prelude.{◌≡◌, ℕ, ◌+◌, ◌<◌, ◌≤◌, List, [], ◌∷◌, length};
 ghost use Rattle.std.specs.Prelude.{IfOk, IfSome, IsOk, IsTrue, None, OnOk, Some, false, true};
+ghost use Rattle.std.specs.Str.{chars};
 ghost use Rattle.encoding_mem.specs.Piece.{Piece, malformed};
 ghost use Rattle.recode_places.specs.Fits.{Fits, FitsFrom, GoesOn, IsLeftOfLog};
 ghost use Rattle.recode_places.specs.Entries.{IsOfCharacter};
@@ -9,8 +10,9 @@ ghost use Rattle.recode_places.specs.Logs.{IsLogEnd, TakesLines, ended, unknown}
 ghost use Rattle.recode_places.specs.declared.fates.Fate.{Fate};
 ghost use Rattle.recode_places.specs.calls.LogViews.{NamesFound, NamesMalformed, TakesSome};
 ghost use Rattle.recode_places.specs.calls.LogViews.{choice_left, match_left};
-ghost use Rattle.recode_places.specs.calls.FatesViews.{IsToldOf, asked_by, fate_asked};
-ghost use Rattle.recode_places.specs.calls.FatesViews.{fates_target, told_by_fate};
+ghost use Rattle.recode_places.specs.calls.FatesViews.{AreKeptIfAsked, IsToldOf, asked_by};
+ghost use Rattle.recode_places.specs.calls.FatesViews.{fates_target};
+ghost use Rattle.recode_places.specs.Findings.{fate_asked, told_by_fate};
 
 use crate::entry::{Finding, Stop};
 use crate::fates::{Fate, Fates};
@@ -78,6 +80,7 @@ impl<'t, L: Read> Choice<'t, L> {
 
     /// Whether nothing is told of the characters of a text, the first of which has this index.
     pub fn passes_over(&self, index: u64, text: &str) -> bool
+        ensures kept { IsTrue result → AreKeptIfAsked (asked_by self.now).target (chars text.now) }
         ensures fits { (offset : ℕ) (t : List ℕ) (ps : List Piece) → IsTrue result
             → length t ≤ length text.now
             → IsLeftOfLog (FitsFrom index offset t ps) (choice_left L.remaining self.now)
@@ -100,7 +103,9 @@ impl<'t, L: Read> Choice<'t, L> {
     }
 
     // Whether the target, if it is asked, keeps each character of a text.
-    fn target_keeps(&self, text: &str) -> bool {
+    fn target_keeps(&self, text: &str) -> bool
+        ensures { IsTrue result → AreKeptIfAsked (asked_by self.now).target (chars text.now) }
+    {
         match &self.fates {
             Some(fates) => fates.keeps(text),
             None => true,
@@ -160,6 +165,8 @@ impl<'t, L: Read> Choice<'t, L> {
     /// Whether this malformed sequence is told, for which the U+FFFD with this index stands. The
     /// error is that of the log.
     pub fn malformed(&mut self, index: u64, offset: u64, length: u8) -> Result<bool, Stop>
+        ensures told { IfOk result (λ is_told. (asked_by self.old).has_log ≡ false
+            → is_told ≡ true) }
         ensures asked { asked_by self.new ≡ asked_by self.old }
         ensures named { IfOk result (λ is_told. TakesSome (choice_left L.remaining self.old)
             (choice_left L.remaining self.new) (NamesMalformed index offset length is_told)) }

@@ -22,7 +22,7 @@ pub fn lines_are_told_apart()
 
 /// The log of a run of `recode` fits the input, if that has at most 2^48 bytes: so `tell_places`
 /// does not refuse it. So do the first bytes of it, which a run leaves that ended early, and its
-/// first lines with what ends a log behind them, as a message of `recode` does, or the part of it
+/// first lines with what ends a log after them, as a message of `recode` does, or the part of it
 /// that was written.
 pub fn logs_of_runs_fit()
     ensures log { (j : Job) (x bytes : List ℕ) → IsValidJob j → length x ≤ 2 ^ 48

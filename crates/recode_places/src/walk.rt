@@ -10,12 +10,14 @@ ghost use Rattle.encoding_front.specs.Marks.{marked_pieces};
 ghost use Rattle.encoding_front.specs.calls.DecoderViews.{decoder_view};
 ghost use Rattle.recode_places.specs.Places.{IsPlaceAfter};
 ghost use Rattle.recode_places.specs.Entries.{TellsTrue, TellsTrueIn};
+ghost use Rattle.recode_places.specs.Findings.{TellsFound, found_in, found_in_text};
 ghost use Rattle.recode_places.specs.Fits.{Fits, FitsFrom, GoesOn, IsLeftOfLog, IsNotUnfit};
 ghost use Rattle.recode_places.specs.Logs.{TellsLines, bytes, ended};
+ghost use Rattle.recode_places.specs.declared.entry.Finding.{Finding};
 ghost use Rattle.recode_places.specs.calls.LogViews.{choice_left};
 ghost use Rattle.recode_places.specs.calls.FatesViews.{TellsFates, asked_by};
 ghost use Rattle.recode_places.specs.calls.Walks.{CanWalk, TellsPrefix, WalksChunk, WalksPart};
-ghost use Rattle.recode_places.specs.calls.Walks.{FitsAhead, has_ended};
+ghost use Rattle.recode_places.specs.calls.Walks.{FitsAhead, TellsPassed, has_ended};
 ghost use Rattle.recode_places.specs.calls.Walks.{walk_state};
 
 use crate::choice::Choice;
@@ -36,7 +38,7 @@ const TEXT: usize = 8192;
 /// How an input is read.
 #[derive(Clone, Copy)]
 pub struct Source<'t> {
-    /// The encoding of the input, where a byte order mark does not say another.
+    /// The encoding of the input, unless a byte order mark says another.
     pub from: Encoding,
     /// What is done with a byte order mark at the start of the input.
     pub mark: Mark,
@@ -105,6 +107,9 @@ fn tell_character<L: Read, V: Visitor>(
         (choice_left L.remaining choice.new) (V.told visitor.old) (V.told visitor.new)) }
     ensures fates { OnOk result (TellsFates (asked_by choice.old) (asked_by choice.new)
         (V.told visitor.old) (V.told visitor.new)) }
+    ensures finds { OnOk result (TellsFound (asked_by choice.old)
+        (found_in_text (asked_by choice.old) (c ∷ [])) []
+        (V.told visitor.old) (V.told visitor.new)) }
     ensures fits { (offset : ℕ) (t : List ℕ) (ps : List Piece)
         → IsLeftOfLog (FitsFrom place.old.index offset (c ∷ t) ps)
         (choice_left L.remaining choice.old)
@@ -140,6 +145,9 @@ fn tell_text<L: Read, V: Visitor>(
         (choice_left L.remaining choice.new) (V.told visitor.old) (V.told visitor.new)) }
     ensures fates { OnOk result (TellsFates (asked_by choice.old) (asked_by choice.new)
         (V.told visitor.old) (V.told visitor.new)) }
+    ensures finds { OnOk result (TellsFound (asked_by choice.old)
+        (found_in_text (asked_by choice.old) (chars text.now)) []
+        (V.told visitor.old) (V.told visitor.new)) }
     ensures fits { (offset : ℕ) (ps : List Piece)
         → IsLeftOfLog (FitsFrom place.old.index offset (chars text.now) ps)
         (choice_left L.remaining choice.old)
@@ -169,6 +177,9 @@ fn tell_malformed<L: Read, V: Visitor>(
     ensures lines { OnOk result (TellsLines (choice_left L.remaining choice.old)
         (choice_left L.remaining choice.new) (V.told visitor.old) (V.told visitor.new)) }
     ensures fates { OnOk result (TellsFates (asked_by choice.old) (asked_by choice.new)
+        (V.told visitor.old) (V.told visitor.new)) }
+    ensures finds { OnOk result (TellsFound (asked_by choice.old)
+        (Finding.Malformed offset length ∷ []) []
         (V.told visitor.old) (V.told visitor.new)) }
     ensures fits { (ps : List Piece) → 0 < length
         → IsLeftOfLog (Fits place.index offset (malformed length ∷ ps))
@@ -202,6 +213,10 @@ impl<'t> Walk<'t> {
         ensures lines { OnOk result (TellsLines (choice_left L.remaining choice.old)
             (choice_left L.remaining choice.new) (V.told visitor.old) (V.told visitor.new)) }
         ensures fates { OnOk result (TellsFates (asked_by choice.old) (asked_by choice.new)
+            (V.told visitor.old) (V.told visitor.new)) }
+        ensures finds { IfOk result (λ p. (r : List ℕ) → (last ≡ true → r ≡ [])
+            → TellsPassed (asked_by choice.old) (walk_state self.old) (walk_state self.new)
+            (chunk.now ++ r) (drop p.read chunk.now ++ r)
             (V.told visitor.old) (V.told visitor.new)) }
         ensures err { OnErr result (TellsPrefix (V.told visitor.old) (V.told visitor.new)
             (walk_state self.old) chunk.now last) }
@@ -257,6 +272,9 @@ impl<'t> Walk<'t> {
             (choice_left L.remaining choice.new) (V.told visitor.old) (V.told visitor.new)) }
         ensures fates { OnOk result (TellsFates (asked_by choice.old) (asked_by choice.new)
             (V.told visitor.old) (V.told visitor.new)) }
+        ensures finds { OnOk result ((r : List ℕ) → (has_ended chunk.now ≡ true → r ≡ [])
+            → TellsPassed (asked_by choice.old) (walk_state self.old) (walk_state self.new)
+            (chunk.now ++ r) r (V.told visitor.old) (V.told visitor.new)) }
         ensures err { OnErr result (TellsPrefix (V.told visitor.old) (V.told visitor.new)
             (walk_state self.old) chunk.now (has_ended chunk.now)) }
         ensures fits { (r : List ℕ) → (has_ended chunk.now ≡ true → r ≡ [])
@@ -284,7 +302,9 @@ impl<'t> Walk<'t> {
 /// as `source` reads it, and its place. On success, if the choice goes by a log, the log has the
 /// lines of the entries, in their order, and then its end: none was passed over. A character that
 /// is told then is folded in the target that the choice asks, where folds are asked for, or lost
-/// there; or it is lost by its line in the log.
+/// there; or it is lost by its line in the log. On success, if the choice goes by no log, nothing
+/// is left out: each malformed sequence is told, and each character that its target loses, or
+/// folds, if folds are asked for.
 ///
 /// The error is what the choice or the visitor ended with (`Unfit`, `Log`, `Write`, `Memory`),
 /// `Input` if a read fails, or `TooLong` if the input has more than 2^48 bytes. It is not `Unfit`
@@ -303,6 +323,10 @@ pub fn tell_places<R: Read, L: Read, V: Visitor>(
     ensures lines { OnOk result (TellsLines (choice_left L.remaining choice.old) ended
         (V.told visitor.old) (V.told visitor.new)) }
     ensures fates { OnOk result (TellsFates (asked_by choice.old) (asked_by choice.new)
+        (V.told visitor.old) (V.told visitor.new)) }
+    ensures finds { (x : List ℕ) → R.remaining reader.old ≡ Some x
+        → OnOk result (TellsFound (asked_by choice.old) (found_in (asked_by choice.old) 0
+        (marked_pieces source.entry.tables.now source.entry.mark source.entry.from x)) []
         (V.told visitor.old) (V.told visitor.new)) }
     ensures fits { (x : List ℕ) → R.remaining reader.old ≡ Some x
         → IsLeftOfLog (Fits 0 0

@@ -20,11 +20,11 @@ Output, on standard output, three lines for each place:
   FILE:LINE:COLUMN: WORDS  where it is, and what is lost there
   LINE | TEXT              the line around it: at most 48 characters before it, 24 from it on
   | ^                      which part of the text it is
-Behind the places, if not all are shown, a line says how many there are. Lines and columns count
-from 1, and a line ends with U+000A. A column counts characters, and a malformed sequence as one.
-Editors may count columns otherwise, as vim counts bytes, but not lines: \"vim +LINE FILE\". In
-the text a tab is shown as one space, a malformed byte as <FF>, and a control, or a character that
-can't be seen or turns the direction of the text, by its number, as <U+202E>.
+If not all places are shown, a last line says how many there are. Lines and columns count from 1,
+and a line ends with U+000A. A column counts characters, and a malformed sequence as one. Editors
+may count columns otherwise, as vim counts bytes, but not lines: \"vim +LINE FILE\". In the text a
+tab is shown as one space, a malformed byte as <FF>, and a control, or a character that can't be
+seen or turns the direction of the text, by its number, as <U+202E>.
 
 Words of what is lost:
   has no bytes in ENCODING                         recode wrote a reference, as &#26085;
@@ -32,21 +32,21 @@ Words of what is lost:
   is written as U+N in ENCODING                    its bytes read back as that character
   is written as bytes of another text in ENCODING  its bytes read back as no single character
 
-Log: each line is told, but a line \"lost\" behind the line \"bad\" of the same place, which is of
-the U+FFFD there, is not told again. A part of the log serves as well, as grep or head leaves it. A
-message of recode, or a line that is cut short, ends it. With --no-log no log is read, and what
-recode would log is told. Characters that are written as others have no line in the log: --folds
-looks for them.
+Log: each line is told, but a line \"lost\" after the line \"bad\" of the same place, which is of
+the U+FFFD there, is not told again. A part of the log serves as well, as grep or head leaves it.
+A message of recode, or a line that is cut short, ends it. With --no-log no log is read, and what
+recode would log is told. Characters that are written as others have no line in the log: if recode
+had status 1 and its log is empty, --folds shows them.
 
 Exit status:
   0  there was nothing to tell; or help or version was asked for, whether or not it could be
      written
   1  at least one place was told, or counted
-  2  the words were refused
+  2  the command line was refused
   3  the input or an index file is missing, or an index file is faulty, or memory was refused at
      the start
   4  a read or a write failed, memory was refused, the input is too long, or a line of the log is
-     not of this input; the places that were told before are right
+     not of this input, read with these encodings; the places that were told before are right
 
 Message, at the end of standard error:
   2  lines from \"error:\" on; \"recode-places: unknown label WORD\";

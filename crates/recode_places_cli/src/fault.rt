@@ -7,7 +7,7 @@ use recode_places::{Refusal, Stop};
 use std::alloc::AllocError;
 use thiserror::Error;
 
-// Why nothing more is told: what is said behind the program's name.
+// Why nothing more is told: what is said after the program's name.
 #[derive(Debug, Drop, Error)]
 pub(crate) enum Fault {
     #[error("a word is not UTF-8")]

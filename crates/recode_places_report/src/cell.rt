@@ -15,21 +15,30 @@ pub(crate) enum Cell {
     Byte(u8),
 }
 
-// Whether a character is shown by its number: a control, or one that turns a line round or can't be
-// seen.
+// Whether a character is shown by its number: a control, or one that can't be seen. These are what
+// Unicode says a display may ignore (Default_Ignorable_Code_Point), among them what turns the
+// direction of a text, the separators of lines and paragraphs, and the marks of annotations.
 pub(crate) fn is_shown_by_number(c: char) -> bool
     ensures { result ≡ (is_control c || is_unseen c) }
 {
     c.is_control()
         || matches!(
             c,
-            '\u{61C}'
+            '\u{AD}' | '\u{34F}' | '\u{61C}'
+                | '\u{115F}'..='\u{1160}'
+                | '\u{17B4}'..='\u{17B5}'
+                | '\u{180B}'..='\u{180F}'
                 | '\u{200B}'..='\u{200F}'
                 | '\u{2028}'..='\u{202E}'
                 | '\u{2060}'..='\u{206F}'
+                | '\u{3164}'
+                | '\u{FE00}'..='\u{FE0F}'
                 | '\u{FEFF}'
-                | '\u{FFF9}'..='\u{FFFB}'
-                | '\u{E0000}'..='\u{E007F}'
+                | '\u{FFA0}'
+                | '\u{FFF0}'..='\u{FFFB}'
+                | '\u{1BCA0}'..='\u{1BCA3}'
+                | '\u{1D173}'..='\u{1D17A}'
+                | '\u{E0000}'..='\u{E0FFF}'
         )
 }
 
@@ -46,8 +55,8 @@ pub(crate) fn push_cell(text: &mut String, cell: Cell) -> Result<(), AllocError>
     }
 }
 
-/// A text as it is shown: each tab as one space, and each control and each character that turns a
-/// line round or can't be seen by its number, as `<U+202E>`. The error is that memory was refused.
+/// A text as it is shown: each tab as one space, and each control and each character that can't be
+/// seen by its number, as `<U+202E>`. The error is that memory was refused.
 pub fn shown(alloc: Global, text: &str) -> Result<String, AllocError>
     ensures { IfOk result (λ all. string_bytes all ≡ shown_text (chars text.now)) }
 {

@@ -51,7 +51,7 @@ pub enum Loss {
     },
 }
 
-// A character by its number, and, where it can be seen, as it is.
+// A character by its number, and, if it can be seen, as it is.
 #[derive(Clone, Copy)]
 struct Named(char);
 

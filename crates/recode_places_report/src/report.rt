@@ -1,6 +1,6 @@
 //! What is lost in an input, place by place, as a compiler tells faults.
 
-ghost use Rattle.std.specs.Prelude.{◌≡◌, ◌≤◌, IfOk, None};
+ghost use Rattle.std.specs.Prelude.{◌≤◌, None};
 ghost use Rattle.std.specs.VecDeque.{deque_len};
 
 use crate::cell::{Cell, shown};
@@ -71,10 +71,8 @@ fn flush<W: Write>(writer: &mut W) -> Result<(), Refusal> {
 }
 
 impl<W: Write + Drop> Report<W> {
-    ghost use Rattle.recode_places_report.specs.Reports.{report_writer, told_places};
-
     /// A report to this writer on an input with this name, which is written in the output encoding
-    /// of `to`. At most `most` places are shown; those behind are only counted. The error is that
+    /// of `to`. At most `most` places are shown; later ones are only counted. The error is that
     /// memory was refused.
     pub fn new(
         alloc: Global,
@@ -82,10 +80,7 @@ impl<W: Write + Drop> Report<W> {
         file: &str,
         to: Encoding,
         most: u64,
-    ) -> Result<Report<W>, AllocError>
-        ensures writer { IfOk result (λ r. report_writer r ≡ writer) }
-        ensures places { IfOk result (λ r. told_places r ≡ 0) }
-    {
+    ) -> Result<Report<W>, AllocError> {
         Ok(Report {
             alloc,
             writer,
@@ -101,26 +96,19 @@ impl<W: Write + Drop> Report<W> {
     }
 
     /// The same report with the codes of a terminal for bold and red text.
-    pub fn coloured(self) -> Report<W>
-        ensures writer { report_writer result ≡ report_writer self }
-        ensures places { told_places result ≡ told_places self }
-    {
+    pub fn coloured(self) -> Report<W> {
         let mut report = self;
         report.has_colour = true;
         report
     }
 
     /// How many places were told.
-    pub fn count(&self) -> u64
-        ensures { result ≡ told_places self.now }
-    {
+    pub fn count(&self) -> u64 {
         self.count
     }
 
     /// Gives the writer back.
-    pub fn into_writer(self) -> W
-        ensures { result ≡ report_writer self }
-    {
+    pub fn into_writer(self) -> W {
         self.writer
     }
 

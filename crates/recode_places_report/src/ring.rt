@@ -43,7 +43,7 @@ impl Ring {
         self.count.saturating_add(u64::from(self.has_return))
     }
 
-    // Whether the line goes on behind what is shown of it with a place at this cell.
+    // Whether the line goes on after what is shown of it with a place at this cell.
     pub(crate) fn goes_on(&self, cell: u64) -> bool {
         self.count > cell.saturating_add(BEHIND)
     }

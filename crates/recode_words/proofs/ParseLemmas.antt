@@ -8,8 +8,10 @@ use Rattle.std.specs.Borrow.{Bor}
 use Rattle.std.proofs.lemmas.List.{length-map}
 use Rattle.std.proofs.lemmas.Slice.Eq.{bytes_eq-Decides}
 use Rattle.clap.specs.Texts.{items_of}
+use Rattle.clap.specs.declared.builder.action.ArgAction.{ArgAction}
 use Rattle.clap.specs.declared.builder.action.ArgAction.TheVariants.{Count, Set}
 use Rattle.clap.specs.declared.builder.arg.Arg.{Arg}
+use Rattle.clap.specs.declared.builder.range.ValueRange.{ValueRange}
 use Rattle.clap.specs.declared.builder.command.Command.{Command}
 use Rattle.clap.specs.declared.builder.command.Command.TheViews.{out-Command}
 use Rattle.clap.specs.declared.parser.matches.ArgMatches.{ArgMatches}
@@ -181,6 +183,30 @@ pub record IsValued (k : ℕ) (r : Rule) : Type 0 where
   pub there : (r.required ≡ true) ⊎ (is_empty r.defaults ≡ false)
   pub simple : r.is_simple ≡ true
 
+-- what a rule with a value says, beside its index, its place and whether it has to be there
+abbrev Said : Type 0
+Said = Option ArgAction × Option ValueRange × Bool × Bool × Bool × Bool × Bool
+
+abbrev said_at : (k : ℕ) → Rule → Said
+said_at k r =
+    (r.action, r.range, is_only k r.id recode_app.top.rules, is_empty r.id, bytes_eq r.id (104 ∷ 101 ∷ 108 ∷ 112 ∷ []), bytes_eq r.id (118 ∷ 101 ∷ 114 ∷ 115 ∷ 105 ∷ 111 ∷ 110 ∷ []), r.is_simple)
+
+-- it holds if the rule says that it takes one value, alone has its name, and has a name of its own
+valued : (k : ℕ) (r : Rule) → k < 8 → ((d : Rule) → slice_index_or recode_app.top.rules k d ≡ r) → (r.required ≡ true) ⊎ (is_empty r.defaults ≡ false)
+    → said_at k r ≡ (Some Set, None, true, false, false, false, true) → IsValued k r
+valued k r below at there same = record {
+  below = below;
+  at = at;
+  set = ap (λ (x : Said). x.0) same;
+  range = ap (λ (x : Said). x.1) same;
+  only = ap (λ (x : Said). x.2) same;
+  named = ap (λ (x : Said). x.3) same;
+  help = ap (λ (x : Said). x.4) same;
+  version = ap (λ (x : Said). x.5) same;
+  there = there;
+  simple = ap (λ (x : Said). x.6) same;
+}
+
 some_arg : (xs : List Arg) → 0 < length xs → Arg
 some_arg [] lt = absurd (omega arith)
 some_arg (x ∷ xs) lt = x
@@ -254,90 +280,13 @@ match_is : (c : Command) (m : ArgMatches) (words : List Text) → app_of c ≡ r
 match_is c m words app p h none = record {
   taken = none;
   same = given_is c m words app h;
-  from = has_value c m 0 (required_rule (codes "from")) app p (record {
-    below = lit< tt;
-    at = λ d. refl;
-    set = refl;
-    range = refl;
-    only = refl;
-    named = refl;
-    help = refl;
-    version = refl;
-    there = inl refl;
-    simple = refl;
-  });
-  to = has_value c m 1 (required_rule (codes "to")) app p (record {
-    below = lit< tt;
-    at = λ d. refl;
-    set = refl;
-    range = refl;
-    only = refl;
-    named = refl;
-    help = refl;
-    version = refl;
-    there = inl refl;
-    simple = refl;
-  });
-  indexes = has_value c m 2 (default_rule (codes "indexes") (codes ".")) app p (record {
-    below = lit< tt;
-    at = λ d. refl;
-    set = refl;
-    range = refl;
-    only = refl;
-    named = refl;
-    help = refl;
-    version = refl;
-    there = inr refl;
-    simple = refl;
-  });
-  mark = has_value c m 3 (default_rule (codes "mark") (codes "sniff")) app p (record {
-    below = lit< tt;
-    at = λ d. refl;
-    set = refl;
-    range = refl;
-    only = refl;
-    named = refl;
-    help = refl;
-    version = refl;
-    there = inr refl;
-    simple = refl;
-  });
-  unmappable = has_value c m 4 (default_rule (codes "unmappable") (codes "decimal")) app p (record {
-    below = lit< tt;
-    at = λ d. refl;
-    set = refl;
-    range = refl;
-    only = refl;
-    named = refl;
-    help = refl;
-    version = refl;
-    there = inr refl;
-    simple = refl;
-  });
-  pivot = has_value c m 5 (default_rule (codes "pivot") (codes "utf8")) app p (record {
-    below = lit< tt;
-    at = λ d. refl;
-    set = refl;
-    range = refl;
-    only = refl;
-    named = refl;
-    help = refl;
-    version = refl;
-    there = inr refl;
-    simple = refl;
-  });
-  limit = has_value c m 6 (default_rule (codes "limit") (codes "281474976710656")) app p (record {
-    below = lit< tt;
-    at = λ d. refl;
-    set = refl;
-    range = refl;
-    only = refl;
-    named = refl;
-    help = refl;
-    version = refl;
-    there = inr refl;
-    simple = refl;
-  });
+  from = has_value c m 0 (required_rule (codes "from")) app p (valued 0 (required_rule (codes "from")) (lit< tt) (λ d. refl) (inl refl) refl);
+  to = has_value c m 1 (required_rule (codes "to")) app p (valued 1 (required_rule (codes "to")) (lit< tt) (λ d. refl) (inl refl) refl);
+  indexes = has_value c m 2 (default_rule (codes "indexes") (codes ".")) app p (valued 2 (default_rule (codes "indexes") (codes ".")) (lit< tt) (λ d. refl) (inr refl) refl);
+  mark = has_value c m 3 (default_rule (codes "mark") (codes "sniff")) app p (valued 3 (default_rule (codes "mark") (codes "sniff")) (lit< tt) (λ d. refl) (inr refl) refl);
+  unmappable = has_value c m 4 (default_rule (codes "unmappable") (codes "decimal")) app p (valued 4 (default_rule (codes "unmappable") (codes "decimal")) (lit< tt) (λ d. refl) (inr refl) refl);
+  pivot = has_value c m 5 (default_rule (codes "pivot") (codes "utf8")) app p (valued 5 (default_rule (codes "pivot") (codes "utf8")) (lit< tt) (λ d. refl) (inr refl) refl);
+  limit = has_value c m 6 (default_rule (codes "limit") (codes "281474976710656")) app p (valued 6 (default_rule (codes "limit") (codes "281474976710656")) (lit< tt) (λ d. refl) (inr refl) refl);
 }
 
 -- a parse that succeeds

@@ -33,37 +33,39 @@ PREFIX/share/recode/indexes; the standard's own are at
 https://encoding.spec.whatwg.org/index-NAME.txt.
 
 Byte order mark at the start of the input (--mark):
-  sniff   that of UTF-8, UTF-16LE or UTF-16BE names the encoding, whatever --from says, and is
+  sniff   a mark of UTF-8, UTF-16LE or UTF-16BE names the encoding, whatever --from says, and is
           left out
-  remove  that of the encoding of --from is left out
-  keep    it is text: U+FEFF
+  remove  a mark of the encoding of --from is left out
+  keep    a mark is text: U+FEFF
 
 Character without bytes in the output's encoding (--unmappable):
   decimal      the reference &#N; is written in its place, as &#26085;
   hexadecimal  the reference &#xN; is written in its place, as &#x65E5;
-  stop         the first one ends the conversion, behind its line of the log
+  stop         the first one ends the conversion, after its line of the log
 
 Log, on standard error, a line for each malformed sequence and each character without bytes:
   bad OFFSET LENGTH  these bytes of the input stand for no character; the text has U+FFFD in their
-                     place. UTF-8 and gb18030 have bytes for it; to any other encoding of the
-                     output a line \"lost\" follows
+                     place. UTF-8 and gb18030 have bytes for it; if the output is in another
+                     encoding, a line \"lost\" follows
   lost INDEX SCALAR  the character with this index in the text, and with this number, has no bytes
                      in the output's encoding; SCALAR is 65533 for U+000E, U+000F and U+001B to
                      ISO-2022-JP
 The lines stand in the order of the text. Numbers are decimal. OFFSET counts bytes from the start of
-the input, a byte order mark among them; INDEX counts characters from 0.
+the input, a byte order mark among them; INDEX counts characters from 0. \"recode-places\" shows the
+line and column of each.
 
 Exit status:
   0  all was converted, and nothing was lost: no byte sequence was malformed, and the output reads
      back as the text of the input; or help, version or list was asked for, whether or not it
      could be written
-  1  all was converted, and something was lost. The log says what, but for a character that was
-     written as another, as Shift_JIS writes U+00A5 as the byte 5C: of that there is no line.
-     Shift_JIS, EUC-JP, ISO-2022-JP, gb18030 and GBK have such characters
-  2  the words were refused
+  1  all was converted, and something was lost. The log says what, except for a character that
+     was written as another, which has no line: Shift_JIS writes U+00A5 as the byte 5C.
+     Shift_JIS, EUC-JP, ISO-2022-JP, gb18030 and GBK have such characters, and
+     \"recode-places --folds\" shows where they stand
+  2  the command line was refused
   3  an index file is missing or faulty, or memory was refused at the start
-  4  a read, a write or a write of the log failed, the input is longer than the limit, or with
-     --unmappable stop a character has no bytes in the output's encoding
+  4  reading the input, or writing the output or the log, failed; the input is longer than the
+     limit; or with --unmappable stop a character has no bytes in the output's encoding
 
 Message, at the end of standard error:
   2  lines from \"error:\" on; \"recode: unknown label WORD\"; \"recode: a word is not UTF-8\"
@@ -72,8 +74,8 @@ Message, at the end of standard error:
      \"recode: FILE: line N: KIND\" with Row, Order or Pointer; \"recode: FILE: table: KIND\" with
      Entry, Reserved or Ranges; \"recode: out of memory\"
   4  \"recode: read fault\"; \"recode: write fault\"; \"recode: log fault\";
-     \"recode: input too long\"; \"recode: unmappable INDEX SCALAR\", with the numbers of the line
-     of the log";
+     \"recode: input too long\"; \"recode: unmappable INDEX SCALAR\", with the numbers of its line
+     in the log";
 
 // `--name VALUE`, which has to be there.
 fn required_option<'a>(alloc: Global, name: &'a str, value_name: &'a str, help: &'a str) -> Arg<'a>

@@ -1,4 +1,4 @@
-//! What a call must return that takes an index.
+//! What a call that takes an index must return, in the words of a case.
 
 use crate::indexes::pointer;
 use crate::words::decimal;
@@ -10,8 +10,9 @@ fn text_fault(line: usize, kind: IndexFaultKind) -> Option<LoadFault> {
     Some(LoadFault::Text(IndexFault { line, kind }))
 }
 
-// Words as `ok`, `Present`, `Size`, `Entry 5`, `Reserved 8836`, `Ranges 1` and, with the line of an
-// index text, `Row 2`, `Order 2` and `Pointer 1`.
+// Reads words such as `ok`, `Present`, `Size`, `Entry 5`, `Reserved 8836` and `Ranges 1`. In
+// `Row 2`, `Order 2` and `Pointer 1` the number is that of the faulty line of an index text.
+// Returns `None` for `ok`.
 pub(crate) fn fault_of(words: &str) -> anyhow::Result<Option<LoadFault>> {
     let (word, number) = words.split_once(' ').unwrap_or((words, ""));
     Ok(match word {

@@ -1,8 +1,8 @@
-//! A file of cases, line by line.
+//! Reads a file of cases, line by line.
 
 use crate::report::Report;
 
-/// What the lines of a file of cases have put in place, and what the next one does.
+/// Reads the lines of one file of cases, and keeps what the lines so far have set up.
 pub trait Lines {
     /// The next line, which is neither empty nor a comment. It may have spaces around it.
     fn line(
@@ -12,14 +12,15 @@ pub trait Lines {
         report: &mut Report,
     ) -> anyhow::Result<()>;
 
-    /// Behind the last line: nothing, unless lines are still to be made something of.
+    /// Called once after the last line. By default it does nothing. A reader checks here the cases
+    /// that the last lines have left unchecked.
     fn end(&mut self, _: &(impl Print + AllocGlobal), _: &mut Report) -> anyhow::Result<()> {
         Ok(())
     }
 }
 
-/// Converts the cases of a file, and prints the differences and the counts. A line that can't be
-/// read is a difference.
+/// Checks the cases of a file, and prints the differences and the counts. A line that cannot be
+/// read counts as a difference.
 pub fn run_file(
     rt: &(impl Print + AllocGlobal),
     name: &'static str,

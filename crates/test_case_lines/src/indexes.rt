@@ -1,4 +1,4 @@
-//! The indexes of a file of cases, as lists, as rows and as texts.
+//! Puts the indexes of a file of cases into tables, as lists, as rows or as texts.
 
 use crate::kinds::kind_of;
 use crate::words::{decimal, hexadecimal};
@@ -7,15 +7,15 @@ use encoding_index::load;
 use encoding_tables::{IndexKind, TableFault, Tables};
 use std::alloc::Global;
 
-/// A pointer in decimal digits.
+/// Reads a pointer in decimal digits.
 pub fn pointer(word: &str) -> anyhow::Result<u32> {
     u32::try_from(decimal(word)?)
         .ok()
         .context("a pointer is too large")
 }
 
-// Adds the rows of a word as `5287=5341`, `0-127=80` (the entries rise by one), `5-9*0` (one
-// entry for all) or `0-98/2*0` (each second pointer).
+// Adds the rows of a word such as `5287=5341`, `0-127=80` (the entries rise by one), `5-9*0` (one
+// entry for all pointers) or `0-98/2*0` (every second pointer).
 fn add_rows(word: &str, rows: &mut Vec<(u32, u32)>) -> anyhow::Result<()> {
     let (pointers, entry, rise) = match word.split_once('*') {
         Some((pointers, entry)) => (pointers, entry, 0),
@@ -37,7 +37,8 @@ fn add_rows(word: &str, rows: &mut Vec<(u32, u32)>) -> anyhow::Result<()> {
     Ok(())
 }
 
-/// The rows of words as `5287=5341 0-127=80`: a pointer in decimal digits, and a character.
+/// Returns the rows of words such as `5287=5341 0-127=80`. A pointer is in decimal digits, and a
+/// character in hexadecimal ones.
 pub fn rows_of(alloc: Global, words: &str) -> anyhow::Result<Vec<(u32, u32)>> {
     let mut rows = Vec::new(alloc);
     for word in words.split_whitespace() {
@@ -46,7 +47,8 @@ pub fn rows_of(alloc: Global, words: &str) -> anyhow::Result<Vec<(u32, u32)>> {
     Ok(rows)
 }
 
-// Hands a list of this size in, all 0 but these rows. Returns why it is refused.
+// Hands in a list of this size, whose entries are 0 except those of these rows. Returns why the
+// list is refused, or `None` if it is not.
 pub(crate) fn insert_list(
     alloc: Global,
     tables: &mut Tables,
@@ -65,7 +67,7 @@ pub(crate) fn insert_list(
     Ok(tables.insert(kind, list.as_slice()).err())
 }
 
-/// Hands rows in. Returns why they are refused.
+/// Hands in rows. Returns why they are refused, or `None` if they are not.
 pub fn insert_rows(
     tables: &mut Tables,
     kind: IndexKind,
@@ -91,7 +93,7 @@ pub enum Way {
     Text,
 }
 
-// The text with a line for each of these rows.
+// Returns the index text that has a line for each row of these words.
 pub(crate) fn text_of_rows(alloc: Global, words: &str) -> anyhow::Result<Vec<u8>> {
     let mut text = String::new(alloc);
     for (pointer, entry) in rows_of(alloc, words)?.iter() {
@@ -100,7 +102,7 @@ pub(crate) fn text_of_rows(alloc: Global, words: &str) -> anyhow::Result<Vec<u8>
     Ok(Vec::from_slice(alloc, text.as_bytes())?)
 }
 
-/// Puts words as `jis0208 422=30CF` into tables.
+/// Puts the index of words such as `jis0208 422=30CF` into tables.
 pub fn put_index(alloc: Global, tables: &mut Tables, way: Way, words: &str) -> anyhow::Result<()> {
     let (name, words) = words.split_once(' ').unwrap_or((words, ""));
     let kind = kind_of(name)?;

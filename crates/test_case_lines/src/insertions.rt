@@ -1,4 +1,4 @@
-//! Indexes that are handed in, and what is there then.
+//! Hands in indexes, and checks which ones are there afterwards.
 
 use crate::faults::fault_of;
 use crate::indexes::{insert_list, insert_rows, rows_of};
@@ -11,7 +11,8 @@ use encoding_index::{LoadFault, load};
 use encoding_tables::{IndexKind, TableFault, Tables};
 use std::alloc::{AllocError, Global};
 
-// Adds the characters of an index that is there, of the ranges those below 39420.
+// Adds the characters of an index, if it is there. Of the ranges, those at pointers below 39420 are
+// added.
 fn add_characters(
     tables: &Tables,
     kind: IndexKind,
@@ -31,7 +32,7 @@ fn add_characters(
     Ok(())
 }
 
-// The characters of all indexes that are there.
+// Returns the characters of all indexes that are there.
 fn contents(alloc: Global, tables: &Tables) -> Result<Vec<Option<char>>, AllocError> {
     let mut characters = Vec::new(alloc);
     for (_, kind) in KINDS.iter() {
@@ -47,8 +48,8 @@ fn of_table(fault: Option<TableFault>) -> Option<LoadFault> {
     }
 }
 
-// Hands an index in, by words as `list 128 5=80`, `rows 5=80` and `text 5\t0x0080`. Returns why
-// it is refused.
+// Hands in an index by words such as `list 128 5=80`, `rows 5=80` and `text 5\t0x0080`. Returns why
+// the index is refused, or `None` if it is not.
 fn hand_in(
     alloc: Global,
     tables: &mut Tables,
@@ -75,7 +76,7 @@ fn hand_in(
     }
 }
 
-// Words as `big5 rows 942=2008A -> ok`. Where the index is refused no index changes.
+// Checks words such as `big5 rows 942=2008A -> ok`. If the index is refused, no index may change.
 pub(crate) fn check_insertion(
     rt: &(impl Print + AllocGlobal),
     tables: &mut Tables,

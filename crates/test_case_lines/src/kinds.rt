@@ -43,7 +43,7 @@ pub(crate) const KINDS: [(&str, IndexKind); 34] = [
 ];
 // end
 
-/// The index of this name.
+/// Returns the index of this name.
 pub fn kind_of(name: &str) -> anyhow::Result<IndexKind> {
     for (known, kind) in KINDS.iter() {
         if name == *known {

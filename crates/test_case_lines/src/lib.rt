@@ -1,6 +1,6 @@
-//! What the programs whose cases are lines of files share: the driver of a file, what is printed of
-//! it, and the words of a line as numbers, bytes, texts and indexes. Besides, the lines of
-//! `test_encoding_cases` that look into indexes.
+//! The parts that the test programs share whose cases are lines of files: the driver of a file, the
+//! report that is printed of it, and the reading of words as numbers, bytes, texts and indexes. It
+//! also has the lines of `test_encoding_cases` that look into indexes.
 #![tactic(auto)]
 
 mod faults;

@@ -1,4 +1,5 @@
-//! Look-ups in the indexes that are there, by the tables and by what they lend.
+//! Look-ups in the indexes that are there. Each is made twice: by `Tables`, and by the view of one
+//! index that `Tables` lends.
 
 use crate::indexes::{pointer, rows_of};
 use crate::kinds::kind_of;
@@ -8,8 +9,8 @@ use anyhow::{Context, ensure};
 use encoding_tables::laws::search;
 use encoding_tables::{IndexKind, Tables};
 
-// The character at a pointer, by the tables and by what they lend. None where they differ, or the
-// index is not there.
+// Returns the character at a pointer, looked up by the tables and by the view that they lend.
+// Returns `None` if the two differ, or if the index is not there.
 fn value(tables: &Tables, kind: IndexKind, pointer: u32) -> Option<Option<char>> {
     if kind.is_ranges() {
         if !tables.has(IndexKind::Gb18030Ranges) {
@@ -33,7 +34,8 @@ fn value(tables: &Tables, kind: IndexKind, pointer: u32) -> Option<Option<char>>
     }
 }
 
-// The pointer of a character in the ranges, in the same way.
+// Returns the pointer of a character in the ranges, looked up in both ways. Returns `None` if the
+// two differ, or if the ranges are not there.
 fn range_pointer(tables: &Tables, c: char) -> Option<Option<u32>> {
     if !tables.has(IndexKind::Gb18030Ranges) {
         return None;
@@ -46,7 +48,8 @@ fn range_pointer(tables: &Tables, c: char) -> Option<Option<u32>> {
     }
 }
 
-// The first or the last pointer of a character between two, in the same way.
+// Returns the first or the last pointer of a character from `from` to below `to`, looked up in both
+// ways. Returns `None` if the two differ, or if no list of this kind is there.
 fn pointer_in(
     tables: &Tables,
     kind: IndexKind,
@@ -72,7 +75,7 @@ fn pointer_in(
     if lent == found { Some(found) } else { None }
 }
 
-// Words as `big5 5287=5341 0-127=80`: what stands at these pointers.
+// Checks words such as `big5 5287=5341 0-127=80`: these characters stand at these pointers.
 pub(crate) fn check_values(
     rt: &(impl Print + AllocGlobal),
     tables: &Tables,
@@ -95,7 +98,7 @@ pub(crate) fn check_values(
     Ok(())
 }
 
-// Words as `big5 5286 6000-6009`: nothing stands at these pointers.
+// Checks words such as `big5 5286 6000-6009`: nothing stands at these pointers.
 pub(crate) fn check_gaps(
     rt: &(impl Print + AllocGlobal),
     tables: &Tables,
@@ -115,7 +118,7 @@ pub(crate) fn check_gaps(
     Ok(())
 }
 
-// Words as `7457=E7C7`: these are the pointers of the ranges that are written for characters.
+// Checks words such as `7457=E7C7`: the ranges return this pointer for this character.
 pub(crate) fn check_range_pointers(
     rt: &(impl Print + AllocGlobal),
     tables: &Tables,
@@ -131,7 +134,7 @@ pub(crate) fn check_range_pointers(
     Ok(())
 }
 
-// Words as `1E3F 80`: characters without a pointer in the ranges.
+// Checks words such as `1E3F 80`: these characters have no pointer in the ranges.
 pub(crate) fn check_unmapped(
     rt: &(impl Print + AllocGlobal),
     tables: &Tables,
@@ -152,8 +155,8 @@ pub(crate) fn check_unmapped(
     Ok(())
 }
 
-// Words as `big5 5341 0 19782 -> 3` or `-> none`: the first or the last pointer of a character,
-// from one to below another.
+// Checks words such as `big5 5341 0 19782 -> 3` or `-> none`: the first or the last pointer of a
+// character that is not below the first number and is below the second.
 pub(crate) fn check_pointer(
     rt: &(impl Print + AllocGlobal),
     tables: &Tables,
@@ -178,7 +181,7 @@ pub(crate) fn check_pointer(
     report.compare(rt, "the pointer", &found, &Some(expected))
 }
 
-// Words as `big5 no`: whether an index is there.
+// Checks words such as `big5 no`: whether an index is there.
 pub(crate) fn check_presence(
     rt: &(impl Print + AllocGlobal),
     tables: &Tables,
@@ -202,8 +205,9 @@ fn form_of(kind: IndexKind) -> &'static str {
     }
 }
 
-// Words as `big5 index-big5.txt 19782 list`: the file of an index, how many entries it has, and
-// whether it is a `list`, one of a `single`-byte encoding, or the `ranges`.
+// Checks words such as `big5 index-big5.txt 19782 list`: the file of an index, how many entries it
+// has, and its form. The form is `list`, `single` for an index of a single-byte encoding, or
+// `ranges`.
 pub(crate) fn check_kind(
     rt: &(impl Print + AllocGlobal),
     words: &str,
@@ -222,7 +226,8 @@ pub(crate) fn check_kind(
     report.compare_texts(rt, "its form", form_of(kind), form)
 }
 
-// How many rows are below a key, and how many were compared; nothing where the rows do not rise.
+// Returns how many rows are below a key, and how many were compared to find this number. Returns
+// `None` if the rows do not rise.
 fn below(rows: &[(u32, u32)], key: (u32, u32)) -> Option<(usize, u32)> {
     let rising = rows.windows(2).all(|pair| {
         pair[0].0 < pair[1].0 || pair[0].0 == pair[1].0 && pair[0].1 < pair[1].1
@@ -233,8 +238,8 @@ fn below(rows: &[(u32, u32)], key: (u32, u32)) -> Option<(usize, u32)> {
     Some(search(rows, key))
 }
 
-// Words as `3 8 among 1=5 3=0 -> 2, 2`: of these rows so many are below a key, and at most so
-// many are compared. Numbers behind a `=` and in a key behind the first are hexadecimal.
+// Checks words such as `3 8 among 1=5 3=0 -> 2, 2`: how many of these rows are below the key `3 8`,
+// and how many are compared at most. The second number of a key or of a row is hexadecimal.
 pub(crate) fn check_search(
     rt: &(impl Print + AllocGlobal),
     words: &str,

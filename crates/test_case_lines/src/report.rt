@@ -1,4 +1,4 @@
-//! What is printed of a file.
+//! Counts the cases, conversions and differences of a file of cases, and prints them.
 
 use std::fmt::Debug;
 
@@ -6,17 +6,17 @@ use std::fmt::Debug;
 #[derive(Clone, Copy)]
 pub struct Report {
     file: &'static str,
-    // The line that is read.
+    // The number of the line that is being read.
     line: usize,
     cases: u32,
     conversions: u32,
     differences: u32,
-    // Whether a difference of this line was printed.
+    // Whether a difference of this line has been printed.
     is_told: bool,
 }
 
 impl Report {
-    /// Of a file of which nothing is read.
+    /// Returns the report on a file of which nothing has been read yet.
     pub fn new(file: &'static str) -> Self {
         Report {
             file,
@@ -28,13 +28,13 @@ impl Report {
         }
     }
 
-    /// The line that is read or converted.
+    /// Sets the number of the line that is being read or converted.
     pub fn at(&mut self, line: usize) {
         self.line = line;
         self.is_told = false;
     }
 
-    /// The number of the line that is read.
+    /// Returns the number of the line that is being read.
     pub fn line(&self) -> usize {
         self.line
     }
@@ -49,13 +49,14 @@ impl Report {
         self.conversions = self.conversions.wrapping_add(1);
     }
 
-    /// Counts so many conversions.
+    /// Counts `count` conversions.
     pub fn count_conversions(&mut self, count: usize) {
         let count = u32::try_from(count).unwrap_or(u32::MAX);
         self.conversions = self.conversions.saturating_add(count);
     }
 
-    // Counts a difference. Returns whether it is the first of its line, which is printed.
+    // Counts a difference. Returns whether it is the first one of its line: only that one is
+    // printed.
     fn count_difference(&mut self) -> bool {
         let is_first = !self.is_told;
         self.differences = self.differences.wrapping_add(1);
@@ -63,7 +64,7 @@ impl Report {
         is_first
     }
 
-    /// Prints the first difference of a line, and counts all.
+    /// Counts a difference, and prints it if it is the first one of its line.
     pub fn differs(&mut self, rt: &impl Print, what: &str) -> anyhow::Result<()> {
         if self.count_difference() {
             println!(rt; "{}:{}: {what}", self.file, self.line)?;
@@ -71,8 +72,8 @@ impl Report {
         Ok(())
     }
 
-    /// Compares what there is with what is expected: prints the first difference of a line, and
-    /// counts all.
+    /// Compares a value with the expected one. If they differ, counts the difference, and prints it
+    /// if it is the first one of its line.
     pub fn compare<T: PartialEq + Debug>(
         &mut self,
         rt: &impl Print,
@@ -89,7 +90,7 @@ impl Report {
         Ok(())
     }
 
-    /// The same of texts.
+    /// Compares two texts as `compare` does, and prints them without quotes.
     pub fn compare_texts(
         &mut self,
         rt: &impl Print,
@@ -103,7 +104,7 @@ impl Report {
         Ok(())
     }
 
-    /// The same by a plan, which is printed with the difference.
+    /// Compares as `compare` does, and prints the plan of the conversion with the difference.
     pub fn compare_by<P: Debug, T: PartialEq + Debug>(
         &mut self,
         rt: &impl Print,

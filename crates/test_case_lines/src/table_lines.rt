@@ -20,7 +20,7 @@ pub struct TableLines {
 }
 
 impl TableLines {
-    /// Without indexes.
+    /// Returns a reader of lines that has no indexes yet.
     pub fn new(alloc: Global) -> TableLines {
         TableLines {
             tables: Tables::new(alloc),
@@ -29,7 +29,7 @@ impl TableLines {
 }
 
 impl Lines for TableLines {
-    // A line `tables` begins a case: from there on no index is there.
+    // Reads a line. The line `tables` begins a case, and removes all indexes.
     fn line(
         &mut self,
         rt: &(impl Print + AllocGlobal),

@@ -1,4 +1,4 @@
-//! Index texts that are read.
+//! Reads index texts, and checks what is read of them.
 
 use crate::faults::fault_of;
 use crate::indexes::{rows_of, text_of_rows};
@@ -10,7 +10,8 @@ use encoding_index::{IndexFault, LoadFault, read_index, read_ranges};
 use encoding_tables::IndexKind;
 use std::alloc::Global;
 
-// A text by words as `text 0\t0x0080`, or `text-of 0-127=80`: a line for each of these rows.
+// Returns the text of words such as `text 0\t0x0080` or `text-of 0-127=80`. A text of the second
+// form has a line for each of these rows.
 pub(crate) fn text_of(alloc: Global, words: &str) -> anyhow::Result<Vec<u8>> {
     let (form, rest) = first_word(words);
     match form {
@@ -20,7 +21,7 @@ pub(crate) fn text_of(alloc: Global, words: &str) -> anyhow::Result<Vec<u8>> {
     }
 }
 
-// What is read of an index text.
+// The result of reading an index text.
 #[derive(Drop)]
 enum Told {
     Rows(Vec<(u32, u32)>),
@@ -28,7 +29,7 @@ enum Told {
     Fault(IndexFault),
 }
 
-// The rows of a list: those of its entries that are not 0.
+// Returns the rows of a list, which are its entries other than 0.
 fn rows_of_list(alloc: Global, list: &[u32]) -> anyhow::Result<Vec<(u32, u32)>> {
     let mut rows = Vec::new(alloc);
     for (pointer, entry) in list.iter().enumerate() {
@@ -53,7 +54,8 @@ fn told_of(alloc: Global, kind: IndexKind, text: &[u8]) -> anyhow::Result<Told> 
     }
 }
 
-// Words as `koi8-r text 0\t0x00C0 -> ok 0=C0`: the fault, or the rows that are read.
+// Checks words such as `koi8-r text 0\t0x00C0 -> ok 0=C0`: the fault of a text, or the rows that
+// are read of it.
 pub(crate) fn check_reading(
     rt: &(impl Print + AllocGlobal),
     words: &str,

@@ -1,28 +1,28 @@
-//! The words of a line as numbers, bytes and characters.
+//! Reads the words of a line as numbers, bytes and characters.
 
 use anyhow::{Context, bail};
 use std::alloc::Global;
 
-/// A number in decimal digits.
+/// Reads a number in decimal digits.
 pub fn decimal(word: &str) -> anyhow::Result<usize> {
     usize::from_str_radix(word, 10)
         .ok()
         .context("a number is not decimal")
 }
 
-/// A number in hexadecimal digits.
+/// Reads a number in hexadecimal digits.
 pub fn hexadecimal(word: &str) -> anyhow::Result<u32> {
     u32::from_str_radix(word, 16)
         .ok()
         .context("a number is not hexadecimal")
 }
 
-/// The character of a number in hexadecimal digits.
+/// Returns the character whose number a word gives in hexadecimal digits.
 pub fn scalar(word: &str) -> anyhow::Result<char> {
     char::from_u32(hexadecimal(word)?).context("a number is not a character's")
 }
 
-/// Adds the bytes that pairs of hexadecimal digits write.
+/// Adds the bytes that a word gives as pairs of hexadecimal digits.
 pub fn add_bytes(word: &str, bytes: &mut Vec<u8>) -> anyhow::Result<()> {
     let mut high = None;
     for c in word.chars() {
@@ -42,8 +42,8 @@ pub fn add_bytes(word: &str, bytes: &mut Vec<u8>) -> anyhow::Result<()> {
     Ok(())
 }
 
-/// The bytes of a text in which `\t`, `\n`, `\r` and `\xEF` stand for a tab, the ends of lines
-/// and any byte.
+/// Returns the bytes of a text in which `\t`, `\n`, `\r` and `\xEF` stand for a tab, the ends of
+/// lines and any byte.
 pub fn unescaped(alloc: Global, text: &str) -> anyhow::Result<Vec<u8>> {
     let mut bytes = Vec::new(alloc);
     let mut parts = text.split('\\');
@@ -68,7 +68,7 @@ pub fn unescaped(alloc: Global, text: &str) -> anyhow::Result<Vec<u8>> {
     Ok(bytes)
 }
 
-/// The numbers of words in hexadecimal digits.
+/// Reads words as numbers in hexadecimal digits.
 pub fn numbers(alloc: Global, words: &str) -> anyhow::Result<Vec<u32>> {
     let mut numbers = Vec::new(alloc);
     for word in words.split_whitespace() {
@@ -77,13 +77,13 @@ pub fn numbers(alloc: Global, words: &str) -> anyhow::Result<Vec<u32>> {
     Ok(numbers)
 }
 
-/// A line in two: what is done, and what must come of it.
+/// Splits a line at its `->` into what is done and what must come of it.
 pub fn halves(words: &str) -> anyhow::Result<(&str, &str)> {
     let (call, told) = words.split_once("->").context("a line has no `->`")?;
     Ok((call.trim(), told.trim()))
 }
 
-/// The first word, and what stands behind it.
+/// Returns the first word, and the words after it.
 pub fn first_word(words: &str) -> (&str, &str) {
     let (word, rest) = words.split_once(' ').unwrap_or((words, ""));
     (word, rest.trim())

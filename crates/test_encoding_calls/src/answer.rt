@@ -1,4 +1,4 @@
-//! One call of a decoder or an encoder, and all that it tells.
+//! Makes one call of a decoder or an encoder, and keeps all that comes of it.
 
 use crate::kinds::{Form, Outcome, widened};
 use encoding_codecs::Iso2022JpDecoder;
@@ -11,27 +11,28 @@ use encoding_tables::Utf16Decoder;
 use encoding_tables::each_byte_decoder::EachByteDecoder;
 use std::alloc::{AllocError, Global};
 
-/// Stands in a room where nothing is written.
+/// The byte that fills a room before a call. It must still stand after the output.
 pub const UNWRITTEN: u8 = 0xEE;
 
-// Stands in a room of units where nothing is written.
+// The unit that fills a room before a call. It must still stand after the output.
 pub(crate) const UNWRITTEN_UNIT: u16 = 0xEEEE;
 
-/// What a call tells.
+/// All that comes of a call.
 #[derive(Drop)]
 pub struct Answer {
-    /// How it ended.
+    /// How the call ended.
     pub outcome: Outcome,
     /// How many bytes or units it read.
     pub read: usize,
     /// The bytes or units that it wrote.
     pub output: Vec<u32>,
-    /// Whether what stands behind them is as it was.
+    /// Whether the rest of the room, after the output, is as it was before the call.
     pub keeps_rest: bool,
 }
 
 impl Answer {
-    /// Of a call that wrote so many elements to the front of a room in which each was `unwritten`.
+    /// Returns the answer of a call into a room that was filled with `unwritten`. The call wrote so
+    /// many elements to the front of it.
     pub fn of<T: Copy + PartialEq>(
         alloc: Global,
         outcome: Outcome,
@@ -55,12 +56,12 @@ impl Answer {
     }
 }
 
-/// A decoder that may tell whether it is as at the start of a stream.
+/// A decoder that may report whether it is in the state in which a stream begins.
 pub trait Neutral: RawDecoder {
-    /// Whether it is, where it tells.
+    /// Returns whether it is in that state, or `None` if this decoder does not report it.
     fn is_neutral(&self) -> Option<bool>;
 
-    /// Whether that agrees with what is pending.
+    /// Returns whether that agrees with the number of bytes that are pending.
     fn is_at_one(&self) -> bool;
 }
 
@@ -124,7 +125,7 @@ impl<'t> Neutral for VariantDecoder<'t> {
     }
 }
 
-/// One call of a decoder into so much room.
+/// Makes one call of a decoder into `room` bytes or units.
 pub fn decode<D: RawDecoder>(
     alloc: Global,
     decoder: &mut D,
@@ -149,7 +150,8 @@ pub fn decode<D: RawDecoder>(
     }
 }
 
-/// The room that a decoder asks for: for its text, and with U+FFFD for each malformed sequence.
+/// Returns the room that a decoder asks for: without replacement, and with U+FFFD for each
+/// malformed sequence.
 pub fn decoded_room<D: RawDecoder>(
     decoder: &D,
     form: Form,
@@ -175,7 +177,7 @@ pub enum Text<'a> {
 }
 
 impl<'a> Text<'a> {
-    /// How many bytes or units it has.
+    /// Returns how many bytes or units it has.
     pub fn len(self) -> usize {
         match self {
             Text::Utf8(text) => text.len(),
@@ -183,7 +185,8 @@ impl<'a> Text<'a> {
         }
     }
 
-    /// What is left behind so many bytes or units.
+    /// Returns the text after its first `read` bytes or units. Returns `None` if the text cannot be
+    /// split there.
     pub fn behind(self, read: usize) -> Option<Text<'a>> {
         match self {
             Text::Utf8(text) => Some(Text::Utf8(text.split_at_checked(read)?.1)),
@@ -191,7 +194,8 @@ impl<'a> Text<'a> {
         }
     }
 
-    /// What stands before so many bytes or units.
+    /// Returns the text before this place, in bytes or units. Returns `None` if the text cannot be
+    /// split there.
     pub fn before(self, cut: usize) -> Option<Text<'a>> {
         match self {
             Text::Utf8(text) => Some(Text::Utf8(text.split_at_checked(cut)?.0)),
@@ -200,7 +204,7 @@ impl<'a> Text<'a> {
     }
 }
 
-/// One call of an encoder into so much room.
+/// Makes one call of an encoder into `room` bytes.
 pub fn encode<E: RawEncoder>(
     alloc: Global,
     encoder: &mut E,
@@ -217,7 +221,7 @@ pub fn encode<E: RawEncoder>(
     Answer::of(alloc, outcome, read, (&dst, written), UNWRITTEN)
 }
 
-/// The room that an encoder asks for.
+/// Returns the room that an encoder asks for, without references, for `n` bytes or units.
 pub fn encoded_room<E: RawEncoder>(encoder: &E, form: Form, n: usize) -> Option<usize> {
     match form {
         Form::Utf8 => encoder.max_buffer_length_from_utf8_without_replacement(n),

@@ -1,4 +1,4 @@
-//! The lines of single calls, each with all that the call must tell.
+//! The lines of single calls, each with all that must come of the call.
 
 use crate::kinds::{Form, Outcome};
 use anyhow::{Context, bail};
@@ -10,20 +10,22 @@ use test_case_lines::words::{add_bytes, decimal, numbers, scalar};
 pub enum Source {
     /// What the call before left unread.
     Rest,
-    /// Bytes, the characters of a text, or units.
+    /// The bytes for a decoder, or the characters for an encoder. A surrogate stands for one unit
+    /// of UTF-16.
     Numbers(Vec<u32>),
 }
 
-/// How a call must end. A number that a case leaves open is none.
+/// How a call must end. A case may leave open how many bytes are read after a malformed sequence.
 #[derive(Clone, Copy)]
 pub enum Ending {
     Exactly(Outcome),
-    /// The length of a malformed sequence, with any number of bytes behind it.
+    /// A malformed sequence of this length, after which any number of bytes may be read.
     Malformed(usize),
 }
 
 impl Ending {
-    /// The outcome that it must be, with what it leaves open as in that which there is.
+    /// Returns the outcome that the call must have. The number that a case leaves open is that of
+    /// the actual outcome.
     pub fn of(self, outcome: Outcome) -> Outcome {
         match (self, outcome) {
             (Ending::Exactly(expected), _) => expected,
@@ -39,16 +41,16 @@ impl Ending {
 #[derive(Clone, Copy, PartialEq, Eq, Debug)]
 pub enum State {
     Pending(usize),
-    /// Whether a decoder is as at the start.
+    /// Whether a decoder is in the state in which a stream begins.
     Neutral(bool),
     /// Whether an encoder has an escape to write.
     Escape(bool),
-    /// Whether an encoder says that it wrote a reference.
+    /// Whether an encoder reports that it wrote a reference.
     Lost(bool),
 }
 
 impl State {
-    /// Whether both say the like of one thing.
+    /// Returns whether both states are of one kind, such as two numbers of pending bytes.
     pub fn is_of_kind(self, other: State) -> bool {
         matches!(
             (self, other),
@@ -64,14 +66,15 @@ impl State {
 #[derive(Drop)]
 pub enum Ask {
     Finished(bool),
-    /// Whether the call says that it replaced a malformed sequence.
+    /// Whether the call reports that it replaced a malformed sequence.
     Errors(bool),
-    /// The encoding that is found, by its name.
+    /// The name of the encoding that the decoder has found.
     Found(String),
-    /// The room for so many more bytes: in units, and in bytes without replacement and with it.
-    /// One that a case leaves open is none.
+    /// The number of bytes still to come, and the rooms for them: in units, in bytes without
+    /// replacement, and in bytes with it. A room that the case leaves open is `None`.
     Rooms(usize, [Option<Option<usize>>; 3]),
-    /// How many of these bytes are Latin1.
+    /// Some bytes, and how many of them must be Latin1, or `None` if the decoder must return no
+    /// number.
     Latin1(Vec<u8>, Option<usize>),
 }
 
@@ -79,23 +82,23 @@ pub enum Ask {
 #[derive(Clone, Copy)]
 pub enum Given {
     Room(usize),
-    /// That which the decoder asks for just before.
+    /// The room that the decoder asks for just before the call.
     Asked,
 }
 
-/// A call, and what it must tell.
+/// A call, and what must come of it.
 #[derive(Drop)]
 pub struct CallLine {
     pub number: usize,
     pub form: Form,
     pub room: Given,
     pub last: bool,
-    /// Whether an `Encoder` writes references.
+    /// Whether an `Encoder` writes references, or a `Decoder` U+FFFD.
     pub replaces: bool,
     pub source: Source,
     pub ending: Ending,
     pub read: Option<usize>,
-    /// The characters that a decoder writes, the bytes that an encoder writes.
+    /// The characters that a decoder writes, or the bytes that an encoder writes.
     pub output: Vec<u32>,
     pub states: Vec<State>,
     pub asks: Vec<Ask>,
@@ -121,7 +124,7 @@ fn ending_of(words: &str) -> anyhow::Result<Ending> {
     }
 }
 
-/// A number, or `none`.
+/// Reads a number in decimal digits, or `none`.
 pub fn number_or_none(word: &str) -> anyhow::Result<Option<usize>> {
     if word == "none" {
         return Ok(None);
@@ -129,7 +132,8 @@ pub fn number_or_none(word: &str) -> anyhow::Result<Option<usize>> {
     Ok(Some(decimal(word)?))
 }
 
-// A room, `none` where it passes a `usize`, or `?`.
+// Reads a room: a number, `none` if the room does not fit a `usize`, or `?` if the case leaves the
+// room open.
 fn room_or_open(word: &str) -> anyhow::Result<Option<Option<usize>>> {
     if word == "?" {
         return Ok(None);
@@ -137,8 +141,8 @@ fn room_or_open(word: &str) -> anyhow::Result<Option<Option<usize>>> {
     Ok(Some(number_or_none(word)?))
 }
 
-/// Words as `found UTF-8`, `rooms 1 4 9 ?` and `latin1 6180 1`. None where they are not of a
-/// `Decoder`.
+/// Reads words such as `found UTF-8`, `rooms 1 4 9 ?` and `latin1 6180 1`. Returns `None` if they
+/// ask nothing of a `Decoder`.
 pub fn ask_of(alloc: Global, words: &str) -> anyhow::Result<Option<Ask>> {
     match words {
         "finished" => return Ok(Some(Ask::Finished(true))),
@@ -197,7 +201,7 @@ fn source_of(alloc: Global, words: &str) -> anyhow::Result<Source> {
     Ok(Source::Numbers(numbers(alloc, words)?))
 }
 
-// How much must be read; none where a case leaves it open.
+// Reads how many bytes or units the call must read. Returns `None` for `?`, which leaves this open.
 fn read_of(word: &str) -> anyhow::Result<Option<usize>> {
     if word == "?" {
         return Ok(None);
@@ -205,7 +209,8 @@ fn read_of(word: &str) -> anyhow::Result<Option<usize>> {
     Ok(Some(decimal(word)?))
 }
 
-// The form and the room, whether the call is the last, and whether it writes references.
+// Reads the form, the room, whether the call is the last, and whether it replaces what it cannot
+// convert.
 fn head_of(words: &str) -> anyhow::Result<(Form, Given, bool, bool)> {
     let mut words = words.split_whitespace();
     let form = Form::of(words.next().unwrap_or("")).context("a form is not known")?;
@@ -225,7 +230,7 @@ fn head_of(words: &str) -> anyhow::Result<(Form, Given, bool, bool)> {
 }
 
 impl CallLine {
-    /// A line as `utf-8 8 last: B0 41 -> Malformed 1 0, 1, AC00, pending 0`.
+    /// Reads a line such as `utf-8 8 last: B0 41 -> Malformed 1 0, 1, AC00, pending 0`.
     pub fn of(alloc: Global, number: usize, line: &str) -> anyhow::Result<Self> {
         let (call, told) = line.split_once(" -> ").context("a call has no ` -> `")?;
         let (head, source) = call.split_once(':').context("a call has no `:`")?;
@@ -253,7 +258,7 @@ impl CallLine {
         Ok(line)
     }
 
-    // Adds what must be answered, or hold, after the call.
+    // Adds an answer that must be given, or a state that must hold, after the call.
     fn add(&mut self, alloc: Global, field: &str) -> anyhow::Result<()> {
         match ask_of(alloc, field)? {
             Some(ask) => self.asks.push(ask)?,

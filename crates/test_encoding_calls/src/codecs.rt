@@ -1,5 +1,5 @@
-//! The decoder and the encoder of an encoding: its own codec, and the one that `encoding_front`
-//! chooses.
+//! The two decoders and the two encoders that each encoding is tested by: its own codec, and the
+//! one that `encoding_front` chooses.
 
 ghost use Rattle.encoding_front.specs.Encodings.{IsReady};
 
@@ -16,7 +16,7 @@ use encoding_tables::{
     UserDefinedDecoder, UserDefinedEncoder, Utf16Decoder,
 };
 
-/// Which decoder or encoder of an encoding.
+/// Which of the two decoders or encoders of an encoding is called.
 #[derive(Clone, Copy, PartialEq, Eq, Debug)]
 pub enum Through {
     Codec,
@@ -24,7 +24,7 @@ pub enum Through {
 }
 
 impl Through {
-    /// Both, or the codec alone where not all indexes are there that the encoding needs.
+    /// Returns both. If an index that the encoding needs is not there, returns the codec alone.
     pub fn of(is_ready: bool) -> &'static [Through] {
         if is_ready {
             &[Through::Codec, Through::Variant]
@@ -34,17 +34,17 @@ impl Through {
     }
 }
 
-/// What is done with a new decoder, of whichever encoding.
+/// What is done with a new decoder of any encoding.
 pub trait DecoderTask {
     fn run<D: Neutral + Drop>(&mut self, decoder: D) -> anyhow::Result<()>;
 }
 
-/// What is done with a new encoder, of whichever encoding.
+/// What is done with a new encoder of any encoding.
 pub trait EncoderTask {
     fn run<E: RawEncoder + Drop>(&mut self, encoder: E) -> anyhow::Result<()>;
 }
 
-/// Does this with a decoder. Returns whether the indexes are there.
+/// Runs a task with a new decoder. Returns whether the indexes that the decoder needs are there.
 pub fn with_decoder<T: DecoderTask>(
     tables: &Tables,
     encoding: Encoding,
@@ -99,7 +99,7 @@ fn with_codec_decoder<T: DecoderTask>(
     Ok(true)
 }
 
-/// Does this with an encoder. Returns whether the indexes are there.
+/// Runs a task with a new encoder. Returns whether the indexes that the encoder needs are there.
 pub fn with_encoder<T: EncoderTask>(
     tables: &Tables,
     encoding: Encoding,

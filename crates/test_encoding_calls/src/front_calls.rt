@@ -1,4 +1,4 @@
-//! One call of a `Decoder`, of each kind, and all that it tells.
+//! Makes one call of a `Decoder`, of any kind, and keeps all that comes of it.
 
 use crate::answer::{Answer, UNWRITTEN, UNWRITTEN_UNIT};
 use crate::kinds::{Form, Outcome, widened};
@@ -11,9 +11,9 @@ use std::alloc::{AllocError, Global};
 pub enum Destination {
     Bytes,
     Units,
-    /// Over the bytes of a text.
+    /// Over the text of a `str`.
     Text,
-    /// Behind a text, into its spare capacity.
+    /// After the text of a `String`, into its spare capacity.
     Spare,
 }
 
@@ -24,7 +24,7 @@ pub struct Kind {
     pub replaces: bool,
 }
 
-/// What a call tells, and whether it says that there was a malformed sequence.
+/// All that comes of a call, and whether the call reports a malformed sequence.
 #[derive(Drop)]
 pub struct KindAnswer {
     pub answer: Answer,
@@ -32,7 +32,7 @@ pub struct KindAnswer {
 }
 
 impl Kind {
-    /// The form of the text that it writes.
+    /// Returns the form of the text that the call writes.
     pub fn form(self) -> Form {
         match self.destination {
             Destination::Units => Form::Utf16,
@@ -40,7 +40,8 @@ impl Kind {
         }
     }
 
-    /// The room that a decoder asks for, before calls of this kind.
+    /// Returns the room that a decoder asks for before a call of this kind. Returns `None` if the
+    /// decoder is finished, or if the room does not fit a `usize`.
     pub fn room(self, decoder: &Decoder<'_>, n: usize) -> Option<usize> {
         if decoder.is_finished() {
             return None;
@@ -52,7 +53,7 @@ impl Kind {
         }
     }
 
-    /// One call into so much room. None where the decoder is finished.
+    /// Makes one call into `room` bytes or units. Returns `None` if the decoder is finished.
     pub fn call(
         self,
         alloc: Global,
@@ -124,7 +125,8 @@ fn into_units(
     }))
 }
 
-// The rest of a text must stay one, and is not compared.
+// Decodes over the bytes of a text. What stands after the output must still be text. It is not
+// compared.
 fn over_text(
     alloc: Global,
     decoder: &mut Decoder<'_>,

@@ -1,4 +1,4 @@
-//! What cases speak of: the form of a text, and how a call ended.
+//! The form of a text, and how a call ended.
 
 use encoding_front::CoderResult;
 use encoding_mem::{DecoderResult, EncoderResult};
@@ -12,7 +12,7 @@ pub enum Form {
 }
 
 impl Form {
-    /// The form that a word names.
+    /// Returns the form that a word names.
     pub fn of(word: &str) -> Option<Form> {
         match word {
             "utf-8" => Some(Form::Utf8),
@@ -21,7 +21,7 @@ impl Form {
         }
     }
 
-    /// The least room that a decoder is given.
+    /// Returns the least room that a decoder is given.
     pub fn least_room(self) -> usize {
         match self {
             Form::Utf8 => 4,
@@ -54,13 +54,13 @@ impl Form {
 pub enum Outcome {
     InputEmpty,
     OutputFull,
-    /// The length, and how many bytes were read behind it.
+    /// The length of the sequence, and how many bytes were read after it.
     Malformed(usize, usize),
     Unmappable(char),
 }
 
 impl Outcome {
-    /// What a call returns that replaces what it can't convert.
+    /// Returns the outcome of a call that replaces what it cannot convert.
     pub fn of_coder(outcome: CoderResult) -> Outcome {
         match outcome {
             CoderResult::InputEmpty => Outcome::InputEmpty,
@@ -68,7 +68,7 @@ impl Outcome {
         }
     }
 
-    // What a decoder returns.
+    // Returns the outcome of a call of a decoder.
     pub(crate) fn of_decoder(outcome: DecoderResult) -> Outcome {
         match outcome {
             DecoderResult::InputEmpty => Outcome::InputEmpty,
@@ -79,7 +79,7 @@ impl Outcome {
         }
     }
 
-    /// What an encoder returns.
+    /// Returns the outcome of a call of an encoder.
     pub fn of_encoder(outcome: EncoderResult) -> Outcome {
         match outcome {
             EncoderResult::InputEmpty => Outcome::InputEmpty,
@@ -89,17 +89,17 @@ impl Outcome {
     }
 }
 
-/// A part of what a stream becomes.
+/// A part of what a stream is converted to.
 #[derive(Clone, Copy, PartialEq, Eq, Debug)]
 pub enum Item {
     /// A byte or a unit.
     Output(u32),
-    /// Where a malformed sequence begins, and its length.
+    /// Where a malformed sequence begins, and how long it is.
     Malformed(usize, usize),
     Unmappable(char),
 }
 
-// Bytes or units as numbers.
+// Returns bytes or units as numbers.
 pub(crate) fn widened<T: Copy>(alloc: Global, output: &[T]) -> Result<Vec<u32>, AllocError>
 where
     u32: From<T>,

@@ -1,5 +1,6 @@
-//! One call of a decoder or an encoder, of each kind, and all that it tells; and what a line of a
-//! case says of it. The programs of cases of encodings and their codecs stand on this.
+//! Single calls of decoders and encoders, of each kind, with all that comes of a call, and the
+//! lines of cases that say what must come of it. The programs that read the cases of encodings and
+//! of their codecs use this crate.
 #![tactic(auto)]
 
 pub mod answer;

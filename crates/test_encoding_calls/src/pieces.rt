@@ -1,4 +1,4 @@
-//! Streams, each piece with what it becomes.
+//! Streams and texts in pieces, each piece with what it becomes.
 
 use crate::kinds::{Form, Item};
 use anyhow::Context;
@@ -9,7 +9,7 @@ use test_case_lines::words::{add_bytes, scalar};
 #[derive(Drop)]
 pub struct DecodedStream {
     pub bytes: Vec<u8>,
-    /// With U+FFFD for each malformed sequence.
+    /// The text, with U+FFFD for each malformed sequence.
     pub text: String,
     pub utf8: Vec<Item>,
     pub utf16: Vec<Item>,
@@ -26,7 +26,7 @@ fn add_character(alloc: Global, form: Form, c: char, items: &mut Vec<Item>) -> a
 }
 
 impl DecodedStream {
-    /// Pieces as `B0A1=AC00`, `8862=CA+304`, `1B2842=` and, where malformed, `B0=!`.
+    /// Reads pieces such as `B0A1=AC00`, `8862=CA+304` and `1B2842=`. A malformed piece is `B0=!`.
     pub fn of(alloc: Global, pieces: &str) -> anyhow::Result<Self> {
         let mut stream = DecodedStream {
             bytes: Vec::new(alloc),
@@ -60,14 +60,14 @@ impl DecodedStream {
         Ok(())
     }
 
-    /// Whether a piece is malformed.
+    /// Returns whether a piece is malformed.
     pub fn is_malformed(&self) -> bool {
         self.utf8
             .iter()
             .any(|item| matches!(item, Item::Malformed(_, _)))
     }
 
-    /// The text as it is written where malformed sequences are replaced.
+    /// Returns the text as a decoder writes it that replaces malformed sequences.
     pub fn replaced(&self, alloc: Global, form: Form) -> anyhow::Result<Vec<Item>> {
         let mut items = Vec::new(alloc);
         for c in self.text.chars() {
@@ -76,7 +76,7 @@ impl DecodedStream {
         Ok(items)
     }
 
-    /// The pieces in a form.
+    /// Returns what the pieces become in a form.
     pub fn items(&self, form: Form) -> &[Item] {
         match form {
             Form::Utf8 => self.utf8.as_slice(),
@@ -90,14 +90,15 @@ impl DecodedStream {
 pub struct EncodedStream {
     pub text: String,
     pub units: Vec<u16>,
-    /// Where characters end, in bytes and in units.
+    /// Where characters end, in bytes and in units. The first place is the start of the text.
     pub cuts: Vec<(usize, usize)>,
     pub items: Vec<Item>,
 }
 
 impl EncodedStream {
-    /// Pieces as `AC00=B0A1`, `30CF=1B2442254F`, `=1B2842`, and, without bytes, `1F4A9=!`,
-    /// `1F4A9=1B2842!`, and `E=!FFFD` where another character is reported.
+    /// Reads pieces such as `AC00=B0A1`, `30CF=1B2442254F` and `=1B2842`. A character without bytes
+    /// is `1F4A9=!`, or `1F4A9=1B2842!` if an escape is written first. In `E=!FFFD` another
+    /// character is reported.
     pub fn of(alloc: Global, pieces: &str) -> anyhow::Result<Self> {
         let mut stream = EncodedStream {
             text: String::new(alloc),

@@ -6,7 +6,7 @@ use anyhow::{Context, bail};
 use encoding_front::{Encoding, Mark};
 use test_case_lines::words::decimal;
 
-/// A room as a multiple of a number, and so much more.
+/// A room: a multiple of the length that is handed in, plus a constant.
 #[derive(Clone, Copy, Debug)]
 pub struct Room {
     factor: usize,
@@ -14,24 +14,24 @@ pub struct Room {
 }
 
 impl Room {
-    /// The room for so many bytes or units; none where it passes a `usize`.
+    /// Returns the room for `n` bytes or units. Returns `None` if it does not fit a `usize`.
     pub fn of(self, n: usize) -> Option<usize> {
         self.factor.checked_mul(n)?.checked_add(self.more)
     }
 }
 
-/// What is called.
+/// Which decoder or encoder is called.
 #[derive(Clone, Copy, PartialEq, Eq, Debug)]
 pub enum Side {
     Decoder,
     Encoder,
     /// The `Encoder` of `encoding_front`.
     FrontEncoder,
-    /// The `Decoder` of `encoding_front`, and what it does with a mark.
+    /// The `Decoder` of `encoding_front`, and what it does with a byte order mark.
     FrontDecoder(Mark),
 }
 
-/// What the decoder or the encoder of an encoding must ask for in a form.
+/// The room that a decoder or an encoder of an encoding must ask for in a form.
 #[derive(Clone, Copy)]
 pub struct Asked {
     side: Side,
@@ -41,7 +41,7 @@ pub struct Asked {
 }
 
 impl Asked {
-    /// Words as `decoder big5 utf-8 3 1`.
+    /// Reads words such as `decoder big5 utf-8 3 1`.
     pub fn of(words: &str) -> anyhow::Result<Asked> {
         let mut words = words.split_whitespace();
         let side = match words.next() {
@@ -63,7 +63,7 @@ impl Asked {
     }
 }
 
-/// What must be asked for, where it is said.
+/// Returns the room that must be asked for, if a line of the cases gives one.
 pub fn room_of(asked: &[Asked], side: Side, encoding: Encoding, form: Form) -> Option<Room> {
     for one in asked {
         if one.side == side && one.encoding == encoding && one.form == form {

@@ -14,24 +14,24 @@ use test_encoding_calls::codecs::{DecoderTask, EncoderTask, Through, with_decode
 use test_encoding_calls::kinds::{Form, Outcome};
 use test_encoding_calls::rooms::Side;
 
-// Calls of one decoder, or of one encoder.
+// The calls that a case makes of one decoder or one encoder.
 #[derive(Drop)]
 pub(crate) struct Calls {
     pub(crate) side: Side,
     pub(crate) encoding: Encoding,
-    // The line of what a new `Decoder` must answer.
+    // The number of the line that says what a new `Decoder` must answer.
     pub(crate) number: usize,
     pub(crate) asks: Vec<Ask>,
     pub(crate) lines: Vec<CallLine>,
 }
 
-// The numbers of a text in a form.
+// Returns the bytes or units of a text in a form.
 pub(crate) fn in_form(alloc: Global, form: Form, scalars: &[u32]) -> Result<Vec<u32>, AllocError> {
     let mut output = Vec::new(alloc);
     for number in scalars {
         match char::from_u32(*number) {
             Some(c) => form.add(c, &mut output)?,
-            // a surrogate by itself
+            // This is a surrogate, which stands for one unit.
             None => output.push(*number)?,
         }
     }
@@ -54,7 +54,7 @@ fn narrowed_units(alloc: Global, numbers: &[u32]) -> Result<Vec<u16>, AllocError
     Ok(units)
 }
 
-// A text that a call of an encoder is given, in one of its forms.
+// The text that a call of an encoder is given, in the form of the call.
 #[derive(Drop)]
 pub(crate) struct TextOfCall {
     bytes: Vec<u8>,
@@ -78,7 +78,7 @@ impl TextOfCall {
     }
 }
 
-// The room of a call that a line gives.
+// Returns the room of a call, if its line gives a number.
 pub(crate) fn given_room(line: &CallLine) -> anyhow::Result<usize> {
     match line.room {
         Given::Room(room) => Ok(room),
@@ -86,7 +86,7 @@ pub(crate) fn given_room(line: &CallLine) -> anyhow::Result<usize> {
     }
 }
 
-// Compares what a call tells with its line.
+// Compares what comes of a call with what its line says.
 pub(crate) fn check_answer(
     rt: &impl Print,
     line: &CallLine,
@@ -102,7 +102,7 @@ pub(crate) fn check_answer(
     report.compare(rt, "the rest is kept", &answer.keeps_rest, &true)
 }
 
-// Compares a state with those that a line names, of the same kind.
+// Compares a state with each state of the same kind that the line names.
 pub(crate) fn check_state(
     rt: &impl Print,
     line: &CallLine,
@@ -117,7 +117,7 @@ pub(crate) fn check_state(
     Ok(())
 }
 
-// The calls of a case, as they are made of a decoder or of an encoder.
+// A case whose calls are made of a decoder or an encoder.
 #[derive(Drop)]
 struct Making<'a, P> {
     rt: &'a P,
@@ -181,7 +181,7 @@ impl<'a, P: Print + AllocGlobal> EncoderTask for Making<'a, P> {
     }
 }
 
-// Makes the calls of a case by one decoder or encoder.
+// Makes the calls of a case with one decoder or encoder.
 fn check_through(
     rt: &(impl Print + AllocGlobal),
     tables: &Tables,
@@ -200,7 +200,8 @@ fn check_through(
     Ok(())
 }
 
-// Makes the calls of a case, of a codec both by itself and by what `encoding_front` chooses.
+// Makes the calls of a case. Those of a codec are made with the codec itself, and with the one that
+// `encoding_front` chooses.
 pub(crate) fn check_calls(
     rt: &(impl Print + AllocGlobal),
     tables: &Tables,

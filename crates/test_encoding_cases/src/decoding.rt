@@ -1,4 +1,4 @@
-//! Streams of bytes, decoded at every cut and into rooms of every size.
+//! Decodes streams of bytes, cut in two at every place, into rooms of every size.
 
 use encoding_front::Encoding;
 use encoding_tables::Tables;
@@ -10,29 +10,29 @@ use test_encoding_calls::kinds::{Form, Item, Outcome};
 use test_encoding_calls::pieces::DecodedStream;
 use test_encoding_calls::rooms::{Asked, Room, Side, room_of};
 
-// How a stream is handed in: in two parts, into so much room.
+// How a stream is handed in: in two parts, by calls into this room.
 #[derive(Clone, Copy, Debug)]
 struct Plan {
     through: Through,
     form: Form,
     cut: usize,
     room: usize,
-    // What must be asked for.
+    // The room that the decoder must ask for, if a line says it.
     asked: Option<Room>,
 }
 
-// What a decoder tells of a stream.
+// All that comes of a stream that is decoded.
 #[derive(Drop)]
 struct Told {
     items: Vec<Item>,
     read: usize,
-    // The greatest room that was asked for.
+    // The greatest room that the decoder asked for.
     asked: usize,
-    // What is wrong besides the items.
+    // What is wrong, apart from the items.
     fault: Option<&'static str>,
 }
 
-// Decodes a part until it is read.
+// Decodes a part of a stream until all of it is read.
 fn feed<D: Neutral>(
     alloc: Global,
     decoder: &mut D,
@@ -125,7 +125,8 @@ impl<'a> DecoderTask for Reading<'a> {
     }
 }
 
-// Compares what is told of a stream with what is expected. Returns the room that was asked for.
+// Decodes a stream, and compares what comes of it with what is expected. Returns the greatest room
+// that was asked for.
 fn check_plan(
     rt: &(impl Print + AllocGlobal),
     tables: &Tables,
@@ -156,7 +157,7 @@ fn check_plan(
     Ok(told.asked)
 }
 
-// Decodes a stream by one decoder, at each cut, and into each room from the least to that which
+// Decodes a stream with one decoder, at each cut, and into each room from the least to the one that
 // is asked for.
 fn check_through(
     rt: &(impl Print + AllocGlobal),

@@ -1,4 +1,4 @@
-//! Texts, encoded at every cut and into rooms of every size.
+//! Encodes texts, cut in two at every place between characters, into rooms of every size.
 
 use encoding_front::Encoding;
 use encoding_mem::RawEncoder;
@@ -11,35 +11,35 @@ use test_encoding_calls::kinds::{Form, Item, Outcome};
 use test_encoding_calls::pieces::EncodedStream;
 use test_encoding_calls::rooms::{Asked, Room, Side, room_of};
 
-// The greatest number of bytes that a step writes, so that an encoder comes on: four of gb18030 and
-// of UTF-8, and an escape.
+// The least room in which every call makes progress: a character has at most four bytes in gb18030
+// and in UTF-8.
 const LEAST_ROOM: usize = 4;
 
 const LEAST_ROOM_OF_ESCAPES: usize = 3;
 
-// How a text is handed in: in two parts, into so much room.
+// How a text is handed in: in two parts, by calls into this room.
 #[derive(Clone, Copy, Debug)]
 struct Plan {
     through: Through,
     form: Form,
-    // In bytes and in units.
+    // The place of the cut, in bytes and in units.
     cut: (usize, usize),
     room: usize,
-    // What must be asked for.
+    // The room that the encoder must ask for, if a line says it.
     asked: Option<Room>,
 }
 
-// What an encoder tells of a text.
+// All that comes of a text that is encoded.
 #[derive(Drop)]
 struct Told {
     items: Vec<Item>,
-    // The greatest room that was asked for.
+    // The greatest room that the encoder asked for.
     asked: usize,
-    // What is wrong besides the items.
+    // What is wrong, apart from the items.
     fault: Option<&'static str>,
 }
 
-// Whether an encoder asks for the room that it must.
+// Returns whether an encoder asks for the room that it must ask for.
 fn asks_for<E: RawEncoder>(encoder: &E, plan: Plan, n: usize) -> bool {
     match plan.asked {
         None => true,
@@ -47,7 +47,7 @@ fn asks_for<E: RawEncoder>(encoder: &E, plan: Plan, n: usize) -> bool {
     }
 }
 
-// Encodes a part until it is read.
+// Encodes a part of a text until all of it is read.
 fn feed<E: RawEncoder>(
     alloc: Global,
     encoder: &mut E,
@@ -123,7 +123,7 @@ impl<'a> EncoderTask for Writing<'a> {
     }
 }
 
-// The parts of a text before a cut and behind it.
+// Returns the parts of a text before the cut and after it.
 fn parts_of(stream: &EncodedStream, plan: Plan) -> Option<(Text<'_>, Text<'_>)> {
     let (text, cut) = match plan.form {
         Form::Utf8 => (Text::Utf8(stream.text.as_str()), plan.cut.0),
@@ -132,7 +132,8 @@ fn parts_of(stream: &EncodedStream, plan: Plan) -> Option<(Text<'_>, Text<'_>)> 
     Some((text.before(cut)?, text.behind(cut)?))
 }
 
-// Compares what is told of a text with what is expected. Returns the room that was asked for.
+// Encodes a text, and compares what comes of it with what is expected. Returns the greatest room
+// that was asked for.
 fn check_plan(
     rt: &(impl Print + AllocGlobal),
     tables: &Tables,
@@ -167,7 +168,7 @@ fn check_plan(
     Ok(told.asked)
 }
 
-// The least room in which an encoder comes on.
+// Returns the least room in which each call of an encoder makes progress.
 fn least_room(encoding: Encoding) -> usize {
     match encoding {
         Encoding::Iso2022Jp => LEAST_ROOM_OF_ESCAPES,
@@ -175,8 +176,8 @@ fn least_room(encoding: Encoding) -> usize {
     }
 }
 
-// Encodes a text by one encoder, at each cut, and into each room from the least to that which is
-// asked for.
+// Encodes a text with one encoder, at each cut, and into each room from the least to the one that
+// is asked for.
 fn check_through(
     rt: &(impl Print + AllocGlobal),
     tables: &Tables,
@@ -202,7 +203,7 @@ fn check_through(
     Ok(())
 }
 
-// Encodes a text of both forms, by its codec and by the encoder that `encoding_front` chooses.
+// Encodes a text in both forms, by its codec and by the encoder that `encoding_front` chooses.
 pub(crate) fn check_encoded(
     rt: &(impl Print + AllocGlobal),
     tables: &Tables,

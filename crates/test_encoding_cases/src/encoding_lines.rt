@@ -1,4 +1,5 @@
-//! What is said of an encoding, a label, a mark or a reference, and whole texts that are encoded.
+//! Lines that say something of an encoding, a label, a byte order mark or a reference, and lines of
+//! whole texts that are encoded.
 
 ghost use Rattle.encoding_front.specs.Encodings.{IsReady};
 
@@ -18,8 +19,8 @@ fn name_of(encoding: Option<Encoding>) -> &'static str {
     }
 }
 
-// Words as `\tutf8 -> UTF-8` or `bogus -> none`. Those of replacement are left out where that is
-// asked for.
+// Checks words such as `\tutf8 -> UTF-8` or `bogus -> none`. A label of replacement must also be no
+// label for the call that leaves these out.
 fn check_label(
     rt: &(impl Print + AllocGlobal),
     words: &str,
@@ -34,7 +35,8 @@ fn check_label(
     report.compare_texts(rt, "without replacement", other, expected)
 }
 
-// Words as `EFBBBF41 -> UTF-8 3` or `EF -> none 0`.
+// Checks words such as `EFBBBF41 -> UTF-8 3` or `EF -> none 0`: the byte order mark at the start of
+// some bytes, and its length.
 fn check_bom(
     rt: &(impl Print + AllocGlobal),
     words: &str,
@@ -52,12 +54,12 @@ fn check_bom(
     report.compare(rt, "its length", &found_len, &decimal(len)?)
 }
 
-// One of two words.
+// Returns one of two words.
 fn word_for(is_first: bool, first: &'static str, second: &'static str) -> &'static str {
     if is_first { first } else { second }
 }
 
-// The words that say of an encoding what it is.
+// Returns the words that say what an encoding is.
 fn words_of(encoding: Encoding) -> [&'static str; 5] {
     [
         encoding.output_encoding().name(),
@@ -68,10 +70,11 @@ fn words_of(encoding: Encoding) -> [&'static str; 5] {
     ]
 }
 
-// Words as `Big5 -> Big5 some several ascii keeps big5`: of the encoding with this name the
-// output encoding, whether that has bytes for all characters, whether each byte is a character,
-// whether it is compatible with ASCII, whether its characters are kept, and the indexes that it
-// needs.
+// Checks words such as `Big5 -> Big5 some several ascii keeps big5`. After the name of an encoding
+// and the arrow stand: the encoding of its output; whether that has bytes for all characters or
+// some; whether a character has a single byte or several; whether the encoding is compatible with
+// ASCII; whether what is written keeps each character or folds some; and the indexes that the
+// encoding needs.
 fn check_encoding(
     rt: &(impl Print + AllocGlobal),
     words: &str,
@@ -91,8 +94,8 @@ fn check_encoding(
     report.compare_texts(rt, "behind the last index", words.next().unwrap_or(""), "")
 }
 
-// Words as `61620EC3A9FF -> 5 3 2`: how long the prefix is that is UTF-8, ASCII, and ASCII for
-// ISO-2022-JP.
+// Checks words such as `61620EC3A9FF -> 5 3 2`: how long the prefix is that is UTF-8, the one that
+// is ASCII, and the one that is ASCII for ISO-2022-JP.
 fn check_prefixes(
     rt: &(impl Print + AllocGlobal),
     words: &str,
@@ -114,8 +117,8 @@ fn check_prefixes(
     Ok(())
 }
 
-// Words as `windows-1252 41E980 -> 2`: how many of these bytes are Latin1 to the decoder of a
-// single-byte encoding itself.
+// Checks words such as `windows-1252 41E980 -> 2`: how many of these bytes are Latin1 to the
+// decoder of a single-byte encoding. That decoder is called by itself.
 fn check_latin1(
     rt: &(impl Print + AllocGlobal),
     tables: &Tables,
@@ -136,7 +139,8 @@ fn check_latin1(
     }
 }
 
-// What a reference is, and whether what stands behind it stays.
+// Returns whether the reference of a character is as expected, and the bytes after it are as
+// before.
 fn is_written(c: char, form: Reference, expected: &str) -> bool {
     let mut dst = [0xEE; 10];
     let len = write_reference(c, form, &mut dst);
@@ -144,7 +148,7 @@ fn is_written(c: char, form: Reference, expected: &str) -> bool {
     written == expected.as_bytes() && behind.iter().all(|byte| *byte == 0xEE)
 }
 
-// Words as `A5 -> &#165; &#xA5;`.
+// Checks words such as `A5 -> &#165; &#xA5;`: the two references of a character.
 fn check_reference(
     rt: &(impl Print + AllocGlobal),
     words: &str,
@@ -160,7 +164,7 @@ fn check_reference(
     report.compare(rt, "the forms are written", &are_written, &(true, true))
 }
 
-// Words as `GBK no`: whether the indexes are there that an encoding needs.
+// Checks words such as `GBK no`: whether the indexes that an encoding needs are there.
 fn check_ready(
     rt: &(impl Print + AllocGlobal),
     tables: &Tables,
@@ -173,8 +177,9 @@ fn check_ready(
     report.compare(rt, "the indexes are there", &is_ready, &(told == "yes"))
 }
 
-// Words as `ISO-2022-JP 7 -> 31 41 38 48`: the room that an `Encoder` asks for so many bytes,
-// without references and for a text whose characters all have bytes, and for so many units.
+// Checks words such as `ISO-2022-JP 7 -> 31 41 38 48`: the rooms that an `Encoder` asks for. The
+// first two are for so many bytes: without references, and if all characters have bytes. The last
+// two are for so many units, in the same two cases.
 fn check_rooms(
     rt: &(impl Print + AllocGlobal),
     tables: &Tables,
@@ -203,8 +208,8 @@ fn check_rooms(
     Ok(())
 }
 
-// Words as `windows-1257 61 20AC -> windows-1257 not-lost 61 80`: a whole text, the encoding of
-// the output, whether a reference was written, and the bytes.
+// Checks words such as `windows-1257 61 20AC -> windows-1257 not-lost 61 80`: a whole text, the
+// encoding of its output, whether a reference was written, and the bytes.
 fn check_whole(
     rt: &(impl Print + AllocGlobal),
     tables: &Tables,
@@ -227,7 +232,7 @@ fn check_whole(
     check_written(rt, (output.name(), lost, bytes.as_slice()), told, report)
 }
 
-// Compares what comes of a text with words as `windows-1257 not-lost 61 80`.
+// Compares the result of a whole text with words such as `windows-1257 not-lost 61 80`.
 fn check_written(
     rt: &(impl Print + AllocGlobal),
     (output, lost, bytes): (&str, &str, &[u8]),
@@ -245,7 +250,7 @@ fn check_written(
     report.compare(rt, "the bytes", &bytes, &expected.as_slice())
 }
 
-// A line that says something by itself. Returns whether its first word is known.
+// Checks a line that says something by itself. Returns whether its first word is known.
 pub(crate) fn check_saying(
     rt: &(impl Print + AllocGlobal),
     tables: &Tables,

@@ -1,5 +1,5 @@
-//! Calls of a `Decoder`, with malformed sequences replaced and without, and the exact result of
-//! each.
+//! Calls of a `Decoder` that replace malformed sequences, and calls that do not, and the exact
+//! result of each.
 
 ghost use Rattle.encoding_front.specs.Encodings.{IsReady};
 
@@ -11,7 +11,8 @@ use test_encoding_calls::call_lines::{Ask, CallLine, Given, Source};
 use test_encoding_calls::front_calls::{Destination, Kind};
 use test_encoding_calls::kinds::Form;
 
-// The room for so many more bytes: in units, and in bytes without replacement and with it.
+// Returns the rooms for `n` more bytes: in units, in bytes without replacement, and in bytes with
+// it. Returns `None` if the decoder is finished.
 fn rooms_for(decoder: &Decoder<'_>, n: usize) -> Option<[Option<usize>; 3]> {
     if decoder.is_finished() {
         return None;
@@ -23,7 +24,8 @@ fn rooms_for(decoder: &Decoder<'_>, n: usize) -> Option<[Option<usize>; 3]> {
     ])
 }
 
-// The rooms that are stated, and where a case leaves one open that which there is.
+// Returns the rooms that a case gives. If the case leaves one open, the actual room stands in its
+// place.
 fn stated_rooms(
     rooms: Option<[Option<usize>; 3]>,
     stated: &[Option<Option<usize>>; 3],
@@ -37,7 +39,7 @@ fn stated_rooms(
     ])
 }
 
-// How many bytes are Latin1, where the decoder is not finished.
+// Returns how many of the bytes are Latin1, or `None` if the decoder is finished.
 fn latin1(decoder: &Decoder<'_>, bytes: &[u8]) -> Option<Option<usize>> {
     if decoder.is_finished() {
         return None;
@@ -45,7 +47,7 @@ fn latin1(decoder: &Decoder<'_>, bytes: &[u8]) -> Option<Option<usize>> {
     Some(decoder.latin1_byte_compatible_up_to(bytes))
 }
 
-// Compares what a decoder answers with what it must.
+// Compares an answer of a decoder with the one that it must give.
 fn check_ask(
     rt: &impl Print,
     decoder: &Decoder<'_>,
@@ -72,7 +74,7 @@ fn check_ask(
     }
 }
 
-// Makes what is asked, before a call or behind it.
+// Compares all answers that a decoder must give before the first call, or after a call.
 fn check_asks(
     rt: &impl Print,
     decoder: &Decoder<'_>,
@@ -86,14 +88,14 @@ fn check_asks(
     Ok(())
 }
 
-// What a decoder has read of bytes, of which some may be left.
+// The bytes that a decoder is given, and how many of them it has read.
 #[derive(Drop)]
 struct Reading {
     bytes: Vec<u8>,
     offset: usize,
 }
 
-// Makes one call, and compares what it tells.
+// Makes one call, and compares what comes of it with what its line says.
 fn check_call(
     rt: &(impl Print + AllocGlobal),
     decoder: &mut Decoder<'_>,

@@ -1,4 +1,5 @@
-//! Calls of an `Encoder`, with references written and without, and the exact result of each.
+//! Calls of an `Encoder` that write references, and calls that do not, and the exact result of
+//! each.
 
 ghost use Rattle.encoding_front.specs.Encodings.{IsReady};
 
@@ -11,7 +12,7 @@ use test_encoding_calls::answer::{Answer, Text, UNWRITTEN};
 use test_encoding_calls::call_lines::{Source, State};
 use test_encoding_calls::kinds::Outcome;
 
-// One call that writes references. Returns also whether it says that it wrote one.
+// Makes one call that writes references. Returns also whether the call reports that it wrote one.
 fn encode_replacing(
     alloc: Global,
     encoder: &mut Encoder<'_>,
@@ -34,7 +35,7 @@ fn encode_replacing(
     Ok((answer, is_lost))
 }
 
-// One call that stops behind a character without bytes.
+// Makes one call that writes no references, and stops after a character without bytes.
 fn encode_without(
     alloc: Global,
     encoder: &mut Encoder<'_>,

@@ -1,11 +1,12 @@
-//! Hands in the indexes of the files in `data/` and looks entries up in them, converts the cases of
-//! the others, and prints of each file how many cases it has, how many conversions or calls they
-//! took, and each difference from what a case expects. The file `stdout` beside `src/` has what it
-//! must print: no difference.
+//! Hands in the indexes of some files in `data/`, and looks entries up in them. Converts the cases
+//! of the other files. Prints how many cases each file has, how many conversions or calls they
+//! took, and each difference from what a case expects. The file `stdout` beside `src/` has what
+//! must be printed: no difference.
 //!
-//! A case of a whole stream gives each piece beside what it becomes; it is converted at every cut,
-//! into rooms of every size. A case of calls gives the exact result of each. `data/README.md` has
-//! the format. Expected values are worked by hand from the Encoding Standard.
+//! A case of a whole stream gives each piece and what it becomes. The stream is converted at every
+//! cut, into rooms of every size. A case of calls gives the exact result of each call.
+//! `data/README.md` describes the lines. The expected values are worked by hand from the Encoding
+//! Standard.
 #![tactic(auto)]
 
 mod calls;
@@ -23,10 +24,10 @@ use std::fs;
 use test_case_lines::file::run_file;
 use test_case_lines::table_lines::TableLines;
 
-// The files of indexes.
+// The files of cases of indexes.
 const TABLE_FILES: [&str; 4] = ["lists.txt", "rows.txt", "ranges.txt", "index-texts.txt"];
 
-// The files of codecs and of encodings.
+// The files of cases of codecs and of encodings.
 const FILES: [&str; 13] = [
     "utf-8.txt",
     "single-byte.txt",

@@ -1,4 +1,4 @@
-//! The lines of cases of encodings.
+//! Reads the lines of cases of encodings.
 
 use crate::calls::{Calls, check_calls};
 use crate::decoding::check_decoded;
@@ -18,23 +18,23 @@ use test_encoding_calls::names::{encoding_of, mark_of};
 use test_encoding_calls::pieces::{DecodedStream, EncodedStream};
 use test_encoding_calls::rooms::{Asked, Side};
 
-// What the lines so far have put in place.
+// What the lines so far have set up.
 #[derive(Drop)]
 pub(crate) struct Session {
     tables: Tables,
     asked: Vec<Asked>,
-    // The calls that are read, and not made yet.
+    // The calls that have been read, but not made yet.
     calls: Option<Calls>,
 }
 
-// The encoding of a line, and the words behind it.
+// Returns the encoding that a line names, and the words after it.
 fn encoding_in(words: &str) -> anyhow::Result<(Encoding, &str)> {
     let (name, rest) = words.split_once(' ').unwrap_or((words, ""));
     Ok((encoding_of(name)?, rest))
 }
 
 impl Session {
-    // Without indexes, and nothing asked.
+    // Returns a session without indexes, in which no room must be asked for.
     pub(crate) fn new(alloc: Global) -> Session {
         Session {
             tables: Tables::new(alloc),
@@ -43,7 +43,7 @@ impl Session {
         }
     }
 
-    // Makes the calls that are read.
+    // Makes the calls that have been read.
     fn end_calls(
         &mut self,
         rt: &(impl Print + AllocGlobal),
@@ -58,7 +58,7 @@ impl Session {
         }
     }
 
-    // A line that begins with a word that is no form.
+    // Reads a line whose first word is not a form. Returns whether that word is known.
     fn line_of(
         &mut self,
         rt: &(impl Print + AllocGlobal),
@@ -115,8 +115,8 @@ impl Session {
         Ok(true)
     }
 
-    // A new decoder or encoder. Behind its encoding and a colon stands what a new `Decoder` must
-    // answer.
+    // Begins the calls of a new decoder or encoder. The name of its encoding may be followed by a
+    // colon and what a new `Decoder` must answer.
     fn begin_calls(
         &mut self,
         alloc: Global,
@@ -144,7 +144,7 @@ impl Session {
         Ok(())
     }
 
-    // A call of the decoder or encoder of the lines before.
+    // Adds a call of the decoder or encoder that an earlier line named.
     fn add_call(&mut self, alloc: Global, number: usize, line: &str) -> anyhow::Result<()> {
         let calls = self.calls.as_mut();
         let calls = calls.context("a call of no decoder or encoder")?;

@@ -1,5 +1,5 @@
-//! Streams of bytes that may begin with a mark, decoded by each kind of call of a `Decoder`, and at
-//! once.
+//! Decodes streams of bytes that may begin with a byte order mark, by each kind of call of a
+//! `Decoder`, and by the calls for whole inputs.
 
 ghost use Rattle.encoding_front.specs.Encodings.{IsReady};
 
@@ -16,7 +16,8 @@ use test_encoding_calls::pieces::DecodedStream;
 // U+FFFD in UTF-8.
 const REPLACEMENT: [u32; 3] = [0xEF, 0xBF, 0xBD];
 
-// A stream, and what it turns out to be.
+// A stream, how its mark is treated, the encoding that it is handed in as, and the one that it
+// turns out to be in.
 #[derive(Drop)]
 pub(crate) struct MarkedStream {
     pub(crate) mark: Mark,
@@ -25,7 +26,7 @@ pub(crate) struct MarkedStream {
     pub(crate) stream: DecodedStream,
 }
 
-// How a stream is handed in: in two parts, into so much room.
+// How a stream is handed in: in two parts, by calls of this kind into this room.
 #[derive(Clone, Copy, Debug)]
 struct Plan {
     kind: Kind,
@@ -33,19 +34,19 @@ struct Plan {
     room: usize,
 }
 
-// What calls tell of a stream.
+// All that comes of a stream that is decoded.
 #[derive(Drop)]
 struct Told {
     items: Vec<Item>,
     read: usize,
     had_errors: bool,
-    // The greatest room that was asked for.
+    // The greatest room that the decoder asked for.
     asked: usize,
-    // What is wrong besides.
+    // What is wrong, apart from the items and the errors.
     fault: Option<&'static str>,
 }
 
-// Whether an output has U+FFFD.
+// Returns whether an output has U+FFFD.
 fn has_replacement(output: &[u32]) -> bool {
     output.contains(&0xFFFD)
         || output
@@ -53,7 +54,7 @@ fn has_replacement(output: &[u32]) -> bool {
             .any(|bytes| bytes == REPLACEMENT.as_slice())
 }
 
-// Decodes a part until it is read.
+// Decodes a part of a stream until all of it is read.
 fn feed(
     alloc: Global,
     decoder: &mut Decoder<'_>,
@@ -106,7 +107,7 @@ fn feed(
     Ok(())
 }
 
-// Decodes a stream in two parts. None where an index is not there.
+// Decodes a stream in two parts. Returns `None` if an index that it needs is not there.
 fn read_stream(
     alloc: Global,
     tables: &Tables,
@@ -140,7 +141,8 @@ fn read_stream(
     Ok(Some(told))
 }
 
-// Decodes a stream, and compares what is told of it. Returns the room that was asked for.
+// Decodes a stream, and compares what comes of it with what is expected. Returns the greatest room
+// that was asked for.
 fn check_plan(
     rt: &(impl Print + AllocGlobal),
     tables: &Tables,
@@ -157,7 +159,7 @@ fn check_plan(
     Ok(told.asked)
 }
 
-// Compares what is told of a stream with what is expected.
+// Compares what came of a stream with what is expected.
 fn check_told(
     rt: &(impl Print + AllocGlobal),
     marked: &MarkedStream,
@@ -178,7 +180,7 @@ fn check_told(
     }
 }
 
-// Words as `sniff windows-1252 as utf-8: EFBBBF= 61=61`.
+// A stream of words such as `sniff windows-1252 as utf-8: EFBBBF= 61=61`.
 impl MarkedStream {
     pub(crate) fn of(alloc: Global, words: &str) -> anyhow::Result<Self> {
         let (head, pieces) = words.split_once(':').context("a stream has no `:`")?;
@@ -193,8 +195,8 @@ impl MarkedStream {
     }
 }
 
-// Decodes a stream by each kind of call, at each cut, and into each room from the least to that
-// which is asked for.
+// Decodes a stream by each kind of call, at each cut, and into each room from the least to the one
+// that is asked for. Then decodes it as a whole.
 pub(crate) fn check_marked(
     rt: &(impl Print + AllocGlobal),
     tables: &Tables,
@@ -227,7 +229,7 @@ pub(crate) fn check_marked(
     check_at_once(rt, tables, marked, report)
 }
 
-// A whole input at once.
+// Decodes a stream by the call for whole inputs.
 fn check_at_once(
     rt: &(impl Print + AllocGlobal),
     tables: &Tables,

@@ -61,7 +61,7 @@ fn lone_surrogates_are_replaced(rt: HostRuntime) {
     );
 }
 
-// The first and the last code of each range.
+// The first and the last code point of each range that counts as right-to-left.
 const RANGES: [(u32, u32); 9] = [
     (0x590, 0x8FF),
     (0x200F, 0x200F),
@@ -120,7 +120,8 @@ fn longest_prefixes(rt: HostRuntime) {
     assert_eq!(rt; str_latin1_up_to("aÿĀ"), 3);
 }
 
-// Longer than a block, with the last unit past the limit.
+// The inputs are longer than a block that is checked at once. Only their last byte or unit is not
+// ASCII.
 #[test]
 fn long_runs(rt: HostRuntime) {
     let mut bytes = [0x61; 70];
@@ -135,7 +136,8 @@ fn long_runs(rt: HostRuntime) {
     assert!(rt; is_str_latin1("éÿ") && !is_str_latin1("Ā"));
 }
 
-// Vectors have 16 bytes, so the lengths are those around none, one and two of them.
+// The prefix is found with vectors of 16 bytes, so the lengths go from none to just above two
+// vectors.
 #[test]
 fn first_high_byte_at_each_offset(rt: HostRuntime) {
     for length in 0..34 {

@@ -68,7 +68,8 @@ fn a_character_that_does_not_fit_is_left(rt: HostRuntime) {
     assert_eq!(rt; bytes, [0x42, 0xE2, 0x82, 0xAC]);
 }
 
-// U+0041, U+20AC and half a pair, of which U+FFFD stands in the place.
+// The units are U+0041, U+20AC and half of a surrogate pair. U+FFFD is written in place of the
+// half.
 #[test]
 fn all_units_are_converted(rt: HostRuntime) {
     let units = [0x41, 0x20AC, 0xD83D];

@@ -1,4 +1,4 @@
-//! A small target with three sets, by the encoding driver.
+//! The encoding driver, tested with a small target that has three character sets.
 
 ghost use Rattle.std.specs.Prelude.{◌≤◌, length};
 ghost use Rattle.encoding_mem.specs.examples.SampleCoding.{sample_coding, sample_room};
@@ -11,7 +11,7 @@ use encoding_mem::source::{Source, Utf8Source, Utf16Source};
 use encoding_mem::source_encoder::SourceEncoder;
 use encoding_mem::{EncoderResult, RawEncoder};
 
-// The small target with three sets.
+// The encoder of the small target. Its state is the character set that it is in.
 #[derive(Drop)]
 struct Sample {
     set: EscapeState,
@@ -93,31 +93,31 @@ fn escapes_into_tiny_rooms(rt: HostRuntime) {
     let mut encoder = new_sample();
     let mut source = Utf8Source::new("あé¥a");
     let mut dst = [0xff; 4];
-    // between the escape and its character
+    // The room ends between the escape and its character.
     let ended = encoder.encode_from(&mut source, &mut dst[..3], true);
     assert_eq!(rt; ended, (EncoderResult::OutputFull, 3));
     assert_eq!(rt; (source.read(), encoder.set), (0, EscapeState::Jis));
     assert_eq!(rt; dst, [0x1b, 0x24, 0x42, 0xff]);
-    // before the escape of a character without bytes
+    // There is no room for the escape that comes before a character without bytes.
     let ended = encoder.encode_from(&mut source, &mut dst, true);
     assert_eq!(rt; ended, (EncoderResult::OutputFull, 2));
     assert_eq!(rt; (source.read(), encoder.set), (3, EscapeState::Jis));
     assert_eq!(rt; dst, [0x24, 0x22, 0x42, 0xff]);
-    // the escape before the reference, and no reference
+    // Only the escape before the reference is written. The reference itself is left to the caller.
     let ended = encoder.encode_from(&mut source, &mut dst[..3], true);
     assert_eq!(rt; ended, (EncoderResult::Unmappable('é'), 3));
     assert_eq!(rt; (source.read(), encoder.set), (5, EscapeState::Ascii));
     assert_eq!(rt; dst, [0x1b, 0x28, 0x42, 0xff]);
-    // an escape and its character
+    // An escape and its character are written.
     let ended = encoder.encode_from(&mut source, &mut dst, true);
     assert_eq!(rt; ended, (EncoderResult::OutputFull, 4));
     assert_eq!(rt; (source.read(), encoder.set), (7, EscapeState::Roman));
     assert_eq!(rt; dst, [0x1b, 0x28, 0x4a, 0x5c]);
-    // ASCII in Roman, and no room for the final escape
+    // `a` has its ASCII byte in the Roman set, too. There is no room for the final escape.
     let ended = encoder.encode_from(&mut source, &mut dst[..3], true);
     assert_eq!(rt; ended, (EncoderResult::OutputFull, 1));
     assert_eq!(rt; (source.read(), encoder.set), (8, EscapeState::Roman));
-    // the final escape
+    // The final escape is written.
     let ended = encoder.encode_from(&mut source, &mut dst[..3], true);
     assert_eq!(rt; ended, (EncoderResult::InputEmpty, 3));
     assert_eq!(rt; (source.read(), encoder.set), (8, EscapeState::Ascii));
@@ -132,14 +132,15 @@ fn escapes_of_units(rt: HostRuntime) {
     let ended = encoder.encode_from_utf16_raw(&units, &mut dst, true);
     assert_eq!(rt; ended, (EncoderResult::Unmappable('💩'), 3, 8));
     assert!(rt; !encoder.has_pending_state());
-    // a call that is not the last leaves the set
+    // A call that is not the last writes no final escape.
     let ended = encoder.encode_from_utf16_raw(&units[..1], &mut dst, false);
     assert_eq!(rt; ended, (EncoderResult::InputEmpty, 1, 5));
     assert!(rt; encoder.has_pending_state());
     assert_eq!(rt; encoder.set, EscapeState::Jis);
 }
 
-// A source is passed by the lengths that `peek` returns: one byte and two, then a pair of units.
+// A source advances by the length that `peek` returns: by one byte, by two bytes, and then by a
+// pair of units.
 #[test]
 fn sources_are_passed_by_what_peek_returns(rt: HostRuntime) {
     let mut source = Utf8Source::new("aé");

@@ -1,6 +1,6 @@
-//! Calls of `encoding_mem`, worked by hand: checks of texts, conversions between texts, units and
-//! Latin1, a small target by the encoding driver, and UTF-8 into small rooms. There are tests alone
-//! here.
+//! Tests of `encoding_mem`, with results worked by hand: checks of texts, conversions between
+//! texts, units and Latin1, the encoding driver with a small target, and the decoder of UTF-8. This
+//! crate has tests alone.
 #![tactic(auto)]
 
 #[cfg(test)]

@@ -1,4 +1,5 @@
-//! Units of UTF-16 that are written block by block: lengths around a block and around two of them.
+//! Units of UTF-16 are written block by block: the lengths are around one block and around two
+//! blocks.
 
 use encoding_mem::{
     convert_utf16_to_utf8, convert_utf16_to_utf8_partial, copy_basic_latin_to_ascii,
@@ -24,8 +25,8 @@ fn a_copy_ends_at_the_first_unit_that_is_not_ascii(rt: HostRuntime) {
     }
 }
 
-// Whether these units among so many letters before and behind them become these bytes, and no byte
-// behind the text changes.
+// Returns whether these units become these bytes if so many letters stand before and after them. No
+// byte after the text may change.
 fn become_text(units: &[u16], text: &[u8], before: usize, behind: usize) -> bool {
     if before > 70 || behind > 70 || units.len() > 2 || text.len() > 4 {
         return false;
@@ -49,7 +50,7 @@ fn become_text(units: &[u16], text: &[u8], before: usize, behind: usize) -> bool
     written == before + text.len() + behind
 }
 
-// The second half of a pair in the place of a character becomes U+FFFD, as does the first half.
+// Half of a surrogate pair in place of the character becomes U+FFFD, whichever half it is.
 #[test]
 fn one_other_character_stands_anywhere(rt: HostRuntime) {
     for before in 0..67 {
@@ -65,7 +66,7 @@ fn one_other_character_stands_anywhere(rt: HostRuntime) {
     }
 }
 
-// With too little room, as many characters are written as fit.
+// If there is too little room, as many characters are written as fit.
 #[test]
 fn each_room_is_filled(rt: HostRuntime) {
     for room in 0..300 {

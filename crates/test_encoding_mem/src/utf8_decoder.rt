@@ -1,9 +1,10 @@
-//! The decoder of UTF-8 into small rooms and at every cut, with results worked by hand.
+//! The decoder of UTF-8 on a long text, with the result worked by hand.
 
 use encoding_mem::{DecoderResult, RawDecoder, Utf8Decoder};
 use std::test::Fail;
 
-// Longer than a window of the test for text, which its end then cuts.
+// The text is longer than one window of the test for well-formed UTF-8. The end of a window cuts
+// it.
 #[test]
 fn a_long_text_is_decoded_whole(rt: HostRuntime) -> Result<(), Fail> {
     let mut source = Vec::new(rt.alloc());

@@ -1,4 +1,4 @@
-//! Examples of the engine and of the program as a call.
+//! The examples of the engine (`recode`), and of the program as one call (`recode_system`).
 
 use recode::{Buffers, Counted, Encoding, GREATEST_LIMIT, Job, Mark, Pivot, Policy, Tables, run};
 use recode_system::answer;

@@ -1,7 +1,8 @@
-//! The lines of use that the page of each library shows, made, so that they are compiled and proved. `make lint`
-//! compares them with the pages: an example stands between `// CRATE` and `// end`.
+//! The examples that the reference page of each library shows, so that they are compiled and
+//! proved. An example stands between `// CRATE` and `// end`. `make lint` compares it with the
+//! page.
 //!
-//! Beside them are programs as users write them: `stream_faults`, `stream_losses`, `whole_runs` and
+//! There are also programs as users write them: `stream_faults`, `stream_losses`, `whole_runs` and
 //! `whole_texts`. Each loads its indexes and uses them in one function.
 #![tactic(auto)]
 
@@ -18,7 +19,7 @@ mod whole_texts;
 use anyhow::bail;
 use std::io::Write;
 
-// An example with its result, which is printed beside the one that the page tells.
+// Prints whether an example has the result that its page gives.
 fn print(rt: HostRuntime, name: &str, is_as_told: bool) -> anyhow::Result<()> {
     println!(rt; "{name}: {is_as_told}")?;
     if is_as_told {
@@ -28,7 +29,7 @@ fn print(rt: HostRuntime, name: &str, is_as_told: bool) -> anyhow::Result<()> {
     }
 }
 
-// The one row of `index-jis0208.txt`, and of `index-jis0212.txt`, that the programs need.
+// The one row of each of `index-jis0208.txt` and `index-jis0212.txt` that the programs need.
 const JIS0208: &[u8] = b"422\t0x30CF\n";
 
 const JIS0212: &[u8] = b"565\t0x0402\n";

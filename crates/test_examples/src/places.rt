@@ -1,4 +1,4 @@
-//! The example of the library of places.
+//! The example of the library that finds places (`recode_places`).
 
 use encoding_front::{Encoding, Mark};
 use encoding_tables::Tables;

@@ -1,4 +1,4 @@
-//! The example of what is printed of places.
+//! The example of the library that prints places (`recode_places_report`).
 
 use encoding_front::Encoding;
 use recode_places::{Entry, Finding, Place, Visitor};

@@ -1,4 +1,4 @@
-//! Characters, each written by the encoder of an encoding as a text of its own, and read again.
+//! Writes each character with the encoder of an encoding, as a text of its own, and reads it again.
 
 ghost use Rattle.encoding_front.specs.Encodings.{IsReady, output_encoding_of};
 
@@ -6,21 +6,21 @@ use crate::digest::{Digest, END};
 use encoding_front::{Decoder, Encoder, Encoding, Mark};
 use encoding_tables::Tables;
 
-// What was written and read again.
+// Counts and digests of what was written and read again.
 #[derive(Drop)]
 struct Told {
-    // The characters without bytes, for which a reference is written.
+    // How many characters have no bytes, so that a reference is written.
     lost: u32,
-    // The characters that are read again as others.
+    // How many characters are read again as others.
     folded: u32,
-    // All that is written.
+    // The digest of all that is written.
     bytes: Digest,
-    // What is read again of the characters with bytes.
+    // The digest of what is read again of the characters with bytes.
     text: Digest,
 }
 
 impl Told {
-    // Reads what was written for a character.
+    // Reads again what was written for a character.
     fn read_again(&mut self, tables: &Tables, output: Encoding, bytes: &[u8], character: &str)
         requires { IsReady tables.now output }
     {
@@ -35,7 +35,7 @@ impl Told {
         }
     }
 
-    // Writes a character, to the end of a text.
+    // Writes a character as a whole text.
     fn character(&mut self, tables: &Tables, output: Encoding, encoder: &mut Encoder<'_>, c: char)
         requires { IsReady tables.now output }
     {
@@ -57,14 +57,14 @@ impl Told {
 // Which characters are written.
 #[derive(Clone, Copy, PartialEq, Eq)]
 pub(crate) enum Extent {
-    // All of the basic plane, and every 64th of the others: no index has one of these but that of Big5, which
-    // writes all of plane 2.
+    // All characters of the basic plane, and every 64th of the other planes. The index of Big5 is
+    // the only one with characters of another plane. So all of plane 2 is written in Big5.
     Sample,
-    // Every one.
+    // Every character.
     All,
 }
 
-// Whether a character of a sample is written in this encoding.
+// Returns whether a character belongs to the sample for this encoding.
 fn is_sample(encoding: Encoding, number: u32) -> bool {
     let is_whole = match number / 0x10000 {
         0 => true,
@@ -74,8 +74,8 @@ fn is_sample(encoding: Encoding, number: u32) -> bool {
     is_whole || number % 64 == 0
 }
 
-// Prints how many characters an encoding has no bytes for, how many it writes as others, and the digests of
-// what is written and of what is read again.
+// Prints how many characters an encoding has no bytes for, how many it writes as others, and the
+// digests of what is written and of what is read again.
 pub(crate) fn print_characters(
     rt: &impl Print,
     tables: &Tables,

@@ -5,7 +5,7 @@ pub(crate) struct Digest {
     hash: u32,
 }
 
-// What stands in a digest for the end of something.
+// Added to a digest after each text or sequence, as a mark of its end.
 pub(crate) const END: u32 = 0xFFFF_FFFF;
 
 impl Digest {
@@ -13,7 +13,7 @@ impl Digest {
         Digest { hash: 0x811C_9DC5 }
     }
 
-    // The number so far, for a new beginning.
+    // Returns the digest so far, and begins a new one.
     pub(crate) fn take(&mut self) -> u32 {
         let hash = self.hash;
         *self = Digest::new();

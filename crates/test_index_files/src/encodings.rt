@@ -1,5 +1,4 @@
-//! The forty encodings by name, over the tables of the files: what each reads, and how each is
-//! written.
+//! What each of the forty encodings reads, and how it is written, with the indexes of the files.
 
 use crate::characters::{Extent, print_characters};
 use crate::lists::ENCODINGS;
@@ -7,7 +6,7 @@ use crate::streams::print_streams;
 use anyhow::ensure;
 use encoding_tables::Tables;
 
-// Prints of each encoding what it reads and what it writes.
+// Prints what each encoding reads and what it writes.
 pub(crate) fn print_encodings(
     rt: &(impl Print + AllocGlobal),
     tables: &Tables,

@@ -1,15 +1,16 @@
-//! Loads the index of every kind from the files in the folder that it is run in, and prints some entries
-//! of each: a pointer, and the character there. Then it prints what the encodings of more than one byte a
-//! character make of every sequence of two bytes, over these indexes.
+//! Loads each index from its file in the current folder, and prints some of its entries: a pointer,
+//! and the character there. With these indexes it then prints what the encodings of several bytes a
+//! character make of every sequence of two bytes, and what each of the forty encodings reads and
+//! writes.
 //!
-//! The file `stdout` beside `src/` has what it must print. Its characters were taken from ISO 8859, RFC 1489
-//! and RFC 2319 (KOI8), the code pages of the vendors, JIS X 0208 and 0212, KS X 1001, GB 18030 and the
-//! notes of the Encoding Standard, never from the files. Its lines on sequences are those of
-//! `tools/sequences.py`, a program that reads the same files by itself, and those on the forty encodings by name
-//! are those of `tools/characters.py`.
+//! The file `stdout` beside `src/` has what must be printed. Its characters were taken from ISO
+//! 8859, RFC 1489 and RFC 2319 (KOI8), the code pages of the vendors, JIS X 0208 and 0212, KS X
+//! 1001, GB 18030 and the notes of the Encoding Standard, never from the files. Its lines on
+//! sequences are those of `tools/sequences.py`, a program that reads the same files by itself. Its
+//! lines on the forty encodings are those of `tools/characters.py`.
 //!
-//! Of the characters above the basic plane a sample is written. With the word `all` every character is
-//! (`make characters`).
+//! A sample of the characters above the basic plane is written. With the word `all` every one of
+//! them is written (`make characters`).
 #![tactic(auto)]
 
 ghost use Rattle.std.specs.Prelude.{◌≡◌, true};
@@ -32,7 +33,7 @@ use encoding_tables::{IndexKind, Tables};
 use std::env::Env;
 use std::{env, fs};
 
-// The character at a pointer of an index that is there.
+// Returns the character at a pointer of an index that is there.
 fn character(tables: &Tables, kind: IndexKind, pointer: u32) -> Option<char>
     requires { has tables.now kind ≡ true }
 {
@@ -63,7 +64,7 @@ fn print_entries(
     Ok(())
 }
 
-// What the words of the command line ask for.
+// Returns which characters the word of the command line asks for.
 fn extent(env: &(impl Env + AllocGlobal)) -> anyhow::Result<Extent> {
     let words: Vec<String> = env::args(env)?.collect(env.alloc())?;
     match words.get(1) {

@@ -1,5 +1,5 @@
 //! Every sequence of two bytes, read by the decoder of an encoding and written again by its
-//! encoder, over the tables of the files.
+//! encoder, with the indexes of the files.
 
 ghost use Rattle.std.specs.Prelude.{◌≡◌, true};
 ghost use Rattle.encoding_tables.specs.IndexLists.{has};
@@ -24,7 +24,8 @@ enum Codec {
     Iso2022Jp,
 }
 
-// The bytes that stand before the two, for the longer forms.
+// The encodings, each with the bytes that stand before the two. A longer form is reached by these
+// bytes.
 const SEQUENCES: [(&str, Codec, &[u8]); 11] = [
     ("big5", Codec::Big5, &[]),
     ("euc-kr", Codec::EucKr, &[]),
@@ -47,13 +48,13 @@ const SEQUENCES: [(&str, Codec, &[u8]); 11] = [
     ),
 ];
 
-// What stands in a digest for a malformed sequence, besides its length.
+// Added to a digest, together with its length, for each malformed sequence.
 const BAD: u32 = 0x0011_0000;
 
-// What stands in a digest for a character without bytes, besides its number.
+// Added to a digest, together with its number, for each character without bytes.
 const UNMAPPABLE: u32 = 0x0100_0000;
 
-// What was seen: digests of the sequences with one lead, and counts of all.
+// Digests of the sequences with one lead byte, and counts of all sequences.
 #[derive(Drop)]
 struct Seen {
     read: Digest,
@@ -76,8 +77,8 @@ impl Seen {
         }
     }
 
-    // Encodes a text to its end. Returns whether it was written by one call, with these bytes
-    // before them.
+    // Encodes a text to its end. Returns whether one call wrote all of it, and what it wrote begins
+    // with `bytes`.
     fn write<E: RawEncoder>(&mut self, encoder: &mut E, text: &[u16], bytes: &[u8]) -> bool {
         let mut rest = text;
         for calls in 0..16 {
@@ -101,8 +102,8 @@ impl Seen {
         false
     }
 
-    // Decodes a sequence to its end, and encodes the text before each malformed sequence and behind
-    // the last.
+    // Decodes a sequence to its end. Encodes the text before each malformed sequence, and the text
+    // after the last one.
     fn read<D: RawDecoder, E: RawEncoder>(
         &mut self,
         decoder: &mut D,
@@ -137,7 +138,7 @@ impl Seen {
         self.written.add(END);
     }
 
-    // The same with a new decoder and a new encoder.
+    // Decodes a sequence with a new decoder, and encodes its text with a new encoder.
     fn sequence(&mut self, tables: &Tables, codec: Codec, bytes: &[u8])
         requires big5 { has tables.now IndexKind.Big5 ≡ true }
         requires euc_kr { has tables.now IndexKind.EucKr ≡ true }
@@ -187,10 +188,10 @@ impl Seen {
     }
 }
 
-// Prints of each encoding, and what stands before the two bytes, how many sequences are read
-// without a malformed sequence, how many of these are written as they were read, and how many
-// malformed sequences and characters without bytes there are; then, for each lead, the digest of
-// all that is read with it, and of all that is written.
+// Prints four counts for each encoding and each prefix: how many sequences have no malformed part,
+// how many of these are written as they were read, how many malformed sequences there are, and how
+// many characters without bytes. Then prints two digests for each lead byte: of all that is read
+// with it, and of all that is written.
 pub(crate) fn print_sequences(rt: &(impl Print + Alloc), tables: &Tables) -> anyhow::Result<()>
     requires big5 { has tables.now IndexKind.Big5 ≡ true }
     requires euc_kr { has tables.now IndexKind.EucKr ≡ true }
@@ -226,7 +227,7 @@ pub(crate) fn print_sequences(rt: &(impl Print + Alloc), tables: &Tables) -> any
     Ok(())
 }
 
-// Prints the digests of all leads, 16 to a line.
+// Prints the digests of all lead bytes, 16 to a line.
 fn print_digests(rt: &impl Print, what: &str, digests: &[u32]) -> anyhow::Result<()> {
     for (lead, digest) in digests.iter().enumerate() {
         if lead % 16 == 0 {

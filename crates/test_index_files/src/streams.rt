@@ -8,18 +8,18 @@ use encoding_front::{Decoder, Encoding, Mark};
 use encoding_tables::Tables;
 use std::alloc::{AllocError, Global};
 
-// Streams of which each begins with the same bytes.
+// All streams of one form.
 #[derive(Clone, Copy)]
 enum Streams {
-    // Behind these bytes stands every byte.
+    // These bytes, and then one byte of any value.
     One(&'static [u8]),
-    // Behind these bytes stand every two.
+    // These bytes, and then two bytes of any values.
     Two(&'static [u8]),
-    // The bytes 81 to FE and 30 to 39, and again both.
+    // Four bytes: 81 to FE, 30 to 39, 81 to FE, and 30 to 39.
     Four,
 }
 
-// The streams that each encoding reads.
+// Returns the streams that an encoding reads.
 fn streams_of(encoding: Encoding) -> &'static [Streams] {
     match encoding {
         Encoding::Big5 | Encoding::EucKr | Encoding::ShiftJis => {
@@ -40,8 +40,7 @@ fn streams_of(encoding: Encoding) -> &'static [Streams] {
     }
 }
 
-// What was read: how many streams have no malformed sequence, how many have one, and all of the
-// text.
+// How many streams have no malformed sequence, how many have one, and the digest of all texts.
 #[derive(Drop)]
 struct Told {
     whole: u32,
@@ -50,7 +49,7 @@ struct Told {
 }
 
 impl Told {
-    // Reads a stream by a decoder of its own.
+    // Reads a stream with a decoder of its own.
     fn stream(&mut self, tables: &Tables, encoding: Encoding, bytes: &[u8])
         requires { IsReady tables.now encoding }
     {
@@ -122,7 +121,7 @@ impl Told {
 }
 
 // Prints how many streams an encoding reads without a malformed sequence, how many with one, and
-// the digest of what is read.
+// the digest of the texts.
 pub(crate) fn print_streams(
     rt: &(impl Print + AllocGlobal),
     tables: &Tables,

@@ -1,4 +1,4 @@
-//! Calls of a `Decoder` over a text and into a text's spare capacity.
+//! Calls of a `Decoder` that write over a text, and into the spare capacity of a text.
 
 use encoding_front::{CoderResult, SHIFT_JIS, UTF_8};
 use encoding_mem::{DecoderResult, RawDecoder};
@@ -47,7 +47,7 @@ fn the_debug_text_names_the_encoding(rt: HostRuntime) -> Result<(), AllocError> 
     let tables = Tables::new(rt.alloc());
     let text = format!(in rt.alloc(); "{:?}", UTF_8.new_decoder(&tables))?;
     assert!(rt; text.contains("UTF-8"));
-    // Once a mark is read, the encoding that it names.
+    // After a mark is read, the text names the encoding of the mark.
     let mut decoder = UTF_8.new_decoder(&tables);
     let mut room = [0; 8];
     let answer = decoder.decode_to_utf8(b"\xFF\xFE", &mut room, false);

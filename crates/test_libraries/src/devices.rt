@@ -1,5 +1,5 @@
-//! Readers and writers whose failed calls are counted, and bytes that are written, all of them
-//! or a prefix.
+//! Readers and writers whose failed calls are counted. Bytes that are handed to a writer, which
+//! takes all of them or a prefix.
 
 ghost use Rattle.std.specs.Prelude.{◌≤◌, IfOk};
 
@@ -15,7 +15,8 @@ enum Answer {
     Fails(ErrorKind),
 }
 
-// Gives each call the next of its answers, and moves no bytes once they are used up.
+// A device that returns the next of its answers at each call. After the last answer it moves no
+// bytes.
 #[derive(Drop)]
 struct Scripted<'a> {
     answers: &'a [Answer],
@@ -134,7 +135,7 @@ fn a_failing_flush_is_counted(rt: HostRuntime) -> Result<(), Fail> {
     Ok(())
 }
 
-// Takes one byte a call, and at the call `cut`, counted from 1, fails or takes none.
+// A writer that takes one byte a call. At the call `cut`, counted from 1, it fails or takes none.
 #[derive(Drop)]
 struct OneByOne {
     taken: Vec<u8>,

@@ -1,4 +1,4 @@
-//! The conditions of a conversion at their edges: a valid job, buffers that are enough.
+//! The edges of the two conditions of a conversion: a job is valid, and buffers are enough.
 
 use encoding_front::{GB18030, REPLACEMENT, SHIFT_JIS, UTF_8, UTF_16LE, X_USER_DEFINED};
 use encoding_tables::Tables;
@@ -37,7 +37,7 @@ fn a_job_needs_the_indexes_of_both_encodings(rt: HostRuntime) {
         (SHIFT_JIS, UTF_8, false),
         (UTF_8, GB18030, false),
         (UTF_8, X_USER_DEFINED, true),
-        // What is written is UTF-8.
+        // These two encodings are written as UTF-8.
         (UTF_16LE, UTF_16LE, true),
         (REPLACEMENT, REPLACEMENT, true),
     ];

@@ -1,4 +1,4 @@
-//! An `Encoder` into the spare capacity of bytes, and the encoding that it writes.
+//! An `Encoder` that writes into the spare capacity of bytes, and the encoding that it writes.
 
 use encoding_front::{
     CoderResult, REPLACEMENT, UTF_8, UTF_16BE, UTF_16LE, WINDOWS_1252, WINDOWS_1253,
@@ -7,7 +7,8 @@ use encoding_mem::EncoderResult;
 use encoding_tables::{IndexKind, Tables};
 use std::test::Fail;
 
-// The spare capacity is the room: of 16 bytes 14, of which 10 are kept back.
+// The spare capacity is the room: 14 of 16 bytes. The call that writes references keeps 10 of these
+// back.
 #[test]
 fn into_the_spare_capacity(rt: HostRuntime) -> Result<(), Fail> {
     let mut greek = [0; 128];

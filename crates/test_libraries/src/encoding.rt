@@ -1,4 +1,4 @@
-//! The forty encodings: names, labels, marks and what is told of each, against the standard's
+//! The names, labels, marks and properties of the forty encodings, compared with the standard's
 //! table.
 
 // Written by tools/generate_encodings.py from tools/encodings.toml; do not edit.

@@ -1,8 +1,8 @@
-//! Calls of the libraries that are no lines of the programs of cases, worked by hand: labels
-//! (`encoding_labels`), encodings and one-shot calls (`encoding_front`), counted devices, places of
-//! what a log names and what is printed of them (`recode_log`, `recode_places`,
-//! `recode_places_report`), the program and its calls of writers (`recode`). There are tests alone
-//! here.
+//! Tests for what the programs of cases have no lines for, with results worked by hand: labels
+//! (`encoding_labels`), encodings and calls for whole texts (`encoding_front`), counted devices
+//! (`recode_log`), the places that a log names and what is printed of them (`recode_places`,
+//! `recode_places_report`), the program and its calls of writers (`recode`). This crate has tests
+//! alone.
 #![tactic(auto)]
 
 #[cfg(test)]

@@ -1,11 +1,11 @@
-//! Whole inputs at once, with results worked by hand.
+//! Calls for whole inputs, with results worked by hand.
 
 use encoding_front::{Encoding, OneShotFault, UTF_8, UTF_16LE, WINDOWS_1257, X_USER_DEFINED};
 use encoding_tables::{IndexKind, Tables};
 use std::alloc::{AllocError, Global};
 use std::test::Fail;
 
-// Tables with some entries of windows-1257.
+// Returns tables with these entries of windows-1257.
 fn baltic(alloc: Global, entries: &[(usize, u32)]) -> Tables {
     let mut list = [0; 128];
     for &(pointer, scalar) in entries {
@@ -18,7 +18,7 @@ fn baltic(alloc: Global, entries: &[(usize, u32)]) -> Tables {
     tables
 }
 
-// Whether a whole input, in which marks are sniffed, is this text in this encoding.
+// Returns whether the call that sniffs marks returns the text, the encoding and the flag of `want`.
 fn is_sniffed(
     alloc: Global,
     tables: &Tables,
@@ -33,7 +33,8 @@ fn is_sniffed(
     Ok(text.as_bytes() == want.0.as_bytes() && source == want.1 && bad == want.2)
 }
 
-// Whether a whole input, of which the encoding's own mark is no part, is this text.
+// Returns whether the call that removes the encoding's own mark returns the text and the flag of
+// `want`.
 fn is_removed(
     alloc: Global,
     tables: &Tables,
@@ -48,8 +49,8 @@ fn is_removed(
     Ok(text.as_bytes() == want.0.as_bytes() && bad == want.1)
 }
 
-// Whether a whole input, in which a mark is text, is this text; and whether it has none where a
-// piece is malformed.
+// Returns whether the call that reads a mark as text returns the text and the flag of `want`. The
+// call without replacement must return this text, or none if a piece is malformed.
 fn is_kept(
     alloc: Global,
     tables: &Tables,
@@ -71,7 +72,7 @@ fn is_kept(
 
 const EURO: &[(usize, u32)] = &[(0, 0x20AC), (100, 0xE4)];
 
-// The euro sign so many times.
+// Returns a text of `count` euro signs.
 fn euros(alloc: Global, count: usize) -> Result<String, AllocError> {
     let mut text = String::new(alloc);
     for _ in 0..count {
@@ -97,12 +98,12 @@ fn large_inputs_and_their_text(rt: HostRuntime) -> Result<(), Fail> {
     Ok(())
 }
 
-// `Overflow` is returned where these queries return none. No input is as long as that, so the calls
-// themselves can't be made with one.
+// The calls return `Overflow` if these queries return `None`. No input is as long as that, so the
+// calls themselves cannot be made with one.
 #[test]
 fn overflow_begins_where_the_room_passes_a_usize(rt: HostRuntime) {
     let tables = Tables::new(rt.alloc());
-    // The greatest length for which there is room, and that room.
+    // The greatest length for which there is a room, and this room.
     let cases = [
         (UTF_8, 6148914691236517204, usize::MAX),
         (X_USER_DEFINED, 6148914691236517205, usize::MAX),

@@ -1,4 +1,4 @@
-//! Places of what a log names, and of what a target would lose.
+//! The places of what a log names, and of what a target would lose.
 
 use encoding_front::{Encoding, Mark};
 use encoding_tables::{IndexKind, Tables};
@@ -10,10 +10,10 @@ use std::io;
 use std::io::{ErrorKind, Read};
 use std::test::Fail;
 
-// `one`, a line feed, `t`, a byte that is malformed in UTF-8, `o`, a Greek letter.
+// This is `one`, a line feed, `t`, a byte that is malformed in UTF-8, `o` and a Greek letter.
 const INPUT: &[u8] = b"one\nt\xFFo\xCE\xA9";
 
-// What is told of an input in UTF-8, by a log.
+// Returns the entries for an input in UTF-8 that a log names.
 fn told_by_log(alloc: Global, input: &[u8], log: &[u8]) -> Result<Vec<Entry>, Stop> {
     let tables = Tables::new(alloc);
     let source = Source {
@@ -31,7 +31,8 @@ fn told_by_log(alloc: Global, input: &[u8], log: &[u8]) -> Result<Vec<Entry>, St
     Ok(entries)
 }
 
-// How many entries are told, or why the telling stopped.
+// Returns how many entries there are for an input in UTF-8 and a log, or why the search for places
+// stopped.
 fn count_told(alloc: Global, input: &[u8], log: &[u8]) -> Result<usize, Stop> {
     let entries = told_by_log(alloc, input, log)?;
     Ok(entries.len())
@@ -162,7 +163,7 @@ fn without_a_log_what_a_target_loses_is_told(rt: HostRuntime) -> Result<(), Fail
     Ok(())
 }
 
-// What is told of the text `a`, a yen sign, a kanji, with these choices of a target.
+// Returns the entries for the text `a`, a yen sign, a kanji, by this choice.
 fn told_of_three(
     alloc: Global,
     tables: &Tables,
@@ -182,8 +183,8 @@ fn told_of_three(
     Ok(entries)
 }
 
-// Shift_JIS writes the yen sign as 5C, which is read as a backslash, and the overline as 7E. Its
-// index has no entry here.
+// Shift_JIS writes the yen sign as 5C, which is read as a backslash, and the overline as 7E, which
+// is read as a tilde. The index has no entry here, so the kanji is lost.
 #[test]
 fn what_a_target_writes_as_another_is_told_if_it_is_asked(rt: HostRuntime) -> Result<(), Fail> {
     let mut tables = Tables::new(rt.alloc());
@@ -217,7 +218,7 @@ fn what_a_target_writes_as_another_is_told_if_it_is_asked(rt: HostRuntime) -> Re
     Ok(())
 }
 
-// Fails at each read.
+// A reader that fails at each read.
 #[derive(Drop)]
 struct Failing;
 

@@ -1,4 +1,4 @@
-//! Calls of the program over a file that tells what it holds, and the list of all labels.
+//! Calls of the program with a file whose content a ghost field states, and the list of all labels.
 
 ghost use Rattle.std.specs.Prelude.{◌≡◌, ◌&&◌, None, Some, if◌then◌else◌, nat_eq};
 ghost use Rattle.std.specs.Cmp.Lexicographic.{pointwise};
@@ -9,7 +9,7 @@ use recode_log::counted::Counted;
 use std::alloc::Global;
 use std::test::Fail;
 
-// The one file of a folder, in memory. It tells what it holds.
+// A folder in memory with one file. The ghost `holds` states the content of the file.
 #[derive(Drop)]
 struct ToldFile {
     dir: &'static str,

@@ -1,4 +1,4 @@
-//! What is printed of places: lines of text, carets and sums, worked by hand.
+//! What is printed of places: lines of text, carets and sums, with results worked by hand.
 
 use encoding_front::Encoding;
 use recode_places::{Entry, Finding, Place, Refusal, Visitor};
@@ -6,7 +6,7 @@ use recode_places_report::{Counts, Report};
 use std::alloc::Global;
 use std::test::Fail;
 
-// A piece of an input: text, or something that is told.
+// A part of an input: text, a character that is lost, or malformed bytes.
 #[derive(Clone, Copy)]
 enum Part {
     Text(&'static str),
@@ -14,7 +14,7 @@ enum Part {
     Bytes(&'static [u8]),
 }
 
-// Tells a visitor an input, each part of it in a place of line 7.
+// Hands the parts of an input to a visitor. Each part has a column of its own in line 7.
 fn tell<V: Visitor>(visitor: &mut V, parts: &[Part]) -> Result<(), Refusal> {
     let mut column = 0u64;
     for part in parts {
@@ -48,12 +48,12 @@ fn tell<V: Visitor>(visitor: &mut V, parts: &[Part]) -> Result<(), Refusal> {
     Ok(())
 }
 
-// What was written, as text.
+// Returns what was written, as text.
 fn text_of(report: Report<Vec<u8>>) -> Result<String, Fail> {
     Ok(String::from_utf8(report.into_writer())?)
 }
 
-// The lines, each with a line feed behind it.
+// Returns the lines, each with a line feed after it.
 fn joined(alloc: Global, lines: &[&str]) -> Result<String, Fail> {
     let mut all = String::new(alloc);
     for line in lines {
@@ -63,8 +63,8 @@ fn joined(alloc: Global, lines: &[&str]) -> Result<String, Fail> {
     Ok(all)
 }
 
-// The lines of text and carets that are printed of an input, without the lines that begin with its
-// name.
+// Returns the lines of text and carets that are printed of an input. Lines that begin with the name
+// of the input are left out.
 fn drawing(alloc: Global, parts: &[Part]) -> Result<String, Fail> {
     let mut report = Report::new(alloc, Vec::new(alloc), "f", Encoding::Windows1252, 20)?;
     tell(&mut report, parts)?;

@@ -1,4 +1,4 @@
-//! How many calls of its two writers a conversion makes.
+//! How many calls of the output and of the log a conversion makes.
 
 use encoding_front::{Encoding, UTF_8, X_USER_DEFINED};
 use encoding_tables::Tables;
@@ -7,7 +7,7 @@ use recode_log::counted::Counted;
 use std::io;
 use std::io::Write;
 
-// Takes all that it is given, and counts its calls.
+// A writer that takes all bytes that it is given, and counts its calls.
 #[derive(Drop)]
 struct Tally {
     calls: usize,
@@ -24,8 +24,8 @@ impl Write for Tally {
     }
 }
 
-// The calls of the output and of the log for an input that is read at once, with so much room for
-// output.
+// Returns how many calls of the output and of the log are made for an input that is read at once.
+// The output buffer has `output_len` bytes.
 fn calls_of_writers(
     tables: &Tables,
     to: Encoding,
@@ -65,8 +65,8 @@ fn calls_of_writers(
 #[test]
 fn a_fault_takes_two_calls_of_the_writers(rt: HostRuntime) {
     let tables = Tables::new(rt.alloc());
-    // All bytes between two lines go out together; U+FFFD and references are among the bytes after
-    // their line.
+    // All bytes between two lines of the log are written by one call. U+FFFD and references are
+    // among the bytes after their line.
     let rows: [(Encoding, &[u8], usize, usize); 10] = [
         (UTF_8, b"ab", 1, 0),
         (UTF_8, b"a\xFFb", 2, 1),
@@ -75,7 +75,7 @@ fn a_fault_takes_two_calls_of_the_writers(rt: HostRuntime) {
         (X_USER_DEFINED, b"a\xC3\xA9b", 2, 1),
         (X_USER_DEFINED, b"a\xC3\xA9b\xC3\xA9c\xC3\xA9", 4, 3),
         (X_USER_DEFINED, b"\xC3\xA9\xC3\xA9", 2, 2),
-        // U+FFFD is lost as well: two lines with nothing between them go out together.
+        // U+FFFD is lost as well. Its two lines have nothing between them, so one call writes both.
         (X_USER_DEFINED, b"a\xFFb", 2, 1),
         (X_USER_DEFINED, b"a\xFFb\xFFc\xFF", 4, 3),
         (X_USER_DEFINED, b"\xFF\xFF", 2, 2),
@@ -94,7 +94,7 @@ fn what_the_buffer_has_no_room_for_goes_out_before(rt: HostRuntime) {
         (UTF_8, b"abcdefgh", 8, 1, 0),
         (UTF_8, b"abcdefghi", 8, 2, 0),
         (UTF_8, b"a\xFFb", 4, 3, 1),
-        // A reference of six bytes.
+        // The reference `&#233;` has six bytes.
         (X_USER_DEFINED, b"a\xC3\xA9b", 4, 3, 1),
         (X_USER_DEFINED, b"a\xC3\xA9b", 10, 2, 1),
     ];

@@ -15,7 +15,7 @@ use test_recode_trials::tape::{Device, Tape};
 // A call, and what must come of it.
 #[derive(Drop)]
 struct Call<'a> {
-    // The words behind the program's name; one space stands between two.
+    // The words after the program's name, with one space between two.
     line: &'a str,
     dir: &'a str,
     files: Vec<File<'a>>,
@@ -25,22 +25,23 @@ struct Call<'a> {
     log_manners: Manners,
     status: u8,
     output: Vec<u8>,
-    // What stands somewhere in the output, and in the log.
+    // What must stand somewhere in the output, if the rest is left open. `log_part` is this for the
+    // log.
     output_part: Vec<u8>,
     log: Vec<u8>,
     log_part: Vec<u8>,
     is_output_whole: bool,
     is_log_whole: bool,
-    // How many files are asked for.
+    // How many files must be asked for.
     asked: usize,
-    // Whether the input is read.
+    // Whether the input must be read.
     is_read: bool,
     // How many bytes each read must have room for, if a line says it.
     room: Option<usize>,
 }
 
-// Words as `1 8 error` or `1 2 nothing`: how many bytes a call of a writer takes, the call that
-// fails, and how.
+// Reads words such as `1 8 error` or `1 2 nothing`: how many bytes a call of a writer takes at
+// most, which call fails, and how it fails.
 fn manners_of(words: &str) -> anyhow::Result<Manners> {
     let (most, rest) = words.split_once(' ').context("a number is missing")?;
     let (fails_at, how) = rest.split_once(' ').context("a word is missing")?;
@@ -129,7 +130,7 @@ struct Outcome {
     log: Vec<u8>,
     asked: usize,
     reads: usize,
-    // Whether each read has the room that the line says.
+    // Whether each read had the room that the line gives.
     has_room: bool,
 }
 
@@ -173,7 +174,8 @@ fn call_program(alloc: Global, call: &Call<'_>) -> anyhow::Result<Outcome> {
     })
 }
 
-// Whether bytes are these, or where only a part is known, have it.
+// Returns whether the bytes are the expected ones. If only a part is expected, returns whether they
+// have this part.
 fn is_told(bytes: &[u8], is_whole: bool, whole: &[u8], part: &[u8]) -> bool {
     if is_whole {
         return bytes == whole;
@@ -184,7 +186,8 @@ fn is_told(bytes: &[u8], is_whole: bool, whole: &[u8], part: &[u8]) -> bool {
     }
 }
 
-// Words as `--from utf-8 --to utf-8 | input a | output a`.
+// Checks words such as `--from utf-8 --to utf-8 | input a | output a`: a call of the program, and
+// what must come of it.
 pub(crate) fn check_call(
     rt: &(impl Print + AllocGlobal),
     words: &str,

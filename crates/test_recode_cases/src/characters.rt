@@ -1,6 +1,6 @@
-//! Converts every character to an encoding, each as a text of its own, and prints what is told of
-//! them: `make verdicts` compares that with `tools/characters.py`, a plain program over the same
-//! index texts.
+//! Converts every character to an encoding, each as a text of its own, and prints a verdict on it.
+//! `make verdicts` compares the verdicts with those of `tools/characters.py`, a plain program over
+//! the same index texts.
 
 use anyhow::{Context, bail, ensure};
 use encoding_front::{Encoding, Mark, UTF_8};
@@ -11,16 +11,16 @@ use recode_log::counted::Counted;
 use std::fs;
 use std::rt::Files;
 
-// What is told of a character.
+// The verdict on a character: what the report and the log of its conversion say.
 #[derive(Clone, Copy, PartialEq, Eq)]
 enum Told {
-    // It is faithful, and the log is empty.
+    // The report says faithful, and the log is empty.
     Kept,
-    // The log is empty, but it is not faithful.
+    // The report does not say faithful, but the log is empty.
     Folded,
-    // It is not faithful, and the log has a line.
+    // The report does not say faithful, and the log has a line.
     Lost,
-    // The log has a line, but it is faithful.
+    // The report says faithful, but the log has a line.
     Wrong,
 }
 
@@ -44,7 +44,7 @@ impl Told {
     }
 }
 
-// Converts a character, as a text of its own.
+// Converts a character as a text of its own.
 fn convert(
     rt: &impl AllocGlobal,
     job: Job<'_>,
@@ -64,7 +64,7 @@ fn convert(
     Ok(Told::new(report.faithful, log.get_ref().is_empty()))
 }
 
-// Converts a character with small buffers, whose pivots are of either kind in turn.
+// Converts a character with small buffers. The pivots are in UTF-8 or in UTF-16, in turn.
 fn told_of(rt: &impl AllocGlobal, job: Job<'_>, character: char) -> anyhow::Result<Told> {
     let mut input = [0; 4];
     let mut output = [0; 4];
@@ -95,7 +95,7 @@ fn told_of(rt: &impl AllocGlobal, job: Job<'_>, character: char) -> anyhow::Resu
     }
 }
 
-// Characters that follow one another, of which the same is told.
+// Characters that follow one another and have one verdict.
 #[derive(Clone, Copy)]
 struct Span {
     first: u32,
@@ -110,7 +110,7 @@ fn print_span(rt: &impl Print, name: &str, span: Option<Span>) -> anyhow::Result
     Ok(())
 }
 
-// The character of a number, if it is one that is converted.
+// Returns the character of a number, if it is one that is converted.
 fn character_of(number: u32, step: u32) -> Option<char> {
     if number < 0x10000 || number.is_multiple_of(step) {
         char::from_u32(number)
@@ -119,7 +119,7 @@ fn character_of(number: u32, step: u32) -> Option<char> {
     }
 }
 
-// Prints what is told of the characters.
+// Prints the verdicts on the characters.
 fn print_verdicts(rt: &(impl Print + AllocGlobal), job: Job<'_>, step: u32) -> anyhow::Result<()> {
     let name = job.to.name();
     let mut span: Option<Span> = None;
@@ -144,7 +144,7 @@ fn print_verdicts(rt: &(impl Print + AllocGlobal), job: Job<'_>, step: u32) -> a
     print_span(rt, name, span)
 }
 
-// The tables that an encoding is written with.
+// Returns tables with the indexes that an encoding needs to be written.
 fn tables(rt: &(impl Files + AllocGlobal), to: Encoding) -> anyhow::Result<Tables> {
     let mut tables = Tables::new(rt.alloc());
     for kind in to.output_encoding().needs() {
@@ -154,8 +154,9 @@ fn tables(rt: &(impl Files + AllocGlobal), to: Encoding) -> anyhow::Result<Table
     Ok(tables)
 }
 
-// Prints what is told of the characters of each of these encodings, with the index files of the
-// folder. Of the planes from 1 on those are converted that the step divides.
+// Prints the verdicts on the characters for each of these encodings, with the index files of the
+// current folder. All characters of the basic plane are converted, and of the other planes those
+// whose number the step divides.
 pub(crate) fn print_all(
     rt: &(impl Print + Files + AllocGlobal),
     step: u32,

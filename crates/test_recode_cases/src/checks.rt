@@ -15,7 +15,7 @@ use test_recode_trials::trial::{
     AT_ONCE, LEAST, LEAST_WIDE, Plan, ROOMY, ROOMY_WIDE, SIZES, Setting, Sizes, WAYS, Way, recode,
 };
 
-// Room for all of a case, but little to read back.
+// Room for all of a case, but little room to read back.
 const SHORT_OF_CHECK: Sizes = Sizes {
     input: 64,
     pivot: 64,
@@ -24,7 +24,7 @@ const SHORT_OF_CHECK: Sizes = Sizes {
     is_wide: false,
 };
 
-// Pivots with the least room, and with room for all of a case.
+// Pivots with the least room, and with room for all of a case, each in UTF-8 and in UTF-16.
 const PIVOTS: [Sizes; 4] = [
     LEAST,
     LEAST_WIDE,
@@ -36,11 +36,11 @@ const PIVOTS: [Sizes; 4] = [
     },
 ];
 
-// The kinds of pivot and check, each with the least room, with room for a byte or unit more, and
-// with room for all of a case.
+// The rooms of the pivot and of the check, in UTF-8 and in UTF-16: the least room, room for one
+// byte or unit more, and room for all of a case.
 const ROOMS: [(bool, [usize; 3]); 2] = [(false, [4, 5, 64]), (true, [2, 3, 64])];
 
-// A case, the indexes, and how marks are treated.
+// A case, the indexes, and the setting of its conversions.
 #[derive(Clone, Copy)]
 pub(crate) struct Subject<'a> {
     pub(crate) tables: &'a Tables,
@@ -48,7 +48,7 @@ pub(crate) struct Subject<'a> {
     pub(crate) setting: Setting<'a>,
 }
 
-// Prints a difference, if there is one, with the plan that it was met by.
+// Prints a difference, if there is one, with the plan of the conversion.
 fn tell<T: Drop>(
     rt: &(impl Print + AllocGlobal),
     plan: &Plan,
@@ -72,7 +72,7 @@ fn compare(alloc: Global, subject: Subject<'_>, way: Way, plan: &Plan) -> anyhow
     case.compare(outcome.answer)
 }
 
-// In both ways.
+// Converts in both ways, and compares all that comes of it.
 fn check(
     rt: &(impl Print + AllocGlobal),
     subject: Subject<'_>,
@@ -87,7 +87,7 @@ fn check(
     Ok(())
 }
 
-// How many calls of codecs are made where the input ends behind so many bytes.
+// Compares how many calls of codecs are made with the bound, if the input ends after `len` bytes.
 fn compare_calls(
     alloc: Global,
     subject: Subject<'_>,
@@ -100,7 +100,7 @@ fn compare_calls(
         ..subject.setting
     };
     match recode(alloc, subject.tables, setting, Way::Run, plan)?.answer {
-        // A part may end within a character, and the policy then stop at what stands for it.
+        // If the input ends within a character, U+FFFD stands for that. The policy may stop at it.
         Err(Fault::Unmappable { .. }) => {
             ensure!(setting.policy == Policy::Stop, "it is stopped at {len}");
             Ok(())
@@ -130,7 +130,8 @@ fn check_calls(
     Ok(())
 }
 
-// With each call of a device failing, by writers that take all and by ones that take a byte.
+// Converts with each call of a device failing, with writers that take all bytes and with writers
+// that take one byte a call.
 fn check_failing_calls(
     rt: &(impl Print + AllocGlobal),
     subject: Subject<'_>,
@@ -155,8 +156,8 @@ fn check_failing_calls(
     Ok(())
 }
 
-// By `convert`: with flushes that fail, behind a call that failed too, and with a message that is
-// cut.
+// Converts by `convert`: with flushes that fail, alone and after a call that failed, and with a
+// message that is cut.
 fn check_failing_flushes(
     rt: &(impl Print + AllocGlobal),
     subject: Subject<'_>,
@@ -176,8 +177,8 @@ fn check_failing_flushes(
     tell(rt, &plan, met, report)
 }
 
-// With buffers of all sizes beside one another: an input that is longer than the pivot or the
-// output, a character that the pivot holds once and not twice, a check that is longer or shorter.
+// Converts with buffers of all sizes. The input may be longer than the pivot or the output. The
+// pivot may hold a character once but not twice. The check may be longer or shorter than the pivot.
 fn check_sizes(
     rt: &(impl Print + AllocGlobal),
     subject: Subject<'_>,
@@ -204,7 +205,7 @@ fn check_sizes(
     Ok(())
 }
 
-// At every cut and byte by byte, with buffers of all sizes.
+// Converts at every cut and byte by byte, and with buffers of all sizes.
 fn check_cuts(
     rt: &(impl Print + AllocGlobal),
     subject: Subject<'_>,
@@ -231,7 +232,8 @@ fn check_cuts(
     check_sizes(rt, subject, report)
 }
 
-// At every cut with room for 4 to 9 bytes of output, so that these are cut at each place, too.
+// Converts at every cut with room for 4 to 9 bytes of output, so that the output is cut at each
+// place, too.
 fn check_rooms(
     rt: &(impl Print + AllocGlobal),
     subject: Subject<'_>,
@@ -258,7 +260,7 @@ fn check_rooms(
     Ok(())
 }
 
-// With one read, and large buffers with either kind of pivot.
+// Converts with one read, and with large buffers of either kind of pivot.
 fn check_once(
     rt: &(impl Print + AllocGlobal),
     subject: Subject<'_>,
@@ -270,7 +272,7 @@ fn check_once(
     Ok(())
 }
 
-// No bytes, with the least buffers of either kind of pivot, and marks treated in each way.
+// Converts no bytes, with the least buffers of either kind of pivot. Marks are treated in each way.
 pub(crate) fn check_nothing(
     rt: &(impl Print + AllocGlobal),
     tables: &Tables,
@@ -292,8 +294,8 @@ pub(crate) fn check_nothing(
     Ok(())
 }
 
-// The calls on a whole input and on the whole text of it give the same bytes and encoding, and
-// tell a loss where the log has a line.
+// Makes the calls for a whole input and for its whole text. They must return the bytes and the
+// encoding of the case, and report a loss if the log has a line.
 fn compare_roads(alloc: Global, subject: Subject<'_>) -> anyhow::Result<()> {
     let Subject {
         tables,
@@ -317,7 +319,7 @@ fn compare_roads(alloc: Global, subject: Subject<'_>) -> anyhow::Result<()> {
     Ok(())
 }
 
-// Converts a case by all plans that it is meant for, and prints the differences.
+// Converts a case by all plans that its line asks for, and prints the differences.
 pub(crate) fn check_case(
     rt: &(impl Print + AllocGlobal),
     tables: &Tables,

@@ -10,18 +10,18 @@ use test_recode_trials::trial::{
     AT_ONCE, LEAST, LEAST_WIDE, Plan, ROOMY, ROOMY_WIDE, Sizes, WAYS, recode,
 };
 
-// What is converted, and by how many calls.
+// What is converted, and how many calls of codecs that must take.
 #[derive(Drop)]
 pub(crate) struct CodecCalls {
     pub(crate) head: Head,
     input: Vec<u8>,
-    // Of the decoder, of the encoder, and of the decoder that reads back.
+    // How often the decoder, the encoder and the decoder that reads back must be called, in all.
     calls: u64,
-    // The buffers, with either kind of pivot.
+    // The sizes of the buffers, with either kind of pivot.
     sizes: [Sizes; 2],
 }
 
-// Large buffers, but for pivots of which a character above U+FFFF takes all.
+// Large buffers with small pivots, each of which a character above U+FFFF fills.
 const SMALL_PIVOTS: [Sizes; 2] = [
     Sizes { pivot: 4, ..ROOMY },
     Sizes {
@@ -31,7 +31,7 @@ const SMALL_PIVOTS: [Sizes; 2] = [
 ];
 
 impl CodecCalls {
-    // Words as `utf-8 -> shift_jis: "abc" => 2 2 2`, behind the word for the buffers.
+    // Reads words such as `utf-8 -> shift_jis: "abc" => 2 2 2`. `word` names the buffers.
     pub(crate) fn of(alloc: Global, word: &str, words: &str) -> anyhow::Result<Self> {
         let sizes = match word {
             "byte-calls" => [LEAST, LEAST_WIDE],

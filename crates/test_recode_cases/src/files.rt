@@ -11,7 +11,7 @@ pub(crate) struct File<'a> {
     pub(crate) text: Vec<u8>,
 }
 
-// Files, all in one folder.
+// Index files, all in one folder.
 #[derive(Drop)]
 pub(crate) struct Files<'a> {
     pub(crate) dir: &'a str,

@@ -1,4 +1,4 @@
-//! The indexes of a file of cases, which are loaded as texts.
+//! Loads the indexes of a file of cases as texts.
 
 use anyhow::{Context, ensure};
 use encoding_front::Encoding;
@@ -18,8 +18,8 @@ fn load_text(
     Ok(())
 }
 
-// Loads words as `jis0208 422=30CF`: an index with these rows alone, each a pointer in decimal
-// digits and a character.
+// Loads the index of words such as `jis0208 422=30CF`. It has these rows alone, each a pointer in
+// decimal digits and a character in hexadecimal ones.
 pub(crate) fn load_index(alloc: Global, tables: &mut Tables, words: &str) -> anyhow::Result<()> {
     let (name, words) = words.split_once(' ').unwrap_or((words, ""));
     let mut text = String::new(alloc);
@@ -31,7 +31,7 @@ pub(crate) fn load_index(alloc: Global, tables: &mut Tables, words: &str) -> any
     load_text(alloc, tables, kind_of(name)?, text.as_str())
 }
 
-// Loads those that two encodings need and that are not there as empty texts.
+// Loads an empty text for each index that two encodings need and that is not there.
 pub(crate) fn complete(
     alloc: Global,
     tables: &mut Tables,

@@ -1,13 +1,13 @@
-//! Converts the cases of the files in `data/`, calls the program, and prints of each file how many
-//! cases it has, how many conversions they took, and each difference from what a case expects. The
-//! file `stdout` beside `src/` has what it must print: no difference.
+//! Converts the cases of the files in `data/`, and calls the program. Prints how many cases each
+//! file has, how many conversions they took, and each difference from what a case expects. The file
+//! `stdout` beside `src/` has what must be printed: no difference.
 //!
-//! A case gives an input, what it must become, and what must be told of it; it is converted at
-//! every cut, in steps and at once, with buffers of many sizes, and with each call of a device
-//! failing. `data/README.md` has the format. Expected values are worked by hand.
+//! A case gives an input, what it must become, and what must be reported. It is converted at every
+//! cut, in steps and at once, with buffers of many sizes, and with each call of a device failing.
+//! `data/README.md` describes the lines. The expected values are worked by hand.
 //!
-//! With a number and labels of encodings as words it is run in the folder of the index files, and
-//! prints what is told of each character instead.
+//! If the words are a number and labels of encodings, it is run in the folder of the index files,
+//! and prints a verdict on each character instead.
 #![tactic(auto)]
 
 mod calls;
@@ -50,7 +50,7 @@ const FILES: [&str; 17] = [
     "reads.txt",
 ];
 
-// The files of calls of the program, and of words and lines that it reads.
+// The files with calls of the program, and with the words and the lines that it reads.
 const PROGRAM_FILES: [&str; 2] = ["calls.txt", "words.txt"];
 
 fn main(rt: HostRuntime) -> anyhow::Result<()> {

@@ -1,4 +1,4 @@
-//! In which order the output and the log are written, byte by byte, and what is written where the
+//! In which order the bytes of the output and of the log are written, and what is written if the
 //! call for one of these bytes fails.
 
 use anyhow::{Context, ensure};
@@ -14,7 +14,7 @@ use test_recode_trials::stops::Stop;
 use test_recode_trials::tape::{Device, Event, only_bytes};
 use test_recode_trials::trial::{AT_ONCE, Plan, SIZES, Sizes, WAYS, Way, recode};
 
-// What is converted, and the bytes that devices take, in order.
+// What is converted, and the bytes that the devices must take, in order.
 #[derive(Drop)]
 pub(crate) struct Order {
     pub(crate) head: Head,
@@ -24,7 +24,7 @@ pub(crate) struct Order {
 }
 
 impl Order {
-    // Words as `utf-8 -> windows-1252: "a" C3A8 => "a" | lost 1 232 | "&#232;"`.
+    // Reads words such as `utf-8 -> windows-1252: "a" C3A8 => "a" | lost 1 232 | "&#232;"`.
     pub(crate) fn of(alloc: Global, words: &str) -> anyhow::Result<Self> {
         let (head, words) = words.split_once(": ").context("an order has no `: `")?;
         let (input, parts) = words.split_once("=>").context("an order has no `=>`")?;
@@ -59,7 +59,7 @@ impl Order {
         Ok(())
     }
 
-    // How many of the first bytes a device takes.
+    // Returns how many of the first `len` bytes a device takes.
     fn count(&self, device: Device, len: usize) -> usize {
         let mut count = 0_usize;
         for event in self.bytes.iter().take(len) {
@@ -72,7 +72,7 @@ impl Order {
         count
     }
 
-    // The device that takes the byte at this place. None behind the last.
+    // Returns the device that takes the byte at this place, or `None` after the last byte.
     fn taker(&self, place: usize) -> Option<Device> {
         match self.bytes.get(place) {
             Some(Event::Byte(device, _)) => Some(*device),
@@ -81,8 +81,8 @@ impl Order {
     }
 }
 
-// Converts with devices of a byte a call: so many bytes are taken, in order, before a fault or the
-// end.
+// Converts, and compares the bytes that are taken before a fault or the end: they must be the
+// wanted number of bytes, in order. Compares the fault and the failures, too.
 fn compare(
     alloc: Global,
     tables: &Tables,
@@ -105,7 +105,8 @@ fn compare(
     same_failures(outcome.failures, failures)
 }
 
-// With the call for each byte failing, one at a time, and with one failing behind the last.
+// Converts with the call for each byte failing, one at a time, and with a call that would come
+// after the last byte. Returns how many conversions that takes.
 fn compare_stops(
     alloc: Global,
     tables: &Tables,
@@ -140,7 +141,8 @@ fn compare_stops(
     Ok(len.saturating_add(2).saturating_mul(FAILURES.len()))
 }
 
-// In both ways, with buffers of these sizes, by devices that take all and by ones that take a byte.
+// Converts in both ways with buffers of these sizes, with devices that take all bytes and with
+// devices that take one byte a call.
 fn check_sizes(
     rt: &impl AllocGlobal,
     tables: &Tables,

@@ -1,4 +1,4 @@
-//! Lines that call the program, and words and lines that it reads.
+//! Lines that call the program, and lines of the words and of the log lines that it reads.
 
 use crate::calls::check_call;
 use crate::words::{check_invalid, check_line, check_part, check_refused, check_words};
@@ -6,7 +6,7 @@ use anyhow::bail;
 use test_case_lines::file::Lines;
 use test_case_lines::report::Report;
 
-// Each line stands by itself.
+// These lines leave nothing for the next one: each stands by itself.
 #[derive(Clone, Copy)]
 pub(crate) struct ProgramLines;
 

@@ -1,4 +1,4 @@
-//! How much is read, and how often: up to a limit, and by an input buffer of a given length.
+//! How much is read, and how often: with a limit, and with an input buffer of a given length.
 
 use anyhow::{Context, bail, ensure};
 use encoding_tables::Tables;
@@ -13,26 +13,26 @@ use test_recode_trials::source;
 use test_recode_trials::tape::{Device, calls_of};
 use test_recode_trials::trial::{AT_ONCE, Plan, SIZES, Setting, Sizes, WAYS, Way, recode};
 
-// What is converted, what is written, and how often the reader is called.
+// What is converted, what must be written, and how often the reader must be called.
 #[derive(Drop)]
 pub(crate) struct Reads {
     pub(crate) head: Head,
     input: Vec<u8>,
-    // Whether the last byte of the input comes again and again.
+    // Whether the last byte of the input comes again and again, without end.
     is_endless: bool,
     limit: usize,
     // How many bytes the input buffer has.
     room: usize,
     output: Vec<u8>,
-    // Whether it ends because the limit is passed.
+    // Whether the conversion must end because the input passes the limit.
     is_too_long: bool,
     calls: usize,
 }
 
 impl Reads {
-    // Words as `3 utf-8 -> utf-8: "abcd" => "abc" | too long | 4 reads`. The number is the limit,
-    // with one byte a read; or else the length of the input buffer, with the length of the input as
-    // the limit.
+    // Reads words such as `3 utf-8 -> utf-8: "abcd" => "abc" | too long | 4 reads`. If `is_limit`,
+    // the number is the limit, and a read has room for one byte. Otherwise the number is the length
+    // of the input buffer, and the length of the input is the limit.
     pub(crate) fn of(alloc: Global, words: &str, is_limit: bool) -> anyhow::Result<Self> {
         let (number, words) = words.split_once(' ').context("a number is missing")?;
         let number = decimal(number)?;

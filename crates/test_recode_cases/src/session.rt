@@ -1,4 +1,4 @@
-//! The lines of cases of conversions.
+//! Reads the lines of cases of conversions.
 
 use crate::checks::{check_case, check_nothing};
 use crate::codec_calls::{CodecCalls, check_codec_calls};
@@ -13,27 +13,27 @@ use test_case_lines::file::Lines;
 use test_case_lines::report::Report;
 use test_recode_trials::case::{Case, Head};
 
-// The indexes that the lines so far have put in place.
+// The indexes that the lines so far have loaded.
 #[derive(Drop)]
 pub(crate) struct Session {
     tables: Tables,
 }
 
 impl Session {
-    // Without indexes.
+    // Returns a session without indexes.
     pub(crate) fn new(alloc: Global) -> Session {
         Session {
             tables: Tables::new(alloc),
         }
     }
 
-    // Counts a case, and loads the indexes that it needs besides, as empty texts.
+    // Counts a case, and loads an empty text for each index that it needs and that is not there.
     fn begin(&mut self, alloc: Global, head: Head, report: &mut Report) -> anyhow::Result<()> {
         report.count_case();
         complete(alloc, &mut self.tables, head.from, head.to)
     }
 
-    // A line as `utf-8 -> gbk: 80 => 80 | faithful`.
+    // Checks a line such as `utf-8 -> gbk: 80 => 80 | faithful`.
     fn convert(
         &mut self,
         rt: &(impl Print + AllocGlobal),
@@ -68,7 +68,8 @@ impl Session {
         check_steps(rt, &self.tables, &steps, report)
     }
 
-    // A line as `nothing big5 utf-8`: no bytes, from each of these encodings to each.
+    // Checks a line such as `nothing big5 utf-8`: no bytes stay none, from each of these encodings
+    // to each.
     fn nothing(
         &mut self,
         rt: &(impl Print + AllocGlobal),

@@ -1,5 +1,5 @@
-//! What is written after each step of a conversion that reads byte by byte, and where the next read
-//! fails, or passes the limit.
+//! What is written after each step of a conversion that reads byte by byte, and what is written if
+//! the next read fails or passes the limit.
 
 use anyhow::{Context, ensure};
 use encoding_tables::Tables;
@@ -18,14 +18,14 @@ use test_recode_trials::trial::{
     step,
 };
 
-// How much of the output and the log is written.
+// How many bytes of the output and of the log are written.
 #[derive(Clone, Copy)]
 struct Held {
     output: usize,
     log: usize,
 }
 
-// What is converted, and what is written after each step.
+// What is converted, and what must be written after each step.
 #[derive(Drop)]
 pub(crate) struct Steps {
     pub(crate) head: Head,
@@ -33,13 +33,14 @@ pub(crate) struct Steps {
     output: Vec<u8>,
     log: Vec<u8>,
     helds: Vec<Held>,
-    // What is written after the last step.
+    // What must be written after the last step.
     last: Held,
     ending: Option<Fault>,
 }
 
 impl Steps {
-    // Words as `utf-8 -> utf-8: C3 => / A9 => C3A9 / =>`: what each step reads and then writes.
+    // Reads words such as `utf-8 -> utf-8: C3 => / A9 => C3A9 / =>`: what each step reads, and what
+    // it then writes.
     pub(crate) fn of(alloc: Global, words: &str) -> anyhow::Result<Self> {
         let (head, words) = words.split_once(": ").context("steps have no `: `")?;
         let (before, last) = words.rsplit_once('/').context("steps have no `/`")?;
@@ -67,7 +68,7 @@ impl Steps {
         Ok(steps)
     }
 
-    // What is written by what is read of the line.
+    // Returns how much the steps that have been added so far write.
     fn held(&self) -> Held {
         Held {
             output: self.output.len(),
@@ -75,7 +76,7 @@ impl Steps {
         }
     }
 
-    // Adds a step as `A9 => C3A9 | bad 1 1`.
+    // Adds a step such as `A9 => C3A9 | bad 1 1`.
     fn add(&mut self, alloc: Global, piece: &str) -> anyhow::Result<()> {
         let (read, written) = piece.split_once("=>").context("a step has no `=>`")?;
         self.input
@@ -94,7 +95,7 @@ impl Steps {
         Ok(())
     }
 
-    // What is written of the first bytes.
+    // Returns how much is written after the steps that read the first `bytes` bytes.
     fn held_behind(&self, bytes: usize) -> anyhow::Result<Held> {
         match bytes.checked_sub(1) {
             Some(place) => Ok(*self.helds.get(place).context("not so many steps")?),
@@ -102,7 +103,7 @@ impl Steps {
         }
     }
 
-    // Compares what is written.
+    // Compares what is written with what must be written.
     fn compare(&self, held: Held, output: &[u8], log: &[u8]) -> anyhow::Result<()> {
         same_bytes(
             "output",
@@ -113,7 +114,7 @@ impl Steps {
     }
 }
 
-// Takes the steps, and compares what is written after each.
+// Takes the steps, and compares what is written after each of them.
 fn take_steps(
     session: &mut Session<'_>,
     devices: &mut Devices<'_>,
@@ -141,7 +142,7 @@ fn take_steps(
     Ok(())
 }
 
-// Converts by steps that read byte by byte, with the least buffers.
+// Converts by steps that read byte by byte, with buffers of these sizes.
 fn compare_steps(
     alloc: Global,
     tables: &Tables,
@@ -171,7 +172,7 @@ fn compare_steps(
     )
 }
 
-// Converts with the read behind so many bytes failing.
+// Converts with a read that fails after `bytes` bytes.
 fn compare_failing_read(
     alloc: Global,
     tables: &Tables,
@@ -202,8 +203,8 @@ fn compare_failing_read(
     Ok(())
 }
 
-// Converts to a limit, where no read passes the offset `cut`: the read that passes the limit is the
-// last, and nothing of it is converted.
+// Converts with a limit that the input passes. No read passes the offset `cut`. The read that
+// passes the limit must be the last, and nothing of it is converted.
 fn compare_limit(
     alloc: Global,
     tables: &Tables,
@@ -221,7 +222,7 @@ fn compare_limit(
         sizes,
         ..AT_ONCE
     };
-    // How many bytes are read before, and by how many reads.
+    // How many bytes are read before the last read, and by how many reads.
     let (bytes, reads) = if sizes.input == 1 {
         (limit, limit)
     } else if 0 < cut && cut <= limit {
@@ -248,7 +249,7 @@ fn compare_limit(
     )
 }
 
-// Converts to each limit that the input passes, with reads cut at each place, and by `convert`.
+// Converts with each limit that the input passes, with reads cut at each place, and by `convert`.
 fn check_limits(
     alloc: Global,
     tables: &Tables,

@@ -7,7 +7,8 @@ use std::alloc::Global;
 use test_case_lines::report::Report;
 use test_case_lines::words::{decimal, unescaped};
 
-// What the words behind the program's name ask for, as a text; one space stands between two words.
+// Returns as a text what the words after the program's name ask for. One space stands between two
+// words.
 fn answer(alloc: Global, line: &str) -> anyhow::Result<String> {
     let mut words = Vec::new(alloc);
     words.push("recode")?;
@@ -27,7 +28,7 @@ fn answer(alloc: Global, line: &str) -> anyhow::Result<String> {
     })
 }
 
-// The words, and the text behind `form`.
+// Splits a line at `form` into the words and the text after it.
 fn parts<'a>(words: &'a str, form: &str) -> anyhow::Result<(&'a str, &'a str)> {
     let (line, told) = words.split_once(form).context("a line has no answer")?;
     Ok((
@@ -36,7 +37,7 @@ fn parts<'a>(words: &'a str, form: &str) -> anyhow::Result<(&'a str, &'a str)> {
     ))
 }
 
-// Words as `--list => list`.
+// Checks words such as `--list => list`: what the first words ask for.
 pub(crate) fn check_words(
     rt: &(impl Print + AllocGlobal),
     words: &str,
@@ -51,8 +52,8 @@ pub(crate) fn check_words(
     Ok(())
 }
 
-// Words as `--help => \nUsage: recode`: the answer has this somewhere, and no line of more than
-// 100 characters.
+// Checks words such as `--help => \nUsage: recode`: the answer has this somewhere, and has no line
+// of more than 100 characters.
 pub(crate) fn check_part(
     rt: &(impl Print + AllocGlobal),
     words: &str,
@@ -73,7 +74,7 @@ pub(crate) fn check_part(
     Ok(())
 }
 
-// A line of the log by words as `bad 6 1` or `lost 1 128169`.
+// Returns the line of the log that words such as `bad 6 1` or `lost 1 128169` give.
 fn line_of(words: &str) -> anyhow::Result<LogLine> {
     let mut words = words.split_whitespace();
     let form = words.next().unwrap_or("");
@@ -95,8 +96,8 @@ fn line_of(words: &str) -> anyhow::Result<LogLine> {
     }
 }
 
-// Words as `bad 6 1`: the line is valid, is written as these words and an end of a line, and is
-// read back.
+// Checks words such as `bad 6 1`: the line is valid, is written as these words and the end of a
+// line, and is read back.
 pub(crate) fn check_line(
     rt: &(impl Print + AllocGlobal),
     words: &str,
@@ -122,7 +123,7 @@ pub(crate) fn check_line(
     Ok(())
 }
 
-// Words as `bad 0 0`: the line is not valid.
+// Checks words such as `bad 0 0`: the line is not valid.
 pub(crate) fn check_invalid(
     rt: &(impl Print + AllocGlobal),
     words: &str,
@@ -134,7 +135,7 @@ pub(crate) fn check_invalid(
     Ok(())
 }
 
-// A text that is no line of a log.
+// Checks that a text is not read as a line of the log.
 pub(crate) fn check_refused(
     rt: &(impl Print + AllocGlobal),
     words: &str,

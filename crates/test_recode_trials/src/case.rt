@@ -10,29 +10,29 @@ use std::alloc::Global;
 /// How a conversion ends.
 #[derive(Clone, Copy)]
 pub enum Ending {
-    /// All is converted.
+    /// All of the input is converted.
     Told { faithful: bool },
-    /// The policy stops it.
+    /// The policy stops the conversion.
     Stopped(Fault),
 }
 
 /// Which plans a case is converted by.
 #[derive(Clone, Copy)]
 pub struct Scope {
-    /// At once alone.
+    /// Only with one read and large buffers.
     pub is_once: bool,
-    /// With rooms of 4 to 9 bytes for the output, too.
+    /// Also with rooms of 4 to 9 bytes for the output.
     pub has_rooms: bool,
-    /// By the calls on whole inputs and texts, too.
+    /// Also by the calls for whole inputs and whole texts.
     pub has_calls: bool,
 }
 
-/// What stands before `:`, as `shift_jis -> iso-2022-jp keep stop`.
+/// What stands before the `:` of a line, such as `shift_jis -> iso-2022-jp keep stop`.
 #[derive(Clone, Copy)]
 pub struct Head {
     pub from: Encoding,
     pub to: Encoding,
-    /// The way to treat marks. None: each.
+    /// How byte order marks are treated. `None` stands for each way.
     pub mark: Option<Mark>,
     pub policy: Policy,
     pub scope: Scope,
@@ -47,18 +47,18 @@ pub struct Case {
     pub log: Vec<u8>,
     pub bad: u64,
     pub lost: u64,
-    /// What the input turns out to be in.
+    /// The encoding that the input turns out to be in.
     pub found: Encoding,
     pub ending: Ending,
 }
 
-// The encoding of this name.
+// Returns the encoding of this name.
 pub(crate) fn encoding_of(name: &str) -> anyhow::Result<Encoding> {
     Encoding::for_label(name.trim().as_bytes()).context("no encoding has this name")
 }
 
 impl Head {
-    /// With no words behind the encodings.
+    /// Returns a head with these encodings and no words after them.
     pub fn between(from: &str, to: &str) -> anyhow::Result<Self> {
         Ok(Head {
             from: encoding_of(from)?,
@@ -73,7 +73,7 @@ impl Head {
         })
     }
 
-    /// Words as `shift_jis -> iso-2022-jp keep stop`.
+    /// Reads words such as `shift_jis -> iso-2022-jp keep stop`.
     pub fn of(words: &str) -> anyhow::Result<Self> {
         let (from, rest) = words.split_once(" -> ").context("a line has no ` -> `")?;
         let (to, rest) = rest.split_once(' ').unwrap_or((rest, ""));
@@ -99,8 +99,8 @@ impl Head {
         Ok(())
     }
 
-    /// A conversion of these bytes, with marks kept where each way to treat them is meant, and with
-    /// no more than these bytes let through.
+    /// Returns the setting of a conversion of these bytes, whose number is the limit. If each way
+    /// to treat marks is meant, marks are kept.
     pub fn setting<'a>(&self, input: &'a [u8]) -> Setting<'a> {
         Setting {
             from: self.from,
@@ -113,15 +113,15 @@ impl Head {
     }
 }
 
-/// Adds what a line of the log says, as `bad 0 1`, as the log has it.
+/// Adds a line such as `bad 0 1` to a log.
 pub fn add_line(item: &str, log: &mut Vec<u8>) -> anyhow::Result<()> {
     log.extend_from_slice(item.as_bytes())?;
     log.push(b'\n')?;
     Ok(())
 }
 
-/// The fault of a policy that stops, by numbers as `1 232`: how many characters stand before the
-/// one that has no bytes, and its number.
+/// Returns the fault of a policy that stops, by numbers such as `1 232`: how many characters stand
+/// before the one without bytes, and the number of that character.
 pub fn stop_of(numbers: &str) -> anyhow::Result<Fault> {
     let (index, scalar) = numbers.split_once(' ').context("a stop has two numbers")?;
     let number = u32::try_from(integer(scalar)?).ok();
@@ -133,7 +133,7 @@ pub fn stop_of(numbers: &str) -> anyhow::Result<Fault> {
 }
 
 impl Case {
-    /// Words as `836E => 1B2442254F1B2842 | faithful`.
+    /// Reads words such as `836E => 1B2442254F1B2842 | faithful`.
     pub fn of(alloc: Global, head: Head, words: &str) -> anyhow::Result<Self> {
         let (input, rest) = words.split_once("=>").context("a line has no `=>`")?;
         let mut items = rest.split('|');
@@ -158,7 +158,7 @@ impl Case {
         Ok(case)
     }
 
-    // Takes what is said of the conversion, and returns whether it says how it ends.
+    // Takes one item of a line. Returns whether the item says how the conversion ends.
     fn take(&mut self, item: &str) -> anyhow::Result<bool> {
         let (word, rest) = item.split_once(' ').unwrap_or((item, ""));
         match word {
@@ -176,7 +176,8 @@ impl Case {
         Ok(word == "faithful" || word == "lossy" || word == "stopped")
     }
 
-    /// Compares the report, or the fault where it is stopped, and the bound of calls of codecs.
+    /// Compares the report, and checks the bound of calls of codecs. If the policy must stop the
+    /// conversion, compares the fault.
     pub fn compare(&self, answer: Result<Report, Fault>) -> anyhow::Result<()> {
         match (self.ending, answer) {
             (Ending::Stopped(fault), answer) => {
@@ -204,7 +205,7 @@ impl Case {
     }
 }
 
-/// The bound of calls of codecs.
+/// Checks the bound of calls of codecs.
 pub fn few_calls(report: Report) -> anyhow::Result<()> {
     let most = report.read.saturating_mul(37).saturating_add(9);
     let calls = report.calls;

@@ -1,8 +1,8 @@
-//! What is compared of a conversion.
+//! Compares what comes of a conversion.
 
 use anyhow::{bail, ensure};
 
-/// The bytes of a device, with the place of the first other byte.
+/// Compares the bytes of a device. If they differ, names the first place where they do.
 pub fn same_bytes(name: &str, got: &[u8], want: &[u8]) -> anyhow::Result<()> {
     for (place, (left, right)) in got.iter().zip(want.iter()).enumerate() {
         if left != right {
@@ -14,7 +14,7 @@ pub fn same_bytes(name: &str, got: &[u8], want: &[u8]) -> anyhow::Result<()> {
     Ok(())
 }
 
-/// The failures of the reader, the writer and the log.
+/// Compares the failures of the reader, the writer and the log.
 pub fn same_failures(got: [u64; 3], want: [u64; 3]) -> anyhow::Result<()> {
     ensure!(got == want, "the failures are {got:?} and not {want:?}");
     Ok(())

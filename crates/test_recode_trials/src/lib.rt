@@ -1,5 +1,5 @@
-//! Conversions between devices that cut, fail and note what happens to them, and what came of them;
-//! a line that says what must; and each call of a device that fails, alone.
+//! Conversions with devices that cut the input, fail, and note what happens to them. A line says
+//! what must come of a conversion. Each call of a device is made to fail, one at a time.
 #![tactic(auto)]
 
 pub mod case;

@@ -1,17 +1,17 @@
-//! Bytes as words, and numbers in decimal digits.
+//! Reads words as bytes, and as numbers in decimal digits.
 
 use anyhow::Context;
 use std::alloc::Global;
 use test_case_lines::words::add_bytes;
 
-/// A number in decimal digits.
+/// Reads a number in decimal digits.
 pub fn integer(word: &str) -> anyhow::Result<u64> {
     u64::from_str_radix(word.trim(), 10)
         .ok()
         .context("a number is not decimal")
 }
 
-// Adds bytes so often.
+// Adds bytes so many times.
 fn add_times(bytes: &[u8], times: u64, all: &mut Vec<u8>) -> anyhow::Result<()> {
     for _ in 0..times {
         all.extend_from_slice(bytes)?;
@@ -19,8 +19,8 @@ fn add_times(bytes: &[u8], times: u64, all: &mut Vec<u8>) -> anyhow::Result<()> 
     Ok(())
 }
 
-// Adds the bytes of a word as `836E`, `61*80` or `"A"`: pairs of hexadecimal digits, once or so
-// often, or the characters themselves.
+// Adds the bytes of a word such as `836E`, `61*80` or `"A"`: pairs of hexadecimal digits, the same
+// so many times, or the characters themselves.
 fn add_word(alloc: Global, word: &str, bytes: &mut Vec<u8>) -> anyhow::Result<()> {
     if let Some(rest) = word.strip_prefix('"') {
         let text = rest.strip_suffix('"').context("a text has no end")?;
@@ -32,7 +32,7 @@ fn add_word(alloc: Global, word: &str, bytes: &mut Vec<u8>) -> anyhow::Result<()
     add_times(part.as_slice(), integer(times)?, bytes)
 }
 
-/// The bytes of words.
+/// Returns the bytes of words.
 pub fn bytes_of(alloc: Global, words: &str) -> anyhow::Result<Vec<u8>> {
     let mut bytes = Vec::new(alloc);
     for word in words.split_whitespace() {

@@ -1,4 +1,4 @@
-//! Writers that take little, fail, and note on the tape what happens to them.
+//! Writers that take few bytes a call, fail, and note on the tape what happens to them.
 
 use crate::tape::{Device, Event, Tape};
 use std::alloc::Global;
@@ -26,7 +26,7 @@ pub const FAILURES: [Failure; 3] = [
 pub struct Manners {
     /// How many bytes a call takes at most.
     pub most: usize,
-    /// The write that fails, counted from 1, and only that one. 0: none.
+    /// The number of the only write that fails, counted from 1, or 0 if none fails.
     pub fails_at: usize,
     /// How it fails.
     pub failure: Failure,
@@ -34,7 +34,7 @@ pub struct Manners {
     pub flush_fails: bool,
 }
 
-/// A writer that takes all.
+/// The manners of a writer that takes all bytes and never fails.
 pub const WILLING: Manners = Manners {
     most: usize::MAX,
     fails_at: 0,
@@ -54,7 +54,7 @@ pub struct Sink<'a> {
 }
 
 impl<'a> Sink<'a> {
-    /// A writer that has taken nothing, as one of the devices that share a tape.
+    /// Returns a writer that has taken nothing. It is one of the devices that share a tape.
     pub fn new(alloc: Global, manners: Manners, device: Device, tape: &'a Tape) -> Sink<'a> {
         Sink {
             taken: Vec::new(alloc),

@@ -7,11 +7,11 @@ use std::io::{ErrorKind, Read};
 /// How the input is cut into reads.
 #[derive(Clone, Copy, Debug)]
 pub enum Reads {
-    /// No read passes this offset: where there is room, there are two.
+    /// No read passes this offset. If there is room enough, there are two reads.
     CutAt(usize),
-    /// A read gives one byte.
+    /// Each read gives one byte.
     OneByOne,
-    /// A read gives one byte, and the last one comes again and again: there is no end.
+    /// Each read gives one byte, and the last byte comes again and again, without end.
     Endless,
 }
 
@@ -24,13 +24,13 @@ pub struct Source<'a> {
     calls: usize,
     fails_at: usize,
     kind: ErrorKind,
-    // The least and the greatest room of its calls.
+    // The least and the greatest room of the calls so far.
     rooms: (usize, usize),
     tape: &'a Tape,
 }
 
 impl<'a> Source<'a> {
-    /// A reader of these bytes. The call `fails_at`, counted from 1, fails, and only that one.
+    /// Returns a reader of these bytes. Only the call `fails_at`, counted from 1, fails.
     pub fn new(
         bytes: &'a [u8],
         reads: Reads,
@@ -50,17 +50,17 @@ impl<'a> Source<'a> {
         }
     }
 
-    /// How often it was called.
+    /// Returns how often the reader was called.
     pub fn calls(&self) -> usize {
         self.calls
     }
 
-    /// Whether each call had room for so many bytes.
+    /// Returns whether each call had room for exactly `room` bytes.
     pub fn has_room(&self, room: usize) -> bool {
         self.calls == 0 || self.rooms == (room, room)
     }
 
-    // How many bytes the next read may give.
+    // Returns how many bytes the next read may give at most.
     fn most(&self) -> usize {
         match self.reads {
             Reads::CutAt(offset) if self.given < offset => offset - self.given,

@@ -1,5 +1,6 @@
-//! Each call of a device that fails, alone: a conversion is over with it. Up to it all happens as
-//! where no call fails, and nothing behind it, but for the flushes and the message of `convert`.
+//! Conversions in which one call of a device fails. A conversion ends with that call. Up to it, all
+//! happens as if no call failed. After it, nothing happens except the flushes and the message of
+//! `convert`.
 
 use crate::compare::same_failures;
 use crate::sink::{FAILURES, Failure, Manners};
@@ -11,7 +12,7 @@ use recode::{FAITHFUL, FAULT, Fault, NOT_FAITHFUL, Report};
 use std::alloc::{AllocError, Global};
 use std::io::ErrorKind;
 
-/// A call that fails, by its number from 1.
+/// The call that fails, by its number from 1.
 #[derive(Clone, Copy)]
 pub enum Stop {
     Read(usize, ErrorKind),
@@ -20,7 +21,7 @@ pub enum Stop {
 }
 
 impl Stop {
-    /// The plan with that call failing.
+    /// Returns the plan in which that call fails.
     pub fn plan(self, plan: Plan) -> Plan {
         match self {
             Stop::Read(call, read_kind) => Plan {
@@ -47,7 +48,7 @@ impl Stop {
         }
     }
 
-    // What happens up to that call.
+    // Returns what happens up to that call.
     pub(crate) fn front(self, events: &[Event]) -> &[Event] {
         match self {
             Stop::Read(call, _) => up_to(events, Device::Reader, call),
@@ -56,7 +57,7 @@ impl Stop {
         }
     }
 
-    /// The fault, and the failures of the reader, the writer and the log.
+    /// Returns the fault, and the failures of the reader, the writer and the log.
     pub fn fault(self) -> (Fault, [u64; 3]) {
         match self {
             Stop::Read(..) => (Fault::Read, [1, 0, 0]),
@@ -66,7 +67,8 @@ impl Stop {
     }
 }
 
-// Each call, in each of these ways to fail that it has.
+// Returns each call among these events, in each of these ways to fail. A reader fails only by an
+// error.
 pub(crate) fn stops_of(
     alloc: Global,
     events: &[Event],
@@ -89,8 +91,8 @@ pub(crate) fn stops_of(
     Ok(stops)
 }
 
-/// Converts with each call failing, one at a time, and compares with what happens where none does.
-/// Returns how many conversions that takes.
+/// Converts with each call failing, one at a time. Compares what happens with a conversion in which
+/// no call fails. Returns how many conversions that takes.
 pub fn check_stops(
     alloc: Global,
     tables: &Tables,
@@ -115,10 +117,10 @@ pub fn check_stops(
     Ok(stops.len())
 }
 
-// What a device returns at the call that fails, where its flush may fail, too.
+// How a call fails in the conversions whose flushes may fail, too.
 const FULL: Failure = Failure::Error(ErrorKind::StorageFull);
 
-// The message of a fault.
+// Returns the message of a fault.
 fn message(alloc: Global, fault: Fault) -> Result<String, AllocError> {
     match fault {
         Fault::Read => format!(in alloc; "recode: read fault\n"),
@@ -131,14 +133,15 @@ fn message(alloc: Global, fault: Fault) -> Result<String, AllocError> {
     }
 }
 
-// What happens behind these events and both flushes, the writer's first.
+// Returns what happens after these events and after both flushes, of which the writer's is the
+// first. Returns `None` if anything else happens first.
 fn behind_flushes<'e>(events: &'e [Event], front: &[Event]) -> Option<&'e [Event]> {
     let flushes = [Event::Flush(Device::Writer), Event::Flush(Device::Log)];
     events.strip_prefix(front)?.strip_prefix(&flushes)
 }
 
-// Converts by `convert`: these events, a flush of both, and so many bytes of the message of the
-// fault, if it has as many.
+// Converts by `convert`. These events must happen, then a flush of both writers. Then the first
+// `len` bytes of the message of the fault must be written, or all if it has fewer.
 fn check_message(
     alloc: Global,
     tables: &Tables,
@@ -165,8 +168,8 @@ fn check_message(
     Ok(())
 }
 
-// Converts by `convert` where nothing fails: these events, a flush of both, and the status of the
-// report.
+// Converts by `convert` without a failing call. These events must happen, then a flush of both
+// writers, and nothing more. The status must be that of the report.
 fn check_status(
     alloc: Global,
     tables: &Tables,
@@ -192,8 +195,9 @@ fn check_status(
     Ok(())
 }
 
-/// Converts by `convert` with each write of the message of a fault failing, by a log that takes a
-/// byte a call: what stands before it is written. Returns how many conversions that takes.
+/// Converts by `convert` with each write of the message of a fault failing, one at a time. The log
+/// takes one byte a call. What stands before the failing byte must be written. Returns how many
+/// conversions that takes.
 pub fn check_cut_messages(
     alloc: Global,
     tables: &Tables,
@@ -229,7 +233,7 @@ pub fn check_cut_messages(
     Ok(len)
 }
 
-// The plan with flushes that fail.
+// Returns the plan with flushes that fail.
 fn stuck(plan: Plan, writer: bool, log: bool) -> Plan {
     Plan {
         writer: Manners {
@@ -244,12 +248,13 @@ fn stuck(plan: Plan, writer: bool, log: bool) -> Plan {
     }
 }
 
-/// Whether the flush of the writer fails, and that of the log.
+/// Whether the flush of the writer fails, and whether that of the log does.
 pub const FLUSHES: [(bool, bool); 4] = [(false, false), (true, false), (false, true), (true, true)];
 
-/// Converts by `convert`, and with each call failing, one at a time, and with these flushes failing
-/// behind it: the message is that of the first fault, which is the policy's where it stops, and
-/// each failure is counted. Returns how many conversions that takes.
+/// Converts by `convert` with these flushes failing: first with no other failure, then with each
+/// call failing, one at a time. The message must be that of the first fault. If the policy stops
+/// the conversion, that is the fault of the policy. Each failure must be counted. Returns how many
+/// conversions that takes.
 pub fn check_flushes(
     alloc: Global,
     tables: &Tables,

@@ -3,7 +3,7 @@
 use std::alloc::{AllocError, Global};
 use std::cell::RefCell;
 
-/// What a conversion calls.
+/// A device that a conversion calls.
 #[derive(Clone, Copy, PartialEq, Eq, Debug)]
 pub enum Device {
     Reader,
@@ -29,7 +29,7 @@ pub struct Tape {
 }
 
 impl Tape {
-    /// With nothing noted.
+    /// Returns a tape with nothing noted.
     pub fn new(alloc: Global) -> Tape {
         Tape {
             events: RefCell::new(Vec::new(alloc)),
@@ -44,7 +44,7 @@ impl Tape {
         Ok(())
     }
 
-    /// Gives what is noted away.
+    /// Returns what was noted, and empties the tape.
     pub fn take(&self, alloc: Global) -> Vec<Event> {
         match self.events.try_replace(Vec::new(alloc)) {
             Ok(events) => events,
@@ -53,7 +53,7 @@ impl Tape {
     }
 }
 
-/// How many of these are calls of a device.
+/// Returns how many of these events are calls of a device.
 pub fn calls_of(events: &[Event], device: Device) -> usize {
     let mut calls = 0usize;
     for event in events {
@@ -64,7 +64,7 @@ pub fn calls_of(events: &[Event], device: Device) -> usize {
     calls
 }
 
-// What happens up to a call of a device, counted from 1, and that call.
+// Returns the events up to a call of a device, counted from 1, and that call.
 pub(crate) fn up_to(events: &[Event], device: Device, call: usize) -> &[Event] {
     let mut calls = 0usize;
     for (place, event) in events.iter().enumerate() {
@@ -78,7 +78,7 @@ pub(crate) fn up_to(events: &[Event], device: Device, call: usize) -> &[Event] {
     events
 }
 
-/// The bytes among these events.
+/// Returns those of these events in which a device takes a byte.
 pub fn only_bytes(alloc: Global, events: &[Event]) -> Result<Vec<Event>, AllocError> {
     let mut bytes = Vec::new(alloc);
     for event in events {
@@ -89,7 +89,7 @@ pub fn only_bytes(alloc: Global, events: &[Event]) -> Result<Vec<Event>, AllocEr
     Ok(bytes)
 }
 
-/// Whether a device takes exactly these bytes.
+/// Returns whether a device takes exactly these bytes.
 pub fn takes(events: &[Event], device: Device, bytes: &[u8]) -> bool {
     let mut left = bytes;
     for event in events {

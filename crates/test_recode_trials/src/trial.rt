@@ -1,4 +1,4 @@
-//! A conversion in one of the two ways, and what came of it.
+//! Makes a conversion in one of two ways, and keeps what came of it.
 
 use crate::sink::{Manners, Sink, WILLING};
 use crate::source::{Reads, Source};
@@ -11,7 +11,7 @@ use recode_log::counted::Counted;
 use std::alloc::{AllocError, Global};
 use std::io::ErrorKind;
 
-/// How many elements the buffers have, and whether the pivots are of UTF-16.
+/// How many elements the buffers have, and whether the pivots are in UTF-16.
 #[derive(Clone, Copy, Debug)]
 pub struct Sizes {
     pub input: usize,
@@ -21,7 +21,7 @@ pub struct Sizes {
     pub is_wide: bool,
 }
 
-/// The least that is enough.
+/// The least buffers that are enough.
 pub const LEAST: Sizes = Sizes {
     input: 1,
     pivot: 4,
@@ -30,7 +30,7 @@ pub const LEAST: Sizes = Sizes {
     is_wide: false,
 };
 
-/// The least that is enough with pivots of UTF-16.
+/// The least buffers that are enough, with pivots in UTF-16.
 pub const LEAST_WIDE: Sizes = Sizes {
     pivot: 2,
     check: 2,
@@ -47,7 +47,7 @@ pub const ROOMY: Sizes = Sizes {
     is_wide: false,
 };
 
-/// Room for all of a small input, with pivots of UTF-16.
+/// Room for all of a small input, with pivots in UTF-16.
 pub const ROOMY_WIDE: Sizes = Sizes {
     is_wide: true,
     ..ROOMY
@@ -56,7 +56,7 @@ pub const ROOMY_WIDE: Sizes = Sizes {
 /// The least buffers and large ones, each with either kind of pivot.
 pub const SIZES: [Sizes; 4] = [LEAST, LEAST_WIDE, ROOMY, ROOMY_WIDE];
 
-/// What is called.
+/// The calls that make a conversion.
 #[derive(Clone, Copy, Debug)]
 pub enum Way {
     /// `run`, once.
@@ -76,12 +76,12 @@ pub struct Setting<'a> {
     pub mark: Mark,
     pub policy: Policy,
     pub input: &'a [u8],
-    /// How many bytes it may have at most.
+    /// How many bytes the input may have at most.
     pub limit: usize,
 }
 
 impl<'a> Setting<'a> {
-    /// As the engine takes it.
+    /// Returns the job that the engine is given.
     pub fn job<'t>(&self, tables: &'t Tables) -> Job<'t> {
         Job {
             from: self.from,
@@ -99,7 +99,7 @@ impl<'a> Setting<'a> {
 pub struct Plan {
     pub reads: Reads,
     pub sizes: Sizes,
-    /// The read that fails, counted from 1. 0: none.
+    /// The number of the only read that fails, counted from 1, or 0 if none fails.
     pub read_fails_at: usize,
     pub read_kind: ErrorKind,
     pub writer: Manners,
@@ -124,7 +124,7 @@ pub struct Outcome<A> {
     pub log: Vec<u8>,
     /// The failures of the reader, the writer and the log.
     pub failures: [u64; 3],
-    /// What happened to all three.
+    /// What happened to all three devices, in order.
     pub events: Vec<Event>,
 }
 
@@ -138,7 +138,7 @@ pub struct Devices<'a> {
 }
 
 impl<'a> Devices<'a> {
-    /// As a plan has them, over an input.
+    /// Returns the devices of a plan, with this input.
     pub fn new(alloc: Global, input: &'a [u8], plan: &Plan, tape: &'a Tape) -> Self {
         let source = Source::new(input, plan.reads, plan.read_fails_at, plan.read_kind, tape);
         Devices {
@@ -149,7 +149,7 @@ impl<'a> Devices<'a> {
         }
     }
 
-    /// What came of the conversion that ended with this answer.
+    /// Returns what came of the conversion that ended with this answer.
     pub fn outcome<A>(self, alloc: Global, answer: A) -> Outcome<A> {
         let failures = [
             self.reader.failures(),
@@ -176,7 +176,7 @@ pub struct Rooms {
     pivots: Pivots,
 }
 
-// The pivot and the room to read back.
+// The pivot, and the room to read back.
 #[derive(Drop)]
 enum Pivots {
     Narrow(Vec<u8>, Vec<u8>),
@@ -184,7 +184,7 @@ enum Pivots {
 }
 
 impl Rooms {
-    /// Of these sizes.
+    /// Returns memory for buffers of these sizes.
     pub fn new(alloc: Global, sizes: Sizes) -> Result<Rooms, AllocError> {
         let pivots = if sizes.is_wide {
             let pivot = std::vec![in alloc; 0; sizes.pivot]?;
@@ -200,7 +200,7 @@ impl Rooms {
         })
     }
 
-    /// Buffers in this memory, for one conversion.
+    /// Returns buffers in this memory, for one conversion.
     pub fn lend(&mut self) -> Buffers<'_> {
         let (pivot, check) = match &mut self.pivots {
             Pivots::Narrow(pivot, check) => (
@@ -240,7 +240,7 @@ fn by_run(
     ))
 }
 
-/// One step of a session that is not over.
+/// Makes one step of a session that is not over.
 pub fn step(
     session: &mut Session<'_>,
     devices: &mut Devices<'_>,
@@ -260,7 +260,7 @@ pub fn step(
     ))
 }
 
-// Steps with one call of the reader each.
+// Converts by steps, each of which must call the reader once.
 fn by_steps(
     devices: &mut Devices<'_>,
     job: Job<'_>,
@@ -288,7 +288,7 @@ fn by_steps(
     bail!("a session does not end")
 }
 
-// The reader had all of the input buffer each time.
+// Checks that each read had room for the whole input buffer.
 fn lends_all(devices: &Devices<'_>, plan: &Plan) -> anyhow::Result<()> {
     let room = plan.sizes.input;
     ensure!(
@@ -338,7 +338,7 @@ fn by_convert(
     ))
 }
 
-/// Converts by `convert`, whose status is the answer.
+/// Converts by `convert`. Its status is the answer.
 pub fn status(
     alloc: Global,
     tables: &Tables,

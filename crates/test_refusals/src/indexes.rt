@@ -1,4 +1,4 @@
-//! The calls that read indexes or put them into tables, and what the tables have then.
+//! Calls that read indexes or put them into tables, and what the tables have after them.
 
 use crate::Ended;
 use anyhow::bail;
@@ -32,7 +32,7 @@ pub(crate) const FAULTY_RANGES_TEXT: &[u8] = b"1237576\t0x0080\n";
 // A text whose first row has no tab.
 pub(crate) const TEXT_WITHOUT_TAB: &[u8] = b"36 0x00A5\n";
 
-// The indexes that are put into tables, as rows and as the text that says the same.
+// The indexes that are put into tables, as rows and as a text with the same rows.
 pub(crate) const INDEXES: &[(IndexKind, Rows, &[u8])] = &[
     (
         IndexKind::Koi8R,
@@ -82,7 +82,7 @@ pub(crate) enum Way {
     Text,
 }
 
-// The entry at a pointer, of a list or of the ranges, where there is one.
+// Returns the entry at a pointer of a list or of the ranges, if there is one.
 fn entry(tables: &Tables, kind: IndexKind, pointer: u32) -> Option<char> {
     if kind == IndexKind::Gb18030Ranges {
         if tables.has(IndexKind::Gb18030Ranges) {
@@ -94,8 +94,8 @@ fn entry(tables: &Tables, kind: IndexKind, pointer: u32) -> Option<char> {
     None
 }
 
-// The entry that rows have at a pointer. A row of the ranges goes on to the next one (the Encoding
-// Standard, section 5, "index gb18030 ranges code point").
+// Returns the entry that rows have at a pointer. A row of the ranges reaches to the next row (the
+// Encoding Standard, section 5, "index gb18030 ranges code point").
 fn entry_of(kind: IndexKind, rows: Rows, pointer: u32) -> Option<char> {
     if kind != IndexKind::Gb18030Ranges {
         let row = rows.iter().find(|row| row.0 == pointer)?;
@@ -111,7 +111,7 @@ fn entry_of(kind: IndexKind, rows: Rows, pointer: u32) -> Option<char> {
     char::from_u32(row.1.wrapping_add(pointer.wrapping_sub(row.0)))
 }
 
-// Whether the entries at the pointers from `from` to below `to` are those of the rows.
+// Returns whether the entries at the pointers from `from` to below `to` are those of the rows.
 fn has_rows(tables: &Tables, kind: IndexKind, rows: Rows, from: u32, to: u32) -> bool {
     for pointer in from..to {
         if entry(tables, kind, pointer) != entry_of(kind, rows, pointer) {
@@ -121,8 +121,9 @@ fn has_rows(tables: &Tables, kind: IndexKind, rows: Rows, from: u32, to: u32) ->
     true
 }
 
-// Whether a kind is there with its rows and nothing else: all entries of a list, and of the ranges
-// those of the basic plane and the first ones of the others.
+// Returns whether an index is there with its rows and nothing else. All entries of a list are
+// compared. Of the ranges, those of the basic plane and the first ones of the other planes are
+// compared.
 fn is_as_inserted(tables: &Tables, kind: IndexKind, rows: Rows) -> bool {
     let end = if kind.is_ranges() { 39430 } else { 130 };
     tables.has(kind)
@@ -130,8 +131,8 @@ fn is_as_inserted(tables: &Tables, kind: IndexKind, rows: Rows) -> bool {
         && has_rows(tables, kind, rows, 188990, 189010)
 }
 
-// Whether the tables have those of `INDEXES` that were inserted, entry by entry, and none of the
-// others.
+// Returns whether the tables have exactly those of `INDEXES` that were inserted. They are compared
+// entry by entry.
 pub(crate) fn are_as_inserted(tables: &Tables, inserted: &[bool; 4]) -> bool {
     for ((kind, rows, _), is_inserted) in INDEXES.iter().zip(inserted) {
         let is_right = if *is_inserted {
@@ -146,7 +147,7 @@ pub(crate) fn are_as_inserted(tables: &Tables, inserted: &[bool; 4]) -> bool {
     true
 }
 
-// Inserts rows; as a fault of the size where they are none that may be handed in.
+// Inserts rows. If they are rows that may not be handed in, returns a fault of the size.
 fn insert_rows(tables: &mut Tables, kind: IndexKind, rows: Rows) -> Result<(), TableFault> {
     if kind.is_ranges() {
         return tables.insert_ranges(rows);
@@ -174,12 +175,12 @@ fn insert_list(tables: &mut Tables, kind: IndexKind, rows: Rows) -> Result<(), T
     tables.insert(kind, &list)
 }
 
-// Whether memory was refused to the reader of a text: then no line is at fault.
+// Returns whether memory was refused to the reader of a text. The fault then names no line.
 fn is_memory(fault: &IndexFault) -> bool {
     fault.kind == IndexFaultKind::Memory && fault.line == 0
 }
 
-// How an insertion ended.
+// Returns how an insertion ended.
 fn ended_of(inserted: Result<(), TableFault>) -> anyhow::Result<Ended> {
     match inserted {
         Ok(()) => Ok(Ended::Well),
@@ -188,8 +189,8 @@ fn ended_of(inserted: Result<(), TableFault>) -> anyhow::Result<Ended> {
     }
 }
 
-// How a load ended: what is refused to the tables is told apart from what is refused to the reader
-// of the text.
+// Returns how a load ended. Memory that is refused to the tables is told apart from memory that is
+// refused to the reader of the text.
 fn ended_of_load(loaded: Result<(), LoadFault>) -> anyhow::Result<Ended> {
     match loaded {
         Ok(()) => Ok(Ended::Well),
@@ -200,7 +201,7 @@ fn ended_of_load(loaded: Result<(), LoadFault>) -> anyhow::Result<Ended> {
     }
 }
 
-// Loads a text that has a fault, and prints that.
+// Loads a text that has a fault, and prints the fault.
 pub(crate) fn load_faulty(
     rt: HostRuntime,
     tables: &mut Tables,
@@ -242,7 +243,7 @@ pub(crate) fn insert_index(
     Ok(ended)
 }
 
-// Reads the text of an index of 128 entries, and prints those that are mapped, or its fault.
+// Reads the text of an index of 128 entries, and prints the entries that are mapped, or the fault.
 pub(crate) fn print_list(rt: HostRuntime, text: &[u8]) -> anyhow::Result<Ended> {
     let list = match read_index(rt.alloc(), IndexKind::Macintosh, text) {
         Ok(list) => list,
@@ -261,7 +262,7 @@ pub(crate) fn print_list(rt: HostRuntime, text: &[u8]) -> anyhow::Result<Ended> 
     Ok(Ended::Well)
 }
 
-// Reads the text of ranges, and prints the rows, or its fault.
+// Reads the text of ranges, and prints the rows, or the fault.
 pub(crate) fn print_ranges(rt: HostRuntime, text: &[u8]) -> anyhow::Result<Ended> {
     let rows = match read_ranges(rt.alloc(), text) {
         Ok(rows) => rows,

@@ -1,6 +1,6 @@
-//! Makes each call of the libraries of encodings that takes memory, again where it is refused, and
-//! prints what comes of it. `make test` runs it with each request for memory refused in turn, and
-//! with all of them refused (`tools/refused_memory.py`).
+//! Makes each call of the libraries of encodings that takes memory, and prints what comes of it. If
+//! memory is refused, the call is made again. `make test` runs this program with each request for
+//! memory refused in turn, and with all of them refused (`tools/refused_memory.py`).
 #![tactic(auto)]
 
 mod indexes;
@@ -22,14 +22,14 @@ enum Ended {
     Well,
     // Memory was refused.
     Refused,
-    // Memory was refused to the tables into which a text is loaded.
+    // Memory was refused to the tables into which a text was loaded.
     RefusedToTables,
-    // An index that it needs is not in the tables, so it was not made.
+    // An index that the call needs is not in the tables, so the call was not made.
     NoIndex,
 }
 
 impl Ended {
-    // How that memory was refused is printed; none where it wasn't.
+    // Returns what is printed if memory was refused, or `None` if it was not.
     fn refusal(self) -> Option<&'static str> {
         match self {
             Ended::Refused => Some(" refused"),
@@ -54,7 +54,7 @@ enum Call {
     Decode(Encoding, Marks, &'static [u8]),
 }
 
-// Calls on the same tables, so that each finds the indexes of those before it there.
+// Calls on the same tables. Each call finds there the indexes that the calls before it inserted.
 type Round = &'static [(&'static str, Call)];
 
 // U+FEFF and then `café`, in UTF-8.
@@ -146,7 +146,8 @@ impl Call {
 // Which of `INDEXES` are in the tables.
 type Inserted = [bool; 4];
 
-// Notes what a call has put into the tables, which are to have that and nothing else.
+// Notes what a call has put into the tables. Fails if the tables do not have exactly what was
+// inserted.
 fn look(tables: &Tables, inserted: &mut Inserted, call: Call, ended: Ended) -> anyhow::Result<()> {
     if let (Call::Insert(offset, _), Ended::Well) = (call, ended) {
         if let Some(place) = inserted.get_mut(offset) {
@@ -160,7 +161,8 @@ fn look(tables: &Tables, inserted: &mut Inserted, call: Call, ended: Ended) -> a
     }
 }
 
-// Makes the calls of a round, those that are refused a second time, and prints their results.
+// Makes the calls of a round, and prints their results. A call that is refused memory is made once
+// more.
 fn make(rt: HostRuntime, round: Round) -> anyhow::Result<()> {
     let mut tables = Tables::new(rt.alloc());
     let mut inserted = [false; 4];

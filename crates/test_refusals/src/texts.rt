@@ -10,7 +10,7 @@ use encoding_tables::Tables;
 use std::alloc::Global;
 use std::borrow::CowStr;
 
-// Prints bytes behind a space: visible ASCII as it is, others as numbers.
+// Prints bytes after a space: visible ASCII as it is, others as numbers.
 fn print_bytes(rt: HostRuntime, bytes: &[u8]) -> anyhow::Result<Ended> {
     print!(rt; " ")?;
     for b in bytes {
@@ -50,7 +50,7 @@ pub(crate) fn print_latin1_bytes(rt: HostRuntime, text: &str) -> anyhow::Result<
     }
 }
 
-// A text with more references than room is asked for at first, where they are written for it.
+// A text whose references need more room than the call asks for at first.
 const LOST: &str = "\u{6587}\u{5B57}\u{306F}\u{3001}\u{8AAD}\u{307E}\u{308C}\u{3066}\u{3001}\u{E9}";
 
 // Encodes a text, and prints the encoding, whether a reference was written, and the bytes.
@@ -72,7 +72,7 @@ pub(crate) fn print_encoded(
     }
 }
 
-// What is done with a byte order mark where bytes are decoded.
+// How a byte order mark is treated when bytes are decoded.
 #[derive(Clone, Copy)]
 pub(crate) enum Marks {
     Sniffed,
@@ -81,8 +81,8 @@ pub(crate) enum Marks {
     KeptInWellFormedText,
 }
 
-// The text of bytes, the encoding in force, and whether there was a malformed sequence; none
-// where there is none without one.
+// Returns the text of bytes, the encoding in force, and whether there was a malformed sequence.
+// Returns `None` if there was one, and the call replaces none.
 fn text_of(
     alloc: Global,
     tables: &Tables,

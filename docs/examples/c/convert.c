@@ -9,7 +9,7 @@ static uint8_t load(int count, char **paths, jillapun_tables *tables) {
     static uint8_t texts[2][1 << 20];
     jillapun_index_file files[2];
     jillapun_index_fault fault;
-    for (int i = 0; i < count && i < 2; i++) {
+    for (int i = 0; i < count; i++) {
         const char *slash = strrchr(paths[i], '/'), *name = slash ? slash + 1 : paths[i];
         FILE *file = fopen(paths[i], "rb");
         if (!file)
@@ -18,7 +18,7 @@ static uint8_t load(int count, char **paths, jillapun_tables *tables) {
         files[i].text = (jillapun_bytes){texts[i], fread(texts[i], 1, sizeof texts[i], file)};
         fclose(file);
     }
-    return jillapun_tables_new(files, count < 2 ? count : 2, tables, &fault);
+    return jillapun_tables_new(files, count, tables, &fault);
 }
 
 int main(int argc, char **argv) {
@@ -26,11 +26,13 @@ int main(int argc, char **argv) {
     static jillapun_loss losses[1 << 16];
     static jillapun_tables tables; /* {0}, as all that is static */
     jillapun_report told;
-    if (argc < 3 || load(argc - 3, argv + 3, &tables) != JILLAPUN_OK)
+    if (argc < 3 || argc > 5 || load(argc - 3, argv + 3, &tables) != JILLAPUN_OK)
         return 1;
     uint8_t from = jillapun_for_label((const uint8_t *)argv[1], strlen(argv[1]));
     uint8_t to = jillapun_for_label((const uint8_t *)argv[2], strlen(argv[2]));
     size_t len = fread(input, 1, sizeof input, stdin);
+    if (len == sizeof input) /* perhaps there is more: pipe.c converts any input */
+        return 1;
     uint8_t status = jillapun_convert(tables, from, to, JILLAPUN_SNIFF, JILLAPUN_DECIMAL, UINT64_MAX,
         input, len, output, sizeof output, losses, 1 << 16, &told);
     if (status != JILLAPUN_OK && status != JILLAPUN_LOSSY)

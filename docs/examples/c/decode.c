@@ -9,7 +9,7 @@ static uint8_t load(int count, char **paths, jillapun_tables *tables) {
     static uint8_t texts[2][1 << 20];
     jillapun_index_file files[2];
     jillapun_index_fault fault;
-    for (int i = 0; i < count && i < 2; i++) {
+    for (int i = 0; i < count; i++) {
         const char *slash = strrchr(paths[i], '/'), *name = slash ? slash + 1 : paths[i];
         FILE *file = fopen(paths[i], "rb");
         if (!file)
@@ -18,13 +18,13 @@ static uint8_t load(int count, char **paths, jillapun_tables *tables) {
         files[i].text = (jillapun_bytes){texts[i], fread(texts[i], 1, sizeof texts[i], file)};
         fclose(file);
     }
-    return jillapun_tables_new(files, count < 2 ? count : 2, tables, &fault);
+    return jillapun_tables_new(files, count, tables, &fault);
 }
 
 int main(int argc, char **argv) {
     static jillapun_tables tables; /* {0}, as all that is static */
     jillapun_decoder decoder = {0};
-    if (argc < 2 || load(argc - 2, argv + 2, &tables) != JILLAPUN_OK)
+    if (argc < 2 || argc > 4 || load(argc - 2, argv + 2, &tables) != JILLAPUN_OK)
         return 1;
     uint8_t encoding = jillapun_for_label((const uint8_t *)argv[1], strlen(argv[1]));
     if (jillapun_decoder_new(tables, encoding, JILLAPUN_SNIFF, &decoder) != JILLAPUN_OK)

@@ -1,6 +1,6 @@
 -- Pieces in a row, and more pieces after them.
 use Rattle.std.proofs.Common.{◌≡◌, ◌+◌, List, [], ◌∷◌, ◌++◌, refl, sym, ◌∙◌, ap, arith, append_assoc}
-use Rattle.encoding_mem.specs.Piece.{Piece, piece_scalars, piece_text, sizes, scalars, text, IsWellFormedPiece, AreWellFormed, ArePieces}
+use Rattle.encoding_mem.specs.Piece.{Piece, well_formed, malformed, malformed_count, piece_scalars, piece_text, sizes, scalars, text, IsWellFormedPiece, AreWellFormed, ArePieces}
 
 pub sizes-append : (a b : List Piece) → sizes (a ++ b) ≡ sizes a + sizes b
 sizes-append [] b = omega arith
@@ -24,3 +24,20 @@ AreWellFormed-last a p h k = AreWellFormed-append a (p ∷ []) h (k, tt)
 pub ArePieces-append : (a b : List Piece) → ArePieces a → ArePieces b → ArePieces (a ++ b)
 ArePieces-append [] b h k = k
 ArePieces-append (p ∷ a) b h k = (h.0, ArePieces-append a b h.1 k)
+
+pub malformed_count-append : (a b : List Piece) → malformed_count (a ++ b) ≡ malformed_count a + malformed_count b
+malformed_count-append [] b = omega arith
+malformed_count-append (well_formed n cs ∷ a) b = malformed_count-append a b
+malformed_count-append (malformed n ∷ a) b = omega (arith, malformed_count-append a b)
+
+-- well-formed pieces have the text of their scalars
+pub well_formed_text : (ps : List Piece) → AreWellFormed ps → text ps ≡ scalars ps
+well_formed_text [] h = refl
+well_formed_text (well_formed n cs ∷ ps) h = ap (λ t. cs ++ t) (well_formed_text ps h.1)
+well_formed_text (malformed n ∷ ps) h = absurd h.0
+
+-- none of well-formed pieces is malformed
+pub well_formed_count : (ps : List Piece) → AreWellFormed ps → malformed_count ps ≡ 0
+well_formed_count [] h = refl
+well_formed_count (well_formed n cs ∷ ps) h = well_formed_count ps h.1
+well_formed_count (malformed n ∷ ps) h = absurd h.0

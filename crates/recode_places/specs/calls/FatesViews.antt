@@ -1,15 +1,15 @@
 -- What contracts say of `Fates`, and of what a `Choice` asks.
-use Rattle.std.specs.Prelude.{◌≡◌, ◌⊎◌, ℕ, Bool, true, if◌then◌else◌, List, [], ◌∷◌, ◌++◌, Option, Some, None, IfSome, is_some, option_map, take}
+use Rattle.std.specs.Prelude.{◌≡◌, ◌⊎◌, ℕ, true, List, [], ◌∷◌, ◌++◌, Option, Some, None, IfSome, is_some, option_map, take}
 use Rattle.encoding_mem.specs.Coding.{IsMapped, output}
 use Rattle.encoding_mem.specs.declared.reference.Reference.TheVariants.{Decimal}
 use Rattle.encoding_front.specs.Encodings.{coding_of}
-use Rattle.recode_places.specs.Fates.{Target, fate_of}
+use Rattle.recode_places.specs.Fates.{AreAllKept, Target}
+use Rattle.recode_places.specs.Findings.{Asked, fate_asked, told_by_fate}
 use Rattle.recode_places.specs.declared.choice.Choice.{Choice}
 use Rattle.recode_places.specs.declared.entry.Entry.{Entry}
 use Rattle.recode_places.specs.declared.entry.Finding.{Finding}
 use Rattle.recode_places.specs.declared.entry.Finding.TheVariants as found
-use Rattle.recode_places.specs.declared.fates.Fate.{Fate}
-use Rattle.recode_places.specs.declared.fates.Fate.TheVariants.{Folded, Kept, Lost}
+use Rattle.recode_places.specs.declared.fates.Fate.TheVariants.{Folded, Lost}
 use Rattle.recode_places.specs.declared.fates.Fates.{Fates}
 
 -- the target that is asked
@@ -22,32 +22,20 @@ IsWrittenAs t c bytes None = ¬ (IsMapped ((coding_of t.tables t.encoding).form 
 IsWrittenAs t c bytes (Some n) =
     IsMapped ((coding_of t.tables t.encoding).form c) × (take n bytes ≡ output Decimal (coding_of t.tables t.encoding) (c ∷ []))
 
--- What a choice asks: whether it goes by a log, the target, if one is asked, and whether folds are told.
-pub record Asked : Type 0 where
-  pub has_log : Bool
-  pub target : Option Target
-  pub folds : Bool
-
 -- what a choice asks
 abbrev pub asked_by : {L : Type 0} → Choice L → Asked
 asked_by c = record { has_log = is_some c.log; target = option_map fates_target c.fates; folds = c.folds }
 
--- the fate of a character in a target, if one is asked, and else that it is kept
-abbrev pub fate_asked : Option Target → ℕ → Fate
-fate_asked None c = Kept
-fate_asked (Some t) c = fate_of t c
-
--- what is told of a character by its fate: that it is lost, where no log is asked, and that it is folded, where folds are
-abbrev pub told_by_fate : Asked → ℕ → Fate → Option Finding
-told_by_fate a c Kept = None
-told_by_fate a c Lost = if a.has_log then None else Some (found.Lost c)
-told_by_fate a c (Folded d) = if a.folds then Some (found.Folded c d) else None
+-- each character of a text is kept in a target, if one is asked
+abbrev pub AreKeptIfAsked : Option Target → List ℕ → Type 0
+AreKeptIfAsked None cs = Unit {0}
+AreKeptIfAsked (Some t) cs = AreAllKept t cs
 
 -- this is told of a character: what its fate says, or that it is lost, if a log names it
 abbrev pub IsToldOf : Asked → ℕ → Option Finding → Type 0
 IsToldOf a c told = (told ≡ told_by_fate a c (fate_asked a.target c)) ⊎ ((a.has_log ≡ true) × (told ≡ Some (found.Lost c)))
 
--- what is found is as its fate says: a character that is folded is so in the target, where folds are asked for; one that is
+-- what is found is as its fate says: a character that is folded is so in the target, and folds are asked for; one that is
 -- lost is so there, or a log names it
 abbrev pub IsAsFated : Asked → Finding → Type 0
 IsAsFated a (found.Malformed offset n) = Unit {0}

@@ -45,8 +45,56 @@ unfolding digits padded_integral char_count
 shown_as-small_byte = refl
 
 -- the ends of each range of what can't be seen, and their neighbours
+is_unseen-soft_hyphen : is_unseen 0xAD ≡ true
+is_unseen-soft_hyphen = refl
+
+is_unseen-registered_sign : is_unseen 0xAE ≡ false
+is_unseen-registered_sign = refl
+
+is_unseen-grapheme_joiner : is_unseen 0x34F ≡ true
+is_unseen-grapheme_joiner = refl
+
+is_unseen-arrowhead : is_unseen 0x350 ≡ false
+is_unseen-arrowhead = refl
+
 is_unseen-letter_mark : is_unseen 0x61C ≡ true
 is_unseen-letter_mark = refl
+
+is_unseen-before_hangul_fillers : is_unseen 0x115E ≡ false
+is_unseen-before_hangul_fillers = refl
+
+is_unseen-first_hangul_filler : is_unseen 0x115F ≡ true
+is_unseen-first_hangul_filler = refl
+
+is_unseen-last_hangul_filler : is_unseen 0x1160 ≡ true
+is_unseen-last_hangul_filler = refl
+
+is_unseen-hangul_vowel : is_unseen 0x1161 ≡ false
+is_unseen-hangul_vowel = refl
+
+is_unseen-before_khmer_vowels : is_unseen 0x17B3 ≡ false
+is_unseen-before_khmer_vowels = refl
+
+is_unseen-first_khmer_vowel : is_unseen 0x17B4 ≡ true
+is_unseen-first_khmer_vowel = refl
+
+is_unseen-last_khmer_vowel : is_unseen 0x17B5 ≡ true
+is_unseen-last_khmer_vowel = refl
+
+is_unseen-khmer_sign : is_unseen 0x17B6 ≡ false
+is_unseen-khmer_sign = refl
+
+is_unseen-before_mongolian : is_unseen 0x180A ≡ false
+is_unseen-before_mongolian = refl
+
+is_unseen-first_mongolian : is_unseen 0x180B ≡ true
+is_unseen-first_mongolian = refl
+
+is_unseen-last_mongolian : is_unseen 0x180F ≡ true
+is_unseen-last_mongolian = refl
+
+is_unseen-mongolian_digit : is_unseen 0x1810 ≡ false
+is_unseen-mongolian_digit = refl
 
 is_unseen-before_spaces : is_unseen 0x200A ≡ false
 is_unseen-before_spaces = refl
@@ -84,14 +132,44 @@ is_unseen-last_shape = refl
 is_unseen-superscript : is_unseen 0x2070 ≡ false
 is_unseen-superscript = refl
 
+is_unseen-hangul_letter : is_unseen 0x3163 ≡ false
+is_unseen-hangul_letter = refl
+
+is_unseen-hangul_filler : is_unseen 0x3164 ≡ true
+is_unseen-hangul_filler = refl
+
+is_unseen-hangul_old_letter : is_unseen 0x3165 ≡ false
+is_unseen-hangul_old_letter = refl
+
+is_unseen-before_variations : is_unseen 0xFDFF ≡ false
+is_unseen-before_variations = refl
+
+is_unseen-first_variation : is_unseen 0xFE00 ≡ true
+is_unseen-first_variation = refl
+
+is_unseen-last_variation : is_unseen 0xFE0F ≡ true
+is_unseen-last_variation = refl
+
+is_unseen-vertical_comma : is_unseen 0xFE10 ≡ false
+is_unseen-vertical_comma = refl
+
 is_unseen-mark : is_unseen 0xFEFF ≡ true
 is_unseen-mark = refl
 
-is_unseen-before_anchor : is_unseen 0xFFF8 ≡ false
-is_unseen-before_anchor = refl
+is_unseen-halfwidth_circle : is_unseen 0xFF9F ≡ false
+is_unseen-halfwidth_circle = refl
 
-is_unseen-anchor : is_unseen 0xFFF9 ≡ true
-is_unseen-anchor = refl
+is_unseen-halfwidth_filler : is_unseen 0xFFA0 ≡ true
+is_unseen-halfwidth_filler = refl
+
+is_unseen-halfwidth_letter : is_unseen 0xFFA1 ≡ false
+is_unseen-halfwidth_letter = refl
+
+is_unseen-before_specials : is_unseen 0xFFEF ≡ false
+is_unseen-before_specials = refl
+
+is_unseen-first_special : is_unseen 0xFFF0 ≡ true
+is_unseen-first_special = refl
 
 is_unseen-terminator : is_unseen 0xFFFB ≡ true
 is_unseen-terminator = refl
@@ -99,16 +177,40 @@ is_unseen-terminator = refl
 is_unseen-object : is_unseen 0xFFFC ≡ false
 is_unseen-object = refl
 
+is_unseen-before_shorthand : is_unseen 0x1BC9F ≡ false
+is_unseen-before_shorthand = refl
+
+is_unseen-first_shorthand : is_unseen 0x1BCA0 ≡ true
+is_unseen-first_shorthand = refl
+
+is_unseen-last_shorthand : is_unseen 0x1BCA3 ≡ true
+is_unseen-last_shorthand = refl
+
+is_unseen-after_shorthand : is_unseen 0x1BCA4 ≡ false
+is_unseen-after_shorthand = refl
+
+is_unseen-before_music : is_unseen 0x1D172 ≡ false
+is_unseen-before_music = refl
+
+is_unseen-first_music : is_unseen 0x1D173 ≡ true
+is_unseen-first_music = refl
+
+is_unseen-last_music : is_unseen 0x1D17A ≡ true
+is_unseen-last_music = refl
+
+is_unseen-after_music : is_unseen 0x1D17B ≡ false
+is_unseen-after_music = refl
+
 is_unseen-last_before_tags : is_unseen 0xDFFFF ≡ false
 is_unseen-last_before_tags = refl
 
 is_unseen-first_tag : is_unseen 0xE0000 ≡ true
 is_unseen-first_tag = refl
 
-is_unseen-last_tag : is_unseen 0xE007F ≡ true
+is_unseen-last_tag : is_unseen 0xE0FFF ≡ true
 is_unseen-last_tag = refl
 
-is_unseen-after_tags : is_unseen 0xE0080 ≡ false
+is_unseen-after_tags : is_unseen 0xE1000 ≡ false
 is_unseen-after_tags = refl
 
 -- the letter, and then a control

@@ -1,10 +1,12 @@
 use Rattle.std.proofs.Common.{◌∷◌, ◌++◌, ◌∙◌, [], ap, subst, sym}
 use Rattle.recode_places.specs.Entries.{TellsTrue}
+use Rattle.recode_places.specs.Findings.{TellsFound, found_in_text}
 use Rattle.recode_places.specs.Logs.{TakesLines, TellsLines}
 use Rattle.recode_places.specs.calls.FatesViews.{IsToldOf, TellsFates, asked_by}
 use Rattle.recode_places.specs.calls.LogViews.{NamesFound, TakesSome, choice_left}
 use Rattle.recode_places.proofs.EntryLemmas.{tells_nothing}
 use Rattle.recode_places.proofs.FatedLemmas.{fated_none, fated_one}
+use Rattle.recode_places.proofs.FoundLemmas.{found_nothing, found_one}
 use Rattle.recode_places.proofs.ReadsLemmas.{lines_none, lines_one}
 use Rattle.recode_places.proofs.walk.tell_character.Goals as goal
 use Rattle.recode_places.proofs.walk.tell_character.Goals.{in-Some+in_ok-entry-in-Some, in-None}
@@ -43,3 +45,15 @@ returns-clause-lines g c =
 pub returns-in_err-entry-in-Some-clause-told : goal.returns-in_err-entry-in-Some-clause-told
 returns-in_err-entry-in-Some-clause-told g c = λ ps t p.
     subst (TellsTrue ps (t ++ (c.args.c ∷ [])) (g.V.Visitor.told c.args.visitor.now)) (sym c.in_err-entry-in-Some.ensures.err) (tells_nothing ps (t ++ (c.args.c ∷ [])) (g.V.Visitor.told c.args.visitor.now))
+
+pub returns-clause-finds : goal.returns-clause-finds
+returns-clause-finds g c =
+    let a = asked_by c.args.choice.now in
+    let finds = TellsFound a (found_in_text a (c.args.c ∷ [])) [] (g.V.Visitor.told c.args.visitor.now) in
+    let told = c.in_ok-finding.ensures.told in
+    elim c.match-branch-2.branch [
+      | in-Some+in_ok-entry-in-Some w ↦
+          subst finds (sym (c.characters.ensures ∙ ap g.V.Visitor.told w.visitor-is)) (found_one a c.args.c _ _ _ (subst (IsToldOf a c.args.c) w.in-Some.is told) w.in_ok-entry-in-Some.ensures.ok)
+      | in-None w ↦
+          subst finds (sym (c.characters.ensures ∙ ap g.V.Visitor.told w.visitor-is)) (found_nothing a c.args.c _ (subst (IsToldOf a c.args.c) w.in-None.is told))
+    ]

@@ -4,15 +4,16 @@ use Rattle.std.proofs.lemmas.List.{length-take}
 use Rattle.encoding_front.specs.calls.DecoderViews.{decoder_view}
 use Rattle.recode_places.specs.calls.LogViews.{choice_left}
 use Rattle.recode_places.specs.calls.Walks.{FitsAhead, walk_state}
-use Rattle.recode_places.proofs.AheadLemmas.{ahead_new, at_end, consumed, ends_ahead, if_err, if_ok}
+use Rattle.recode_places.proofs.AheadLemmas.{ahead_new, at_end, consumed, ends_ahead, if_err, if_ok, tells_all, tells_read}
 use Rattle.recode_places.specs.calls.FatesViews.{asked_by}
 use Rattle.recode_places.proofs.FatedLemmas.{fated_none, fated_then, if_ok_anyway}
+use Rattle.recode_places.proofs.FoundLemmas.{found_none}
 use Rattle.recode_places.proofs.ReadsLemmas.{finished_lines, lines_none, lines_then, reads_nothing}
 use Rattle.recode_places.proofs.WalkLemmas.{stops_known, tells_known, walks_from, walks_new}
 use Rattle.recode_places.proofs.walk.tell_places.Goals as goal
 
 pub input-init : goal.input-init
-input-init g c = record { walks = walks_new _ _ _; lines = lines_none _ _ _ (reads_nothing _); fates = fated_none (asked_by c.args.choice.now) (asked_by c.args.choice.now) _ refl; fits = λ x e h. (x, e, h); ready = record { open_ = c.new.ensures.begins.open_; within = omega (arith, c.new.ensures.begins.pending, c.first.ensures.index) }; few = omega arith }
+input-init g c = record { walks = walks_new _ _ _; lines = lines_none _ _ _ (reads_nothing _); fates = fated_none (asked_by c.args.choice.now) (asked_by c.args.choice.now) _ refl; finds = λ x e. (x, e, found_none (asked_by c.args.choice.now) _ _ _ refl); fits = λ x e h. (x, e, h); ready = record { open_ = c.new.ensures.begins.open_; within = omega (arith, c.new.ensures.begins.pending, c.first.ensures.index) }; few = omega arith }
 
 pub returns-in_default-clause-told : goal.returns-in_default-clause-told
 returns-in_default-clause-told g c = tells_known _ _ _ _ (record { place = c.first.ensures; read = omega (arith, c.new.ensures.begins.pending) }) c.new.ensures.begins.pieces _ _ _ c.input.invariant.walks
@@ -49,6 +50,14 @@ input-preserved g c =
     record {
       walks = walks_from _ _ _ _ _ _ _ _ _ _ _ c.input.invariant.walks
           c.in-Ok.ensures.bytes.0 (λ h. c.in-Ok.ensures.bytes.1 (c.in-Ok.ensures.bound.1 ∙ eqb-true _ 0 h) (omega (arith, c.read.auto.buf))) chunk.walks;
+      finds = λ x e.
+          let now = c.input.invariant.finds x e in
+          let next = consumed _ _ _ now.0 c.in-Ok.ensures.bytes.0 now.1 in (
+            next.0,
+            next.1,
+            tells_read (asked_by c.args.choice.now) (asked_by c.input.choice) _ (walk_state c.input.walk) (walk_state c.chunk.new.self) _ _ _ _ _ _ c.input.invariant.fates.0 next.2 now.2
+                (c.in_ok-chunk.ensures.finds next.0 (λ end. at_end _ next.0 next.1 (c.in-Ok.ensures.bytes.1 (c.in-Ok.ensures.bound.1 ∙ eqb-true _ 0 end) (omega (arith, c.read.auto.buf))))),
+          );
       fits = λ x e h.
           let now = c.input.invariant.fits x e h in
           let next = consumed _ _ _ now.0 c.in-Ok.ensures.bytes.0 now.1 in (
@@ -78,3 +87,12 @@ returns-then-count-eq0-clause-fits g c = λ x e h.
     let none = at_end _ next.0 next.1 (c.in-Ok.ensures.bytes.1 (c.in-Ok.ensures.bound.1 ∙ eqb-true _ 0 ended) (omega (arith, c.read.auto.buf))) in
     if_ok _ (c.finish.ensures.fits (ends_ahead (walk_state c.chunk.new.self) (choice_left g.L.Read.remaining c.chunk.new.choice) next.0 none (c.in_ok-chunk.ensures.chunk.end ended)
     (c.in_ok-chunk.ensures.fits next.0 (λ end. none) (subst (λ y. FitsAhead (walk_state c.input.walk) (choice_left g.L.Read.remaining c.input.choice) y) next.2 now.2))))
+
+pub returns-then-count-eq0-clause-finds : goal.returns-then-count-eq0-clause-finds
+returns-then-count-eq0-clause-finds g c = λ x e.
+    let now = c.input.invariant.finds x e in
+    let next = consumed _ _ _ now.0 c.in-Ok.ensures.bytes.0 now.1 in
+    let ended = eq-eqb (length (take c.in-Ok.count c.read.new.buf)) 0 (omega (arith, c.in-Ok.ensures.bound.1, c.if-count-eq0.true)) in
+    let none = at_end _ next.0 next.1 (c.in-Ok.ensures.bytes.1 (c.in-Ok.ensures.bound.1 ∙ eqb-true _ 0 ended) (omega (arith, c.read.auto.buf))) in
+    if_ok_anyway _ _ (tells_all (asked_by c.args.choice.now) (decoder_view c.new.result).state.pending (decoder_view c.new.result).state.pieces _ (walk_state c.chunk.new.self) _ _ c.new.ensures.begins.pieces x next.0 none (c.in_ok-chunk.ensures.chunk.end ended)
+    (tells_read (asked_by c.args.choice.now) (asked_by c.input.choice) _ (walk_state c.input.walk) (walk_state c.chunk.new.self) _ _ _ _ _ _ c.input.invariant.fates.0 next.2 now.2 (c.in_ok-chunk.ensures.finds next.0 (λ end. none))))

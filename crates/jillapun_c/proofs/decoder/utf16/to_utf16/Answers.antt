@@ -10,6 +10,7 @@ returns-clause-decodes c d held live = rw (← held_decoder c.args.coder.now c.i
     held = refl;
     outcome = c.decode_to_utf16-outcome.result.0;
     told = c.outcome_of.ensures;
+    no_length = (refl, refl);
     call = c.decode_to_utf16-outcome.ensures.call;
     enough = c.decode_to_utf16-outcome.ensures.enough;
   },

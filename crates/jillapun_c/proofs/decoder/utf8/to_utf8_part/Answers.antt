@@ -10,6 +10,7 @@ returns-clause-decodes c d held live = rw (← held_decoder c.args.coder.now c.i
     held = refl;
     outcome = c.decode_to_utf8_without_replacement-outcome.result.0;
     told = c.part_outcome_of-outcome.ensures;
+    none_replaced = refl;
     call = c.decode_to_utf8_without_replacement-outcome.ensures.call;
     enough = c.decode_to_utf8_without_replacement-outcome.ensures.enough;
   },

@@ -10,6 +10,7 @@ returns-clause-encodes c e held = rw (← held_encoder c.args.coder.now _ e c.in
     held = refl;
     outcome = c.encode_from_utf8-outcome.result.0;
     told = c.outcome_of.ensures;
+    no_scalar = refl;
     wrote = c.encode_from_utf8-outcome.ensures.wrote;
     call = c.encode_from_utf8-outcome.ensures.call;
     enough = c.encode_from_utf8-outcome.ensures.enough;

@@ -10,6 +10,7 @@ returns-clause-encodes c e held = rw (← held_encoder c.args.coder.now _ e c.in
     held = refl;
     outcome = c.encode_from_utf8_without_replacement-outcome.result.0;
     told = c.encoder_outcome_of-outcome.ensures;
+    none_replaced = refl;
     wrote = c.encode_from_utf8_without_replacement-outcome.ensures.wrote;
     call = c.encode_from_utf8_without_replacement-outcome.ensures.call;
     enough = c.encode_from_utf8_without_replacement-outcome.ensures.enough;

@@ -1,16 +1,18 @@
 use Rattle.std.proofs.Common.{sym, refl}
 use Rattle.std.proofs.lemmas.List.{take_rest}
 use Rattle.recode_places.specs.calls.Walks.{walk_state}
+use Rattle.recode_places.proofs.AheadLemmas.{tells_on}
 use Rattle.recode_places.proofs.CallLemmas.{on_err}
 use Rattle.recode_places.proofs.FitsLemmas.{match_err}
 use Rattle.recode_places.specs.calls.FatesViews.{asked_by}
 use Rattle.recode_places.proofs.FatedLemmas.{fated_none, fated_then}
+use Rattle.recode_places.proofs.FoundLemmas.{found_none}
 use Rattle.recode_places.proofs.ReadsLemmas.{lines_none, lines_then, reads_nothing}
 use Rattle.recode_places.proofs.WalkLemmas.{walks_start, walks_stops, walks_then}
 use Rattle.recode_places.proofs.walk.Walk.chunk.Goals as goal
 
 pub chunk-init : goal.chunk-init
-chunk-init g c = record { walks = walks_start _ (walk_state c.args.self.now) _ _; lines = lines_none _ _ _ (reads_nothing _); fates = fated_none (asked_by c.args.choice.now) (asked_by c.args.choice.now) _ refl; fits = λ r end h. h; ready = c.requires.ready }
+chunk-init g c = record { walks = walks_start _ (walk_state c.args.self.now) _ _; lines = lines_none _ _ _ (reads_nothing _); fates = fated_none (asked_by c.args.choice.now) (asked_by c.args.choice.now) _ refl; finds = λ r end. found_none (asked_by c.args.choice.now) _ _ _ refl; fits = λ r end h. h; ready = c.requires.ready }
 
 pub returns-in_err-part-clause-err : goal.returns-in_err-part-clause-err
 returns-in_err-part-clause-err g c =
@@ -32,6 +34,7 @@ chunk-preserved g c =
     let more = part.more c.if-part.false in
     record {
       walks = rw (take_rest c.chunk.rest.now c.in_ok-part.part.read) (walks_then _ _ _ _ _ _ _ _ _ _ c.chunk.invariant.walks part.walks);
+      finds = λ r end. rw (take_rest c.chunk.rest.now c.in_ok-part.part.read) (tells_on (asked_by c.args.choice.now) (asked_by c.chunk.choice) _ (walk_state c.chunk.self) (walk_state c.part.new.self) _ _ _ _ _ c.chunk.invariant.fates.0 (c.chunk.invariant.finds r end) (c.in_ok-part.ensures.finds r end));
       fits = λ r end h. rw (take_rest c.chunk.rest.now c.in_ok-part.part.read) (c.in_ok-part.ensures.fits r end (c.chunk.invariant.fits r end h));
       lines = lines_then _ _ _ _ _ _ c.chunk.invariant.lines c.in_ok-part.ensures.lines;
       fates = fated_then _ _ _ _ _ _ c.chunk.invariant.fates c.in_ok-part.ensures.fates;
@@ -49,3 +52,7 @@ returns-in_err-part-clause-fits g c = rw (sym c.is_empty-last.ensures) (λ r end
 
 pub returns-then-part-clause-fits : goal.returns-then-part-clause-fits
 returns-then-part-clause-fits g c = rw (sym c.is_empty-last.ensures) (λ r end h. rw (c.in_ok-part.ensures.part.done c.if-part.true).0 at (c.in_ok-part.ensures.fits r end (c.chunk.invariant.fits r end h)))
+
+pub returns-then-part-clause-finds : goal.returns-then-part-clause-finds
+returns-then-part-clause-finds g c = rw (sym c.is_empty-last.ensures) (λ r end.
+    rw (c.in_ok-part.ensures.part.done c.if-part.true).0 at (tells_on (asked_by c.args.choice.now) (asked_by c.chunk.choice) _ (walk_state c.chunk.self) (walk_state c.part.new.self) _ _ _ _ _ c.chunk.invariant.fates.0 (c.chunk.invariant.finds r end) (c.in_ok-part.ensures.finds r end)))

@@ -1,11 +1,12 @@
 use Rattle.std.proofs.Common.{◌∙◌, ◌++◌, drop, arith, refl, sym, length, ap}
 use Rattle.encoding_front.specs.calls.DecoderViews.{decoder_view}
 use Rattle.encoding_front.specs.calls.Stream.{is_input_empty}
+use Rattle.recode_places.specs.calls.FatesViews.{asked_by}
 use Rattle.recode_places.specs.calls.Walks.{walk_state}
 use Rattle.std.proofs.lemmas.Bool.{false≢true}
 use Rattle.std.proofs.lemmas.List.{length-take}
 use Rattle.recode_places.proofs.CallLemmas.{call_chars, call_is_utf8, few_chars, on_err, reported}
-use Rattle.recode_places.proofs.AheadLemmas.{ahead_done, ahead_malformed, ahead_passed, ahead_text, offset_after, some_bytes}
+use Rattle.recode_places.proofs.AheadLemmas.{ahead_done, ahead_malformed, ahead_passed, ahead_text, offset_after, some_bytes, tells_done, tells_malformed}
 use Rattle.recode_places.proofs.FitsLemmas.{match_err}
 use Rattle.recode_places.proofs.FatedLemmas.{fated_then}
 use Rattle.recode_places.proofs.ReadsLemmas.{lines_then}
@@ -161,3 +162,20 @@ returns-in_ok-malformed-in-Malformed-clause-fits g c = λ r end h.
     ahead_passed (walk_state c.args.self.now) (decoder_view call.new.self).state _ _ _ _ _ call.ensures.call.law _ (call_chars (decoder_view c.args.self.now.decoder).state (decoder_view call.new.self).state _ _ _ _ _ _ _ call.ensures.call.law _ c.from_utf8_unchecked-text.ensures) c.requires.ready.within r end _ _ c.in-Malformed.is _ _ _ _ (omega (arith, c.from.ensures, c.from-in-Malformed.ensures, malformed_within (decoder_view c.args.self.now.decoder).state (decoder_view call.new.self).state _ _ _ _ _ _ _ c.args.self.now.place.index c.args.self.now.read c.in-Malformed.is call.ensures.call.law c.requires.ready.within)) c.pass.ensures.index
     (c.in_ok-tell_malformed-in-Malformed.ensures.fits rest (some_bytes (walk_state c.args.self.now) (decoder_view call.new.self).state _ _ _ _ _ call.ensures.call.law _ (call_chars (decoder_view c.args.self.now.decoder).state (decoder_view call.new.self).state _ _ _ _ _ _ _ call.ensures.call.law _ c.from_utf8_unchecked-text.ensures) c.requires.ready.within r end _ _ c.in-Malformed.is)
     (ahead_malformed (walk_state c.args.self.now) (decoder_view call.new.self).state _ _ _ _ _ call.ensures.call.law _ (call_chars (decoder_view c.args.self.now.decoder).state (decoder_view call.new.self).state _ _ _ _ _ _ _ call.ensures.call.law _ c.from_utf8_unchecked-text.ensures) c.requires.ready.within r end _ _ c.in-Malformed.is _ _ _ (omega (arith, c.from.ensures, c.from-in-Malformed.ensures, malformed_within (decoder_view c.args.self.now.decoder).state (decoder_view call.new.self).state _ _ _ _ _ _ _ c.args.self.now.place.index c.args.self.now.read c.in-Malformed.is call.ensures.call.law c.requires.ready.within)) (c.in_ok-tell_text.ensures.fits offset (reported call.result.0 ++ rest) (ahead_text (walk_state c.args.self.now) (decoder_view call.new.self).state _ _ _ _ _ call.ensures.call.law _ (call_chars (decoder_view c.args.self.now.decoder).state (decoder_view call.new.self).state _ _ _ _ _ _ _ call.ensures.call.law _ c.from_utf8_unchecked-text.ensures) c.requires.ready.within r end _ h))))
+
+pub returns-in-InputEmpty-clause-finds : goal.returns-in-InputEmpty-clause-finds
+returns-in-InputEmpty-clause-finds g c = λ r end.
+    let call = c.decode_to_utf8_without_replacement-outcome in
+    tells_done (walk_state c.args.self.now) (decoder_view call.new.self).state _ _ _ _ _ call.ensures.call.law _ (call_chars (decoder_view c.args.self.now.decoder).state (decoder_view call.new.self).state _ _ _ _ _ _ _ call.ensures.call.law _ c.from_utf8_unchecked-text.ensures) c.requires.ready.within r end (asked_by c.args.choice.now) _ _ (ap reported c.in-InputEmpty.is) c.in_ok-tell_text.ensures.finds
+
+pub returns-in-OutputFull-clause-finds : goal.returns-in-OutputFull-clause-finds
+returns-in-OutputFull-clause-finds g c = λ r end.
+    let call = c.decode_to_utf8_without_replacement-outcome in
+    tells_done (walk_state c.args.self.now) (decoder_view call.new.self).state _ _ _ _ _ call.ensures.call.law _ (call_chars (decoder_view c.args.self.now.decoder).state (decoder_view call.new.self).state _ _ _ _ _ _ _ call.ensures.call.law _ c.from_utf8_unchecked-text.ensures) c.requires.ready.within r end (asked_by c.args.choice.now) _ _ (ap reported c.in-OutputFull.is) c.in_ok-tell_text.ensures.finds
+
+pub returns-in_ok-malformed-in-Malformed-clause-finds : goal.returns-in_ok-malformed-in-Malformed-clause-finds
+returns-in_ok-malformed-in-Malformed-clause-finds g c = λ r end.
+    let call = c.decode_to_utf8_without_replacement-outcome in
+    rw c.in_ok-malformed-in-Malformed.ensures (tells_malformed (walk_state c.args.self.now) (decoder_view call.new.self).state _ _ _ _ _ call.ensures.call.law _ (call_chars (decoder_view c.args.self.now.decoder).state (decoder_view call.new.self).state _ _ _ _ _ _ _ call.ensures.call.law _ c.from_utf8_unchecked-text.ensures) c.requires.ready.within r end _ _ c.in-Malformed.is
+    (asked_by c.args.choice.now) (asked_by c.tell_text.new.choice) _ _ _ _ (omega (arith, c.from.ensures, c.from-in-Malformed.ensures, malformed_within (decoder_view c.args.self.now.decoder).state (decoder_view call.new.self).state _ _ _ _ _ _ _ c.args.self.now.place.index c.args.self.now.read c.in-Malformed.is call.ensures.call.law c.requires.ready.within))
+    c.in_ok-tell_text.ensures.fates.0 c.in_ok-tell_text.ensures.finds c.in_ok-tell_malformed-in-Malformed.ensures.finds)

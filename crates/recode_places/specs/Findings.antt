@@ -1,0 +1,50 @@
+-- All that is told of an input of which no log says what is lost: each of its malformed sequences, and its characters by
+-- their fates.
+use Rattle.std.specs.Prelude.{◌≡◌, ℕ, ◌+◌, Bool, false, if◌then◌else◌, List, [], ◌∷◌, ◌++◌, Option, Some, None, IfSome, map}
+use Rattle.encoding_mem.specs.Piece.{Piece, well_formed, malformed}
+use Rattle.recode_places.specs.Fates.{Target, fate_of}
+use Rattle.recode_places.specs.declared.entry.Entry.{Entry}
+use Rattle.recode_places.specs.declared.entry.Finding.{Finding}
+use Rattle.recode_places.specs.declared.entry.Finding.TheVariants as found
+use Rattle.recode_places.specs.declared.fates.Fate.{Fate}
+use Rattle.recode_places.specs.declared.fates.Fate.TheVariants.{Folded, Kept, Lost}
+
+-- What a choice asks: whether it goes by a log, the target, if one is asked, and whether folds are told.
+pub record Asked : Type 0 where
+  pub has_log : Bool
+  pub target : Option Target
+  pub folds : Bool
+
+-- the fate of a character in a target, if one is asked, and else that it is kept
+abbrev pub fate_asked : Option Target → ℕ → Fate
+fate_asked None c = Kept
+fate_asked (Some t) c = fate_of t c
+
+-- what is told of a character by its fate: that it is lost, if no log is asked, and that it is folded, if folds are
+abbrev pub told_by_fate : Asked → ℕ → Fate → Option Finding
+told_by_fate a c Kept = None
+told_by_fate a c Lost = if a.has_log then None else Some (found.Lost c)
+told_by_fate a c (Folded d) = if a.folds then Some (found.Folded c d) else None
+
+-- a finding, if there is one, and then these
+abbrev pub if_any : Option Finding → List Finding → List Finding
+if_any None fs = fs
+if_any (Some f) fs = f ∷ fs
+
+-- what is told of the characters of a text by their fates, in their order
+abbrev pub found_in_text : Asked → List ℕ → List Finding
+found_in_text a [] = []
+found_in_text a (c ∷ t) = if_any (told_by_fate a c (fate_asked a.target c)) (found_in_text a t)
+
+-- what is told of pieces of an input, the first of which stands at this offset: each malformed sequence, and what is
+-- told of the characters of the others, in their order
+abbrev pub found_in : Asked → (offset : ℕ) → List Piece → List Finding
+found_in a offset [] = []
+found_in a offset (well_formed n cs ∷ ps) = found_in_text a cs ++ found_in a (offset + n) ps
+found_in a offset (malformed n ∷ ps) = found.Malformed offset n ∷ found_in a (offset + n) ps
+
+-- If no log is asked, a visitor that says what it was told was told some entries more, and what they found is a list of
+-- findings, in its order, up to this rest of it.
+abbrev pub TellsFound : Asked → (all rest : List Finding) (told told' : Option (List Entry)) → Type 0
+TellsFound a all rest told told' =
+    a.has_log ≡ false → IfSome told (λ es. (more : List Entry) × (told' ≡ Some (es ++ more)) × (all ≡ map (λ (e : Entry). e.finding) more ++ rest))

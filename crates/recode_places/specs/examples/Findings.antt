@@ -1,0 +1,26 @@
+-- Worked rows of `specs/Findings.antt`.
+use Rattle.std.specs.Prelude.{◌≡◌, Bool, false, true, None, Some, [], ◌∷◌, refl}
+use Rattle.encoding_mem.specs.Piece.{malformed, well_formed}
+use Rattle.encoding_mem.specs.Pieces.{pieces_in}
+use Rattle.encoding_front.specs.declared.encoding.Encoding.TheVariants.{ShiftJis}
+use Rattle.recode_places.specs.Fates.{fate_of}
+use Rattle.recode_places.specs.Findings.{Asked, found_in, found_in_text}
+use Rattle.recode_places.specs.declared.entry.Finding.TheVariants.{Folded, Lost, Malformed}
+
+-- no log, and Shift_JIS without its index
+abbrev asking : (folds : Bool) → Asked
+asking folds = record { has_log = false; target = Some (record { tables = record { flats = []; rows = None }; encoding = ShiftJis }); folds = folds }
+
+-- of `a`, the yen sign and U+65E5, which has no bytes
+of_folds : found_in_text (asking true) (0x61 ∷ 0xA5 ∷ 0x65E5 ∷ []) ≡ Folded 0xA5 (Some 0x5C) ∷ Lost 0x65E5 ∷ []
+unfolding fate_of pieces_in
+of_folds = refl
+
+of_lost : found_in_text (asking false) (0x61 ∷ 0xA5 ∷ 0x65E5 ∷ []) ≡ Lost 0x65E5 ∷ []
+unfolding fate_of pieces_in
+of_lost = refl
+
+-- `a`, a byte that is malformed, U+65E5, and two bytes that are
+of_input : found_in (asking true) 0 (well_formed 1 (0x61 ∷ []) ∷ malformed 1 ∷ well_formed 3 (0x65E5 ∷ []) ∷ malformed 2 ∷ []) ≡ Malformed 1 1 ∷ Lost 0x65E5 ∷ Malformed 5 2 ∷ []
+unfolding fate_of pieces_in
+of_input = refl
