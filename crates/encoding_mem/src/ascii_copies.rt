@@ -6,7 +6,7 @@ ghost use Rattle.encoding_mem.specs.LongestPrefix.{IsLongestPrefix};
 
 use crate::first::{
     BYTE_BLOCK, BYTE_LANES, UNIT_BLOCK, all_bytes_below, all_units_below, first_byte_from,
-    lanes_below, unit_lanes_below,
+    is_long_run, lanes_below, unit_lanes_below,
 };
 use std::simd::prelude::*;
 
@@ -19,9 +19,31 @@ pub fn copy_ascii_to_ascii(src: &[u8], dst: &mut [u8]) -> usize
     ensures copied { take result dst.new ≡ take result src.now }
     ensures behind { drop result dst.new ≡ drop result dst.old }
 {
-    let count = first_byte_from(src, 0x80);
-    dst[..count].copy_from_slice(&src[..count]);
-    count
+    let mut at = 0;
+    'wide: while src.len() - at >= BYTE_BLOCK {
+        if !copy_block(&src[at..], &mut dst[at..]) {
+            break;
+        }
+        at += BYTE_BLOCK;
+    }
+    'vectors: while is_long_run(&src[at..]) {
+        dst[at..at + BYTE_LANES].copy_from_slice(&src[at..at + BYTE_LANES]);
+        at += BYTE_LANES;
+    }
+    // The last vector may begin within what was copied.
+    let left = src.len() - at;
+    if left > 0 && left < BYTE_LANES && src.len() >= BYTE_LANES {
+        let last = src.len() - BYTE_LANES;
+        if is_long_run(&src[last..]) {
+            dst[last..last + BYTE_LANES].copy_from_slice(&src[last..]);
+            return src.len();
+        }
+    }
+    'rest: while at < src.len() && src[at] < 0x80 {
+        dst[at] = src[at];
+        at += 1;
+    }
+    at
 }
 
 /// Copies the longest prefix of `src` that is ASCII to the start of `dst`, each byte as a unit of

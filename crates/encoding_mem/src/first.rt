@@ -63,6 +63,15 @@ pub(crate) fn lanes_below(block: u8x16, limit: u8) -> usize
     }
 }
 
+/// Whether a vector of bytes is there, and all of them are ASCII.
+#[inline(always)]
+pub(crate) fn is_long_run(bytes: &[u8]) -> bool
+    ensures here { IsTrue result → 16 ≤ length bytes.now }
+    ensures ascii { IsTrue result → (k : ℕ) → k < 16 → slice_index bytes.now k < 0x80 }
+{
+    bytes.len() >= BYTE_LANES && lanes_below(u8x16::from_slice(bytes), 0x80) == BYTE_LANES
+}
+
 /// How many units stand before the first that is not below the limit; all of them if there is none.
 #[inline(always)]
 pub(crate) fn unit_lanes_below(block: u16x8, limit: u16) -> usize
