@@ -145,3 +145,24 @@ pub(crate) fn first_unit_from(units: &[u16], limit: u16) -> usize
     }
     at
 }
+
+// How many units at the start are below the limit, as far as whole vectors of them are. Where the
+// first other unit is is not asked.
+#[inline(always)]
+pub(crate) fn vectors_of_units_below(units: &[u16], limit: u16) -> usize
+    ensures within { result ≤ length units.now }
+    ensures below { (k : ℕ) → k < result → slice_index units.now k < limit }
+{
+    let mut at = 0;
+    'wide: while units.len() - at >= UNIT_BLOCK
+        && all_units_below(u16x32::from_slice(&units[at..]), limit)
+    {
+        at += UNIT_BLOCK;
+    }
+    'vectors: while units.len() - at >= UNIT_LANES
+        && unit_lanes_below(u16x8::from_slice(&units[at..]), limit) == UNIT_LANES
+    {
+        at += UNIT_LANES;
+    }
+    at
+}
