@@ -1,6 +1,7 @@
 //! Copies of the ASCII at the start.
 
-ghost use Rattle.std.specs.Prelude.{◌≡◌, ℕ, ◌<◌, ◌≤◌, IsTrue, length, take, drop, slice_index};
+ghost use Rattle.std.specs.Prelude.{◌≡◌, ℕ, ◌+◌, ◌-◌, ◌/◌, ◌<◌, ◌≤◌, IsTrue, length, take, drop};
+ghost use Rattle.std.specs.Prelude.{slice_index};
 ghost use Rattle.std.specs.Str.{IsAscii};
 ghost use Rattle.encoding_mem.specs.LongestPrefix.{IsLongestPrefix};
 
@@ -189,4 +190,25 @@ pub(crate) fn copy_ascii_run(src: &[u8], dst: &mut [u8]) -> usize
         at += 1;
     }
     at
+}
+
+/// Copies the run of ASCII at the start of `src` to the start of `dst`, and returns its length.
+/// Bytes after it may change, one for every two bytes of `src` that are left: a vector is stored
+/// before it is asked where the run ends.
+#[inline(always)]
+pub(crate) fn copy_short_run(src: &[u8], dst: &mut [u8]) -> usize
+    requires { length src.now ≤ length dst.old }
+    ensures prefix { IsLongestPrefix IsAscii src.now result }
+    ensures copied { take result dst.new ≡ take result src.now }
+    ensures behind { (n : ℕ) → n ≡ result + (length src.now - result) / 2
+        → drop n dst.new ≡ drop n dst.old }
+{
+    if src.len() < 2 * BYTE_LANES {
+        return copy_ascii_to_ascii(src, dst);
+    }
+    let run = copy_lanes(src, dst);
+    if run < BYTE_LANES {
+        return run;
+    }
+    copy_ascii_to_ascii(src, dst)
 }
