@@ -31,6 +31,13 @@ behind_ascii xs n prefix more = elim (cases_lt (get_or xs n 0) 0x80) [
       | inr last ↦ (let same : n ≡ k = omega arith in subst (λ j. get_or xs j 0 < 0x80) same low)
     ]
 
+-- it is at least as long as any other
+pub ascii_at_least : (xs : List ℕ) (n m : ℕ) → IsLongestPrefix IsAscii xs n → m ≤ length xs → ((k : ℕ) → k < m → get_or xs k 0 < 0x80) → m ≤ n
+ascii_at_least xs n m prefix fits low = elim (cases_lt n m) [
+  | inl less ↦ absurd (prefix.longest m less fits (ascii_take xs m fits low))
+  | inr more ↦ more
+]
+
 -- The bits of a vector that is compared with one value.
 
 -- if no lane passes p, no bit is set

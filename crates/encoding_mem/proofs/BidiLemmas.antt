@@ -4,7 +4,7 @@ use Rattle.std.proofs.Common.{◌≡◌, ℕ, zero, suc, ◌<◌, ◌≤◌, Lis
 use Rattle.std.specs.List.{list_any}
 use Rattle.std.specs.Str.{chars, IsAscii, IsUtf8, IsCharBoundary, all_scalars}
 use Rattle.std.proofs.lemmas.Bool.Decides.{nat_tests}
-use Rattle.std.proofs.lemmas.List.{take-append-drop, take-take, take_rest}
+use Rattle.std.proofs.lemmas.List.{append-nil, take-append-drop, take-take, take_rest}
 use Rattle.std.proofs.lemmas.List.Folds.{list_any-append}
 use Rattle.std.proofs.Math.Bool.{or-true}
 use Rattle.encoding_mem.proofs.LongestPrefixLemmas.{take_sum}
@@ -104,6 +104,11 @@ pub text_bidi : (text rest : List ℕ) (at : ℕ) (r : Bool) → IsUtf8 text →
 text_bidi text rest at r utf8 within low ends is any =
     let same : r ≡ list_any is_bidi_char (chars text) = any ∙ ap (λ l. list_any is_bidi_char (chars l)) is ∙ sym (chars_behind text at utf8 (within, λ more _. let high = ends more in omega arith) low) in
     (λ yes. some_from_any is_bidi_char (chars text) (sym same ∙ yes), λ some. same ∙ any_from_some is_bidi_char refl (chars text) some.0 some.1)
+
+pub low_start : (units : List ℕ) (at : ℕ) → ((k : ℕ) → k < at → get_or units k 0 < 0x590) → list_any is_bidi_unit (take at units) ≡ false
+low_start units at low =
+    ap (list_any is_bidi_unit) (sym (append-nil (take at units)))
+    ∙ any_behind is_bidi_unit (take at units) [] (each_of_prefix (λ u. is_bidi_unit u ≡ false) units at refl (λ k early. low_unit (get_or units k 0) (low k early)))
 
 pub units_bidi : (units rest : List ℕ) (at : ℕ) (r : Bool) → ((k : ℕ) → k < at → get_or units k 0 < 0x590)
     → rest ≡ drop at units → r ≡ list_any is_bidi_unit rest → IsTrue r ↔ HasBidiUnit units

@@ -19,6 +19,7 @@ pub mod LongestPrefixLemmas
 pub mod UnitCopyLemmas
 pub mod UnitPrefixLemmas
 pub mod UnitWritingLemmas
+pub mod NarrowLemmas
 pub mod PlainUnitsLemmas
 pub mod ReplacementLemmas
 pub mod ConversionLemmas

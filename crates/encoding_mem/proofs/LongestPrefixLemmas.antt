@@ -2,15 +2,13 @@
 use Rattle.std.proofs.Common.{◌≡◌, ℕ, zero, suc, ◌+◌, ◌*◌, ◌-◌, ◌<◌, ◌≤◌, inl, inr, List, [], ◌∷◌, ◌++◌, length, take, drop, get_or, refl, sym, ◌∙◌, ap, subst, arith, length-append, length-drop, encode_utf8_all}
 use Rattle.std.specs.Char.{encode_utf8, len_utf8}
 use Rattle.std.specs.Char.Escape.{encode_utf16}
-use Rattle.std.specs.Str.{chars, IsUtf8}
 use Rattle.std.proofs.lemmas.Bool.{cases_lt}
 use Rattle.std.proofs.lemmas.Bool.Decides.{nat_tests}
-use Rattle.std.proofs.lemmas.List.{append-nil, take_more, take_at, drop_at, take-append-drop, length-take-le, take_all, get_or-drop, drop-drop}
-use Rattle.std.proofs.lemmas.Str.{encodes-append, encodes-chars, length-encode, length-le-encodes}
+use Rattle.std.proofs.lemmas.List.{append-nil, take_more, take_at, drop_at, take-append-drop, length-take-le, take_all, drop-drop}
+use Rattle.std.proofs.lemmas.Str.{encodes-append, length-encode}
 use Rattle.std.proofs.Math.Seq.{take-append-add}
 use borrow.Rule.Slice.PartMut.{put_mid, post_of}
 use Rattle.encoding_mem.specs.Conversions.{IsLongest}
-use Rattle.encoding_mem.specs.Latin1.{AllLatin1}
 use Rattle.encoding_mem.specs.calls.Writing.{Adds, len_utf16, encode_utf16_all}
 use Rattle.encoding_mem.specs.laws.Writing.{encode_utf16_all-append, length-encode_utf16}
 
@@ -66,16 +64,6 @@ whole_latin1 src out room n low wide l is =
     let fits : length (encode_utf8_all (take (length src) src)) ≤ room = omega (arith, ap (λ x. length (encode_utf8_all x)) all, latin1_size src low) in
     let n_is = reads_whole (λ _. Unit {0}) (λ i. length (encode_utf8_all (take i src))) (length src) room n l tt fits in
     is ∙ ap (λ m. encode_utf8_all (take m src)) n_is ∙ ap encode_utf8_all all
-
--- Text that is narrowed to bytes.
-pub chars_short : (text : List ℕ) → IsUtf8 text → length (chars text) ≤ length text
-chars_short text utf8 = omega (arith, length-le-encodes (chars text), ap length (encodes-chars text utf8))
-
-pub is_low : (text before after : List ℕ) (c n : ℕ) → AllLatin1 text → text ≡ before ++ (c ∷ after) → length before ≡ n → c ≤ 0xFF
-is_low text before after c n low is len =
-    let d : drop n text ≡ c ∷ after = ap (drop n) is ∙ drop_at before (c ∷ after) n len in
-    let g : get_or text n 0 ≡ c = ap (λ m. get_or text m 0) {x = n} {y = n + 0} (omega arith) ∙ sym (get_or-drop n text 0 0) ∙ ap (λ l. get_or l 0 0) d in
-    omega (arith, low n, g)
 
 pub length_put : (a k : ℕ) (xs ys : List ℕ) → a ≤ length xs → k ≡ length xs - a → length ys ≡ k → length (put_mid a k xs ys) ≡ length xs
 length_put a k xs ys within size len =

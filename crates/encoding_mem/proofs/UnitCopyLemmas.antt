@@ -1,14 +1,18 @@
 -- Copies of ASCII units as bytes, a block at a time.
-use Rattle.std.proofs.Common.{◌≡◌, ℕ, suc, ◌+◌, ◌-◌, ◌<◌, ◌≤◌, inl, inr, List, [], ◌∷◌, ◌++◌, length, take, drop, set, get_or, refl, sym, ◌∙◌, ap, arith, length-drop, bit_and, map, replicate}
+use Rattle.std.proofs.Common.{◌≡◌, ℕ, suc, ◌+◌, ◌-◌, ◌<◌, ◌≤◌, inl, inr, List, [], ◌∷◌, ◌++◌, length, take, drop, set, get_or, refl, sym, ◌∙◌, ap, subst, arith, length-append, length-drop, bit_and, map, replicate}
 use Rattle.std.proofs.lemmas.Bool.{cases_lt}
 use Rattle.std.proofs.lemmas.List.{get_or-take, get_or-drop, length-take-le, take_at, drop_at, take_rest, take-map, take-take, take-append-le, length-map, drop-drop, length-set, take_more, take_more_set}
 use Rattle.std.proofs.lemmas.Nat.{and_mask}
+use Rattle.std.proofs.lemmas.Slice.{take-put_mid, drop-put_mid}
 use Rattle.std.proofs.lemmas.Simd.{put_chunk_is, Each1-from_get_or, Each1-all, Each1-zip2, Each2-splat, zip2_splat}
 use Rattle.std.proofs.Math.Facts.{Fits-mask}
-use borrow.Rule.Slice.PartMut.{put_mid}
+use borrow.Rule.Slice.PartMut.{put_mid, post_of}
 use lib.Lanes.{put_chunk, zip2, Each1}
 use mir.Syntax.{w8}
 use mir.Val.{Fits}
+use Rattle.std.specs.Str.{IsAscii}
+use Rattle.encoding_mem.specs.LongestPrefix.{IsLongestPrefix}
+use Rattle.encoding_mem.proofs.PrefixLemmas.{each_of_list, whole_prefix}
 use Rattle.encoding_mem.proofs.DestinationLemmas.{take_into, drop_into, drop_past_set}
 use Rattle.encoding_mem.proofs.LongestPrefixLemmas.{length_put, behind_more, take_sum}
 
@@ -91,6 +95,51 @@ copied_more src old at dst ys n done room fits size low same behind =
       behind = behind_more at n _ dst old (drop_into at _ n dst ys here refl enough behind) done.behind;
     }
 
+-- what is after an offset is after any later one
+pub further : (xs ys : List ℕ) (a b : ℕ) → a ≤ b → drop a xs ≡ drop a ys → drop b xs ≡ drop b ys
+further xs ys a b before same =
+    let e : a + (b - a) ≡ b = omega arith in
+    ap (λ k. drop k xs) (sym e) ∙ sym (drop-drop (b - a) a xs) ∙ ap (drop (b - a)) same ∙ drop-drop (b - a) a ys ∙ ap (λ k. drop k ys) e
+
+-- a vector more, which may begin within what was copied
+pub vector_copied : (src old : List ℕ) (at : ℕ) (dst ys : List ℕ) (from n k m : ℕ) → IsCopiedTo src old at dst → length src ≤ length old → from ≤ at → at ≤ from + n → from + n ≤ length src → k ≡ n → m ≡ n
+    → ((j : ℕ) → j < n → get_or (take (length src - from) (drop from src)) j 0 < 0x80) → ys ≡ take m (drop from src) → IsCopiedTo src old (from + n) (put_mid from k dst ys)
+vector_copied src old at dst ys from n k m done room begun over fits size counted low same =
+    let here : from ≤ length dst = omega (arith, done.size, done.within) in
+    let part : ys ≡ take n (drop from src) = same ∙ ap (λ j. take j (drop from src)) counted in
+    let len : length ys ≡ n = ap length part ∙ length-take-le n (drop from src) (omega (arith, length-drop from src)) in
+    let start : take from dst ≡ take from src = sym (take-take from at dst begun) ∙ ap (take from) done.copied ∙ take-take from at src begun in
+    record {
+      within = fits;
+      size = omega (arith, done.size, len, length-append (take from dst) (ys ++ post_of from k dst), length-append ys (post_of from k dst), length-take-le from dst here, length-drop k (drop from dst), length-drop from dst);
+      low = λ j inside. elim (cases_lt j from) [
+        | inl before ↦ done.low j (omega arith)
+        | inr after ↦
+            let e : get_or (take (length src - from) (drop from src)) (j - from) 0 ≡ get_or src j 0 =
+            ap (λ l. get_or l (j - from) 0) (take_rest src from) ∙ get_or-drop from src (j - from) 0 ∙ ap (λ i. get_or src i 0) (omega arith) in
+            omega (arith, e, low (j - from) (omega arith))
+      ];
+      copied = take-put_mid from k dst ys (from + n) (omega arith) here ∙ ap (λ l. l ++ ys) start ∙ ap (λ l. take from src ++ l) part ∙ sym (take_sum from n src (omega arith));
+      behind = drop-put_mid from k dst ys (from + n) (omega arith) here (omega arith) ∙ further dst old at (from + n) over done.behind;
+    }
+
+-- the last vector, with which all is copied
+pub last_copied : (src old : List ℕ) (at : ℕ) (dst ys : List ℕ) (n k m : ℕ) → IsCopiedTo src old at dst → length src ≤ length old → n ≤ length src → length src ≤ at + n → k ≡ n → m ≡ n
+    → ((j : ℕ) → j < n → get_or (take (length src - (length src - n)) (drop (length src - n) src)) j 0 < 0x80) → ys ≡ take m (drop (length src - n) src)
+    → let put = put_mid (length src - n) k dst ys in
+    IsLongestPrefix IsAscii src (length src) × ((take (length src) put ≡ take (length src) src) × (drop (length src) put ≡ drop (length src) old))
+last_copied src old at dst ys n k m done room some near size counted low same =
+    let within = done.within in
+    let all : length src - n + n ≡ length src = omega (arith, some) in
+    let whole = vector_copied src old at dst ys (length src - n) n k m done room (omega (arith, near)) (omega (arith, within)) (omega (arith, some)) size counted low same in
+    let each = each_of_list (λ b. b < 0x80) src (length src - n + n) (omega arith) (omega arith) whole.low in (
+      whole_prefix IsAscii src each,
+      (
+        subst (λ j. take j (put_mid (length src - n) k dst ys) ≡ take j src) all whole.copied,
+        subst (λ j. drop j (put_mid (length src - n) k dst ys) ≡ drop j old) all whole.behind,
+      ),
+    )
+
 -- so many bytes are copied, and as many others as the source has may have changed
 pub record IsCopiedOver (src old : List ℕ) (at : ℕ) (dst : List ℕ) : Type 0 where
   pub within : at ≤ length src
@@ -98,12 +147,6 @@ pub record IsCopiedOver (src old : List ℕ) (at : ℕ) (dst : List ℕ) : Type 
   pub low : (k : ℕ) → k < at → get_or src k 0 < 0x80
   pub copied : take at dst ≡ take at src
   pub behind : drop (length src) dst ≡ drop (length src) old
-
--- what is after an offset is after any later one
-pub further : (xs ys : List ℕ) (a b : ℕ) → a ≤ b → drop a xs ≡ drop a ys → drop b xs ≡ drop b ys
-further xs ys a b before same =
-    let e : a + (b - a) ≡ b = omega arith in
-    ap (λ k. drop k xs) (sym e) ∙ sym (drop-drop (b - a) a xs) ∙ ap (drop (b - a)) same ∙ drop-drop (b - a) a ys ∙ ap (λ k. drop k ys) e
 
 -- the ASCII at the start of a stored vector more
 pub copied_over : (src old : List ℕ) (at : ℕ) (dst ys : List ℕ) (n run : ℕ) → IsCopiedOver src old at dst → length src ≤ length old → at + n ≤ length src → run ≤ n

@@ -1,12 +1,13 @@
 //! Copies of the ASCII at the start.
 
-ghost use Rattle.std.specs.Prelude.{◌≡◌, ℕ, ◌<◌, ◌≤◌, IsTrue, length, take, drop, slice_index};
+ghost use Rattle.std.specs.Prelude.{◌≡◌, ℕ, ◌+◌, ◌-◌, ◌/◌, ◌<◌, ◌≤◌, IsTrue, length, take, drop};
+ghost use Rattle.std.specs.Prelude.{slice_index};
 ghost use Rattle.std.specs.Str.{IsAscii};
 ghost use Rattle.encoding_mem.specs.LongestPrefix.{IsLongestPrefix};
 
 use crate::first::{
     BYTE_BLOCK, BYTE_LANES, UNIT_BLOCK, all_bytes_below, all_units_below, first_byte_from,
-    lanes_below, unit_lanes_below,
+    is_long_run, lanes_below, unit_lanes_below,
 };
 use std::simd::prelude::*;
 
@@ -19,9 +20,31 @@ pub fn copy_ascii_to_ascii(src: &[u8], dst: &mut [u8]) -> usize
     ensures copied { take result dst.new ≡ take result src.now }
     ensures behind { drop result dst.new ≡ drop result dst.old }
 {
-    let count = first_byte_from(src, 0x80);
-    dst[..count].copy_from_slice(&src[..count]);
-    count
+    let mut at = 0;
+    'wide: while src.len() - at >= BYTE_BLOCK {
+        if !copy_block(&src[at..], &mut dst[at..]) {
+            break;
+        }
+        at += BYTE_BLOCK;
+    }
+    'vectors: while is_long_run(&src[at..]) {
+        dst[at..at + BYTE_LANES].copy_from_slice(&src[at..at + BYTE_LANES]);
+        at += BYTE_LANES;
+    }
+    // The last vector may begin within what was copied.
+    let left = src.len() - at;
+    if left > 0 && left < BYTE_LANES && src.len() >= BYTE_LANES {
+        let last = src.len() - BYTE_LANES;
+        if is_long_run(&src[last..]) {
+            dst[last..last + BYTE_LANES].copy_from_slice(&src[last..]);
+            return src.len();
+        }
+    }
+    'rest: while at < src.len() && src[at] < 0x80 {
+        dst[at] = src[at];
+        at += 1;
+    }
+    at
 }
 
 /// Copies the longest prefix of `src` that is ASCII to the start of `dst`, each byte as a unit of
@@ -167,4 +190,25 @@ pub(crate) fn copy_ascii_run(src: &[u8], dst: &mut [u8]) -> usize
         at += 1;
     }
     at
+}
+
+/// Copies the run of ASCII at the start of `src` to the start of `dst`, and returns its length.
+/// Bytes after it may change, one for every two bytes of `src` that are left: a vector is stored
+/// before it is asked where the run ends.
+#[inline(always)]
+pub(crate) fn copy_short_run(src: &[u8], dst: &mut [u8]) -> usize
+    requires { length src.now ≤ length dst.old }
+    ensures prefix { IsLongestPrefix IsAscii src.now result }
+    ensures copied { take result dst.new ≡ take result src.now }
+    ensures behind { (n : ℕ) → n ≡ result + (length src.now - result) / 2
+        → drop n dst.new ≡ drop n dst.old }
+{
+    if src.len() < 2 * BYTE_LANES {
+        return copy_ascii_to_ascii(src, dst);
+    }
+    let run = copy_lanes(src, dst);
+    if run < BYTE_LANES {
+        return run;
+    }
+    copy_ascii_to_ascii(src, dst)
 }

@@ -1,7 +1,7 @@
 //! Whether a text may have to be laid out from right to left: a quick test that may say yes of a
 //! text without such characters, and never says no of one with them.
 
-ghost use Rattle.std.specs.Prelude.{◌≡◌, ◌↔◌, ◌<◌, IsTrue};
+ghost use Rattle.std.specs.Prelude.{◌≡◌, ◌↔◌, ◌<◌, IsTrue, false};
 ghost use Rattle.std.specs.List.{list_any};
 ghost use Rattle.std.specs.Str.{chars};
 ghost use Rattle.encoding_mem.specs.Latin1.{AllLatin1, IsLatin1Text};
@@ -10,8 +10,8 @@ ghost use Rattle.encoding_mem.specs.Bidi.{HasBidiUnit, IsBidiBytes};
 
 use crate::ascii_text::is_ascii;
 use crate::bidi_bytes::any_char_bidi;
-use crate::first::{first_byte_from, first_unit_from};
-use crate::latin1::{is_str_latin1, is_utf16_latin1};
+use crate::first::{first_byte_from, first_unit_from, vectors_of_units_below};
+use crate::latin1::is_str_latin1;
 use crate::latin1_bytes::is_latin1_text;
 
 /// What a text is, for layout.
@@ -99,6 +99,9 @@ pub fn is_utf8_bidi(bytes: &[u8]) -> bool
 // How many units are tested at a time, without a look at which of them is found.
 const BLOCK: usize = 16;
 
+// Where the Hebrew block begins. No unit below it is one.
+const HEBREW: u16 = 0x590;
+
 // `is_utf16_code_unit_bidi` without a branch, so that the compiler tests several units by one
 // vector.
 #[inline(always)]
@@ -116,11 +119,52 @@ fn is_unit_bidi(unit: u16) -> bool
         | (unit >= 0xD83A) & (unit <= 0xD83B)
 }
 
+// Whether a unit is in one of the four ranges in which those of `is_unit_bidi` lie, without a
+// branch.
+#[inline(always)]
+fn is_near_bidi(unit: u16) -> bool
+    ensures { IsTrue (is_bidi_unit unit) → IsTrue result }
+{
+    (unit >= 0x590) & (unit <= 0x8FF)
+        | (unit >= 0x200F) & (unit <= 0x2067)
+        | (unit >= 0xD802) & (unit <= 0xD83B)
+        | (unit >= 0xFB1D) & (unit <= 0xFEFE)
+}
+
+// Whether some unit is not below the Hebrew block, each of them tested.
+#[inline(always)]
+fn any_from_hebrew(units: &[u16]) -> bool
+    ensures { result ≡ false → list_any is_bidi_unit units.now ≡ false }
+{
+    let mut any = false;
+    for unit in units {
+        any |= *unit >= HEBREW;
+    }
+    any
+}
+
+// Whether some unit is in one of the four ranges, each of them tested.
+#[inline(always)]
+fn any_near_bidi(units: &[u16]) -> bool
+    ensures { result ≡ false → list_any is_bidi_unit units.now ≡ false }
+{
+    let mut any = false;
+    for unit in units {
+        any |= is_near_bidi(*unit);
+    }
+    any
+}
+
 // Whether some unit is, each of them tested.
 #[inline(always)]
 fn any_bidi_in(units: &[u16]) -> bool
     ensures { result ≡ list_any is_bidi_unit units.now }
 {
+    // Letters of the basic plane that are written from left to right, and Chinese characters, are
+    // in none of the four ranges, which are tested faster.
+    if !any_near_bidi(units) {
+        return false;
+    }
     let mut any = false;
     for unit in units {
         any |= is_unit_bidi(*unit);
@@ -128,21 +172,32 @@ fn any_bidi_in(units: &[u16]) -> bool
     any
 }
 
+// The same, for units that may be all below the Hebrew block: that is tested first.
+#[inline(always)]
+fn any_bidi_in_rest(units: &[u16]) -> bool
+    ensures { result ≡ list_any is_bidi_unit units.now }
+{
+    any_from_hebrew(units) && any_bidi_in(units)
+}
+
 fn any_unit_bidi(units: &[u16]) -> bool
     ensures { result ≡ list_any is_bidi_unit units.now }
 {
-    let mut at = 0;
+    let mut at = vectors_of_units_below(units, HEBREW);
     'wide: while units.len() - at >= BLOCK {
         if any_bidi_in(&units[at..at + BLOCK]) {
             return true;
         }
         at += BLOCK;
     }
+    if at == units.len() {
+        return false;
+    }
     // The last block may begin within what was tested.
     if units.len() >= BLOCK {
-        return any_bidi_in(&units[units.len() - BLOCK..]);
+        return any_bidi_in_rest(&units[units.len() - BLOCK..]);
     }
-    any_bidi_in(units)
+    any_bidi_in_rest(&units[at..])
 }
 
 /// Whether `is_utf16_code_unit_bidi` holds of some unit: in well-formed UTF-16, whether
@@ -150,7 +205,7 @@ fn any_unit_bidi(units: &[u16]) -> bool
 pub fn is_utf16_bidi(units: &[u16]) -> bool
     ensures { IsTrue result ↔ HasBidiUnit units.now }
 {
-    any_unit_bidi(&units[first_unit_from(units, 0x590)..])
+    any_unit_bidi(units)
 }
 
 /// `Latin1` if `is_str_latin1` holds of the text, `Bidi` if `is_str_bidi` does, and else
@@ -193,9 +248,10 @@ pub fn check_utf16_for_latin1_and_bidi(units: &[u16]) -> Latin1Bidi
     ensures latin1 { (result ≡ Latin1Bidi.Latin1) ↔ AllLatin1 units.now }
     ensures bidi { (result ≡ Latin1Bidi.Bidi) ↔ HasBidiUnit units.now }
 {
-    if is_utf16_latin1(units) {
+    let low = first_unit_from(units, 0x100);
+    if low == units.len() {
         Latin1Bidi::Latin1
-    } else if is_utf16_bidi(units) {
+    } else if any_unit_bidi(&units[low..]) {
         Latin1Bidi::Bidi
     } else {
         Latin1Bidi::LeftToRight

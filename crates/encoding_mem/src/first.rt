@@ -63,6 +63,15 @@ pub(crate) fn lanes_below(block: u8x16, limit: u8) -> usize
     }
 }
 
+/// Whether a vector of bytes is there, and all of them are ASCII.
+#[inline(always)]
+pub(crate) fn is_long_run(bytes: &[u8]) -> bool
+    ensures here { IsTrue result → 16 ≤ length bytes.now }
+    ensures ascii { IsTrue result → (k : ℕ) → k < 16 → slice_index bytes.now k < 0x80 }
+{
+    bytes.len() >= BYTE_LANES && lanes_below(u8x16::from_slice(bytes), 0x80) == BYTE_LANES
+}
+
 /// How many units stand before the first that is not below the limit; all of them if there is none.
 #[inline(always)]
 pub(crate) fn unit_lanes_below(block: u16x8, limit: u16) -> usize
@@ -133,6 +142,27 @@ pub(crate) fn first_unit_from(units: &[u16], limit: u16) -> usize
     }
     'units: while at < units.len() && units[at] < limit {
         at += 1;
+    }
+    at
+}
+
+// How many units at the start are below the limit, as far as whole vectors of them are. Where the
+// first other unit is is not asked.
+#[inline(always)]
+pub(crate) fn vectors_of_units_below(units: &[u16], limit: u16) -> usize
+    ensures within { result ≤ length units.now }
+    ensures below { (k : ℕ) → k < result → slice_index units.now k < limit }
+{
+    let mut at = 0;
+    'wide: while units.len() - at >= UNIT_BLOCK
+        && all_units_below(u16x32::from_slice(&units[at..]), limit)
+    {
+        at += UNIT_BLOCK;
+    }
+    'vectors: while units.len() - at >= UNIT_LANES
+        && unit_lanes_below(u16x8::from_slice(&units[at..]), limit) == UNIT_LANES
+    {
+        at += UNIT_LANES;
     }
     at
 }

@@ -6,8 +6,7 @@ ghost use Rattle.encoding_mem.specs.Conversions.{IsLongest, low_bytes};
 ghost use Rattle.encoding_mem.specs.Latin1.{AllLatin1, IsLatin1Text};
 ghost use Rattle.encoding_mem.specs.calls.Writing.{Adds};
 
-use crate::ascii_copies::copy_ascii_run;
-use crate::source::{Source, Utf8Source};
+use crate::ascii_copies::{copy_ascii_run, copy_short_run};
 
 /// Converts Latin1 to UTF-16 at the start of `dst`: each byte is a unit, and nothing after them
 /// changes. `dst` has at least as many units as `src` has bytes, which a comparison of lengths
@@ -60,16 +59,20 @@ pub(crate) fn narrow_text(text: &str, dst: &mut [u8]) -> usize
     ensures bytes { take result dst.new ≡ chars text.now }
     ensures behind { drop result dst.new ≡ drop result dst.old }
 {
-    let mut source = Utf8Source::new(text);
+    let bytes = text.as_bytes();
+    let mut read = 0;
     let mut written = 0;
-    'characters: while let Some((c, len)) = source.peek() {
-        if u32::from(c) < 0x80 {
-            let run = source.copy_ascii(&mut dst[written..]);
-            written += run;
-        } else {
-            dst[written] = u32::from(c) as u8;
+    // A run may change a byte for every two that are left to read. What follows it has at least as
+    // many characters, and is written over them.
+    'runs: while read < bytes.len() {
+        let run = copy_short_run(&bytes[read..], &mut dst[written..]);
+        read += run;
+        written += run;
+        if read < bytes.len() {
+            // The UTF-8 of this character has two bytes.
+            dst[written] = bytes[read] % 4 * 64 + bytes[read + 1] % 64;
+            read += 2;
             written += 1;
-            source.advance_by(len);
         }
     }
     written

@@ -8,7 +8,7 @@ ghost use Rattle.std.specs.Str.{IsCharBoundary};
 ghost use Rattle.encoding_mem.specs.calls.TextUnits.{IsInUnits, size_from_lead};
 ghost use Rattle.encoding_mem.specs.calls.Writing.{len_utf16};
 
-use crate::first::{BYTE_LANES, first_byte_from, lanes_below};
+use crate::first::{BYTE_LANES, first_byte_from, is_long_run, lanes_below};
 use crate::latin1_conversions::convert_latin1_to_utf16;
 use crate::source::first_char;
 use std::simd::prelude::*;
@@ -78,14 +78,6 @@ pub(crate) fn put_run(
         read += size;
     }
     (read, written)
-}
-
-// Whether a vector of ASCII is next.
-#[inline(always)]
-fn is_long_run(bytes: &[u8]) -> bool
-    ensures { IsTrue result → (k : ℕ) → k < 16 → slice_index bytes.now k < 0x80 }
-{
-    bytes.len() >= BYTE_LANES && lanes_below(u8x16::from_slice(bytes), 0x80) == BYTE_LANES
 }
 
 // Puts the ASCII at the start of a vector of bytes as units, and returns how many these are. The
