@@ -130,11 +130,12 @@ def whole_rows(given, work):
             with open(target_path, "rb") as file:
                 if file.read() != made:
                     cells[0] += " (differs)"
-            ratio, own, theirs = compared(call.spent, lambda: programs.run(command, path, os.devnull)[0], given.rounds)
+            spent = lambda: programs.run(command, path, os.devnull)[0]
+            ratio, own, theirs = compared(call.spent, spent, given.rounds)
+            by_steps, own_by_steps, _ = compared(steps.spent, spent, given.rounds)
             if len(cells) == 1:
-                by_steps = statistics.median(steps.spent() for _ in range(given.rounds))
-                cells += ["%.0f" % (size / own), "%.0f" % (size / by_steps)]
-            cells += ["%.0f" % (size / theirs), str(ratio)]
+                cells += ["%.0f" % (size / own), "%.0f" % (size / own_by_steps)]
+            cells += ["%.0f" % (size / theirs), str(ratio), str(by_steps)]
         yield cells
 
 
@@ -186,7 +187,9 @@ def main():
         whole = list(shown(whole_rows(given, work)))
     short = list(shown(short_rows(given)))
     if given.write:
-        head = ["Workload", "`jillapun_convert`", "by steps", "recode", "to recode", "encoding_rs", "to encoding_rs"]
+        head = ["Workload", "`jillapun_convert`", "by steps"]
+        for name in ("recode", "encoding_rs"):
+            head += [name, "to " + name, "by steps, to " + name]
         programs.write(PAGE, "c interface", about + "\n\n" + programs.table(head[: len(whole[0])], whole))
         head = ["20 bytes", "`jillapun.decode`", "Python", "`jillapun.encode`", "Python", "`jillapun_convert` alone"]
         programs.write(PAGE, "short texts", programs.table(head, short))
