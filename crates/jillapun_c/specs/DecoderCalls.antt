@@ -17,7 +17,7 @@ use Rattle.jillapun_c.specs.EncodingNumbers.{mark_at}
 use Rattle.jillapun_c.specs.Openings.{MadeIfReady}
 use Rattle.jillapun_c.specs.declared.coder.Coder.{Coder}
 use Rattle.jillapun_c.specs.declared.progress.Progress.{Progress}
-use Rattle.jillapun_c.specs.declared.status.TheConstants.{UNKNOWN, INPUT_EMPTY, OUTPUT_FULL, MALFORMED, REFUSED}
+use Rattle.jillapun_c.specs.declared.status.TheConstants.{CLOSED, FINISHED, INPUT_EMPTY, MALFORMED, OK, OUTPUT_FULL, REFUSED, UNKNOWN}
 
 -- the handle holds a decoder of a new stream
 pub record HoldsNewDecoder (tables : IndexLists) (e : Encoding) (mark : Mark) (held : Option Coder) : Type 0 where
@@ -79,3 +79,10 @@ abbrev pub TellsLatin1Length : Option Decoder → (bytes : List ℕ) (returned :
 TellsLatin1Length None bytes returned = returned ≡ REFUSED
 TellsLatin1Length (Some d) bytes returned =
     ((decoder_view d).finished ≡ true → returned ≡ REFUSED) × ((decoder_view d).finished ≡ false → TellsIfKnown d bytes returned)
+
+-- What the status of a call on a decoder says: the handle holds none, its stream has ended, or all was done and this
+-- holds of it.
+pub record AnswersDecoder (held : Option Coder) (status : ℕ) (Then : Decoder → Type 0) : Type 0 where
+  pub closed : decoder_in held ≡ None → status ≡ CLOSED
+  pub finished : (d : Decoder) → decoder_in held ≡ Some d → (decoder_view d).finished ≡ true → status ≡ FINISHED
+  pub done : (d : Decoder) → decoder_in held ≡ Some d → (decoder_view d).finished ≡ false → (status ≡ OK) × Then d

@@ -14,7 +14,7 @@ use Rattle.jillapun_c.specs.DecoderCalls.{text_outcome}
 use Rattle.jillapun_c.specs.Openings.{MadeIfReady}
 use Rattle.jillapun_c.specs.declared.coder.Coder.{Coder}
 use Rattle.jillapun_c.specs.declared.encoder_progress.EncoderProgress.{EncoderProgress}
-use Rattle.jillapun_c.specs.declared.status.TheConstants.{INPUT_EMPTY, OUTPUT_FULL, UNMAPPABLE, REFUSED}
+use Rattle.jillapun_c.specs.declared.status.TheConstants.{CLOSED, INPUT_EMPTY, OK, OUTPUT_FULL, REFUSED, UNMAPPABLE}
 
 -- an encoder of a new stream is made, into the output encoding, if the tables are ready for that
 abbrev pub MakesEncoder : (new : Option Coder) (status : ℕ) → IndexLists → Encoding → Type 0
@@ -53,3 +53,8 @@ pub record EncodesUpToLost (is_units : Bool) (before : EncoderState) (after : Op
 abbrev pub TellsNumber : Option EncoderState → (EncoderState → Option ℕ) → ℕ → Type 0
 TellsNumber None room returned = returned ≡ REFUSED
 TellsNumber (Some e) room returned = returned ≡ unwrap_or (room e) REFUSED
+
+-- What the status of a call on an encoder says: the handle holds none, or all was done and this holds of it.
+pub record AnswersEncoder (held : Option Coder) (status : ℕ) (Then : EncoderState → Type 0) : Type 0 where
+  pub closed : encoder_in held ≡ None → status ≡ CLOSED
+  pub done : (e : EncoderState) → encoder_in held ≡ Some e → (status ≡ OK) × Then e

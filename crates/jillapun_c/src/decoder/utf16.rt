@@ -1,14 +1,11 @@
 //! The exports that decode to UTF-16.
 
-ghost use Rattle.std.specs.Prelude.{◌≡◌, ◌≢◌, None, Some, true, false, drop, length};
+ghost use Rattle.std.specs.Prelude.{◌≡◌, ◌≢◌, Some, drop, length};
 ghost use Rattle.encoding_mem.specs.calls.Writing.{Adds, encode_utf16_all};
 ghost use Rattle.encoding_mem.specs.declared.room.OutputUnit.TheVariants.{Units};
-ghost use Rattle.encoding_front.specs.calls.DecoderViews.{decoder_view};
-ghost use Rattle.encoding_front.specs.declared.decoder.Decoder.{Decoder};
-ghost use Rattle.jillapun_c.specs.Coders.{decoder_in};
-ghost use Rattle.jillapun_c.specs.DecoderCalls.{Decodes, DecodesUpToFault};
+ghost use Rattle.jillapun_c.specs.DecoderCalls.{AnswersDecoder, Decodes, DecodesUpToFault};
 ghost use Rattle.jillapun_c.specs.declared.progress.TheConstants.Progress.{NONE};
-ghost use Rattle.jillapun_c.specs.declared.status.TheConstants.{CLOSED, FINISHED, OK};
+ghost use Rattle.jillapun_c.specs.declared.status.TheConstants.{OK};
 
 use crate::coder::Coder;
 use crate::decoder::DecoderHandle;
@@ -36,14 +33,10 @@ pub extern "C" fn jillapun_decoder_decode_to_utf16(
     last: bool,
     progress: &mut Progress,
 ) -> u8
-    ensures closed { decoder_in decoder.old.coder.coder ≡ None → result ≡ CLOSED }
-    ensures finished { (d : Decoder) → decoder_in decoder.old.coder.coder ≡ Some d
-        → (decoder_view d).finished ≡ true → result ≡ FINISHED }
-    ensures decodes { (d : Decoder) → decoder_in decoder.old.coder.coder ≡ Some d
-        → (decoder_view d).finished ≡ false → (result ≡ OK)
-        × Decodes Units d decoder.new.coder.coder src.now last
+    ensures decodes { AnswersDecoder decoder.old.coder.coder result
+        (λ d. Decodes Units d decoder.new.coder.coder src.now last
         (λ text. Adds dst.old 0 (encode_utf16_all text) dst.new progress.new.written)
-        (length dst.old) (length (drop progress.new.written dst.new)) 2 1 progress.new }
+        (length dst.old) (length (drop progress.new.written dst.new)) 2 1 progress.new) }
     ensures unchanged { result ≢ OK
         → (dst.new ≡ dst.old) × (decoder.new.coder.coder ≡ decoder.old.coder.coder) }
     ensures nothing { result ≢ OK → progress.new ≡ NONE }
@@ -65,14 +58,10 @@ fn to_utf16(
     last: bool,
     progress: &mut Progress,
 ) -> u8
-    ensures closed { decoder_in (Some coder.old) ≡ None → result ≡ CLOSED }
-    ensures finished { (d : Decoder) → decoder_in (Some coder.old) ≡ Some d
-        → (decoder_view d).finished ≡ true → result ≡ FINISHED }
-    ensures decodes { (d : Decoder) → decoder_in (Some coder.old) ≡ Some d
-        → (decoder_view d).finished ≡ false → (result ≡ OK)
-        × Decodes Units d (Some coder.new) src.now last
+    ensures decodes { AnswersDecoder (Some coder.old) result
+        (λ d. Decodes Units d (Some coder.new) src.now last
         (λ text. Adds dst.old 0 (encode_utf16_all text) dst.new progress.new.written)
-        (length dst.old) (length (drop progress.new.written dst.new)) 2 1 progress.new }
+        (length dst.old) (length (drop progress.new.written dst.new)) 2 1 progress.new) }
     ensures unchanged { result ≢ OK → (dst.new ≡ dst.old) × (coder.new ≡ coder.old) }
     ensures untold { result ≢ OK → progress.new ≡ progress.old }
 {
@@ -117,14 +106,10 @@ pub extern "C" fn jillapun_decoder_decode_to_utf16_without_replacement(
     last: bool,
     progress: &mut Progress,
 ) -> u8
-    ensures closed { decoder_in decoder.old.coder.coder ≡ None → result ≡ CLOSED }
-    ensures finished { (d : Decoder) → decoder_in decoder.old.coder.coder ≡ Some d
-        → (decoder_view d).finished ≡ true → result ≡ FINISHED }
-    ensures decodes { (d : Decoder) → decoder_in decoder.old.coder.coder ≡ Some d
-        → (decoder_view d).finished ≡ false → (result ≡ OK)
-        × DecodesUpToFault Units d decoder.new.coder.coder src.now last
+    ensures decodes { AnswersDecoder decoder.old.coder.coder result
+        (λ d. DecodesUpToFault Units d decoder.new.coder.coder src.now last
         (λ text. Adds dst.old 0 (encode_utf16_all text) dst.new progress.new.written)
-        (length dst.old) (length (drop progress.new.written dst.new)) 2 1 progress.new }
+        (length dst.old) (length (drop progress.new.written dst.new)) 2 1 progress.new) }
     ensures unchanged { result ≢ OK
         → (dst.new ≡ dst.old) × (decoder.new.coder.coder ≡ decoder.old.coder.coder) }
     ensures nothing { result ≢ OK → progress.new ≡ NONE }
@@ -146,14 +131,10 @@ fn to_utf16_part(
     last: bool,
     progress: &mut Progress,
 ) -> u8
-    ensures closed { decoder_in (Some coder.old) ≡ None → result ≡ CLOSED }
-    ensures finished { (d : Decoder) → decoder_in (Some coder.old) ≡ Some d
-        → (decoder_view d).finished ≡ true → result ≡ FINISHED }
-    ensures decodes { (d : Decoder) → decoder_in (Some coder.old) ≡ Some d
-        → (decoder_view d).finished ≡ false → (result ≡ OK)
-        × DecodesUpToFault Units d (Some coder.new) src.now last
+    ensures decodes { AnswersDecoder (Some coder.old) result
+        (λ d. DecodesUpToFault Units d (Some coder.new) src.now last
         (λ text. Adds dst.old 0 (encode_utf16_all text) dst.new progress.new.written)
-        (length dst.old) (length (drop progress.new.written dst.new)) 2 1 progress.new }
+        (length dst.old) (length (drop progress.new.written dst.new)) 2 1 progress.new) }
     ensures unchanged { result ≢ OK → (dst.new ≡ dst.old) × (coder.new ≡ coder.old) }
     ensures untold { result ≢ OK → progress.new ≡ progress.old }
 {

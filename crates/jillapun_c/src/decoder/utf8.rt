@@ -1,15 +1,12 @@
 //! The exports that decode to UTF-8.
 
-ghost use Rattle.std.specs.Prelude.{◌≡◌, ◌≢◌, None, Some, true};
-ghost use Rattle.std.specs.Prelude.{false, drop, length, encode_utf8_all};
+ghost use Rattle.std.specs.Prelude.{◌≡◌, ◌≢◌, Some};
+ghost use Rattle.std.specs.Prelude.{drop, length, encode_utf8_all};
 ghost use Rattle.encoding_mem.specs.calls.Writing.{Adds};
 ghost use Rattle.encoding_mem.specs.declared.room.OutputUnit.TheVariants.{Bytes, Replaced};
-ghost use Rattle.encoding_front.specs.calls.DecoderViews.{decoder_view};
-ghost use Rattle.encoding_front.specs.declared.decoder.Decoder.{Decoder};
-ghost use Rattle.jillapun_c.specs.Coders.{decoder_in};
-ghost use Rattle.jillapun_c.specs.DecoderCalls.{Decodes, DecodesUpToFault};
+ghost use Rattle.jillapun_c.specs.DecoderCalls.{AnswersDecoder, Decodes, DecodesUpToFault};
 ghost use Rattle.jillapun_c.specs.declared.progress.TheConstants.Progress.{NONE};
-ghost use Rattle.jillapun_c.specs.declared.status.TheConstants.{CLOSED, FINISHED, OK};
+ghost use Rattle.jillapun_c.specs.declared.status.TheConstants.{OK};
 
 use crate::coder::Coder;
 use crate::decoder::DecoderHandle;
@@ -37,14 +34,10 @@ pub extern "C" fn jillapun_decoder_decode_to_utf8(
     last: bool,
     progress: &mut Progress,
 ) -> u8
-    ensures closed { decoder_in decoder.old.coder.coder ≡ None → result ≡ CLOSED }
-    ensures finished { (d : Decoder) → decoder_in decoder.old.coder.coder ≡ Some d
-        → (decoder_view d).finished ≡ true → result ≡ FINISHED }
-    ensures decodes { (d : Decoder) → decoder_in decoder.old.coder.coder ≡ Some d
-        → (decoder_view d).finished ≡ false → (result ≡ OK)
-        × Decodes Replaced d decoder.new.coder.coder src.now last
+    ensures decodes { AnswersDecoder decoder.old.coder.coder result
+        (λ d. Decodes Replaced d decoder.new.coder.coder src.now last
         (λ text. Adds dst.old 0 (encode_utf8_all text) dst.new progress.new.written)
-        (length dst.old) (length (drop progress.new.written dst.new)) 4 3 progress.new }
+        (length dst.old) (length (drop progress.new.written dst.new)) 4 3 progress.new) }
     ensures unchanged { result ≢ OK
         → (dst.new ≡ dst.old) × (decoder.new.coder.coder ≡ decoder.old.coder.coder) }
     ensures nothing { result ≢ OK → progress.new ≡ NONE }
@@ -60,14 +53,10 @@ pub extern "C" fn jillapun_decoder_decode_to_utf8(
 
 // Decodes to UTF-8, with U+FFFD for each malformed sequence.
 fn to_utf8(coder: &mut Coder, src: &[u8], dst: &mut [u8], last: bool, progress: &mut Progress) -> u8
-    ensures closed { decoder_in (Some coder.old) ≡ None → result ≡ CLOSED }
-    ensures finished { (d : Decoder) → decoder_in (Some coder.old) ≡ Some d
-        → (decoder_view d).finished ≡ true → result ≡ FINISHED }
-    ensures decodes { (d : Decoder) → decoder_in (Some coder.old) ≡ Some d
-        → (decoder_view d).finished ≡ false → (result ≡ OK)
-        × Decodes Replaced d (Some coder.new) src.now last
+    ensures decodes { AnswersDecoder (Some coder.old) result
+        (λ d. Decodes Replaced d (Some coder.new) src.now last
         (λ text. Adds dst.old 0 (encode_utf8_all text) dst.new progress.new.written)
-        (length dst.old) (length (drop progress.new.written dst.new)) 4 3 progress.new }
+        (length dst.old) (length (drop progress.new.written dst.new)) 4 3 progress.new) }
     ensures unchanged { result ≢ OK → (dst.new ≡ dst.old) × (coder.new ≡ coder.old) }
     ensures untold { result ≢ OK → progress.new ≡ progress.old }
 {
@@ -112,14 +101,10 @@ pub extern "C" fn jillapun_decoder_decode_to_utf8_without_replacement(
     last: bool,
     progress: &mut Progress,
 ) -> u8
-    ensures closed { decoder_in decoder.old.coder.coder ≡ None → result ≡ CLOSED }
-    ensures finished { (d : Decoder) → decoder_in decoder.old.coder.coder ≡ Some d
-        → (decoder_view d).finished ≡ true → result ≡ FINISHED }
-    ensures decodes { (d : Decoder) → decoder_in decoder.old.coder.coder ≡ Some d
-        → (decoder_view d).finished ≡ false → (result ≡ OK)
-        × DecodesUpToFault Bytes d decoder.new.coder.coder src.now last
+    ensures decodes { AnswersDecoder decoder.old.coder.coder result
+        (λ d. DecodesUpToFault Bytes d decoder.new.coder.coder src.now last
         (λ text. Adds dst.old 0 (encode_utf8_all text) dst.new progress.new.written)
-        (length dst.old) (length (drop progress.new.written dst.new)) 4 3 progress.new }
+        (length dst.old) (length (drop progress.new.written dst.new)) 4 3 progress.new) }
     ensures unchanged { result ≢ OK
         → (dst.new ≡ dst.old) × (decoder.new.coder.coder ≡ decoder.old.coder.coder) }
     ensures nothing { result ≢ OK → progress.new ≡ NONE }
@@ -141,14 +126,10 @@ fn to_utf8_part(
     last: bool,
     progress: &mut Progress,
 ) -> u8
-    ensures closed { decoder_in (Some coder.old) ≡ None → result ≡ CLOSED }
-    ensures finished { (d : Decoder) → decoder_in (Some coder.old) ≡ Some d
-        → (decoder_view d).finished ≡ true → result ≡ FINISHED }
-    ensures decodes { (d : Decoder) → decoder_in (Some coder.old) ≡ Some d
-        → (decoder_view d).finished ≡ false → (result ≡ OK)
-        × DecodesUpToFault Bytes d (Some coder.new) src.now last
+    ensures decodes { AnswersDecoder (Some coder.old) result
+        (λ d. DecodesUpToFault Bytes d (Some coder.new) src.now last
         (λ text. Adds dst.old 0 (encode_utf8_all text) dst.new progress.new.written)
-        (length dst.old) (length (drop progress.new.written dst.new)) 4 3 progress.new }
+        (length dst.old) (length (drop progress.new.written dst.new)) 4 3 progress.new) }
     ensures unchanged { result ≢ OK → (dst.new ≡ dst.old) × (coder.new ≡ coder.old) }
     ensures untold { result ≢ OK → progress.new ≡ progress.old }
 {

@@ -1,13 +1,11 @@
 //! The exports that encode UTF-16.
 
-ghost use Rattle.std.specs.Prelude.{◌≡◌, ◌≢◌, ◌≤◌, None, Some, true, drop, length};
+ghost use Rattle.std.specs.Prelude.{◌≡◌, ◌≢◌, ◌≤◌, Some, true, drop, length};
 ghost use Rattle.std.specs.Char.Utf16.{utf16_lossy_chars};
 ghost use Rattle.encoding_mem.specs.Conversions.{IsUnitBoundary};
-ghost use Rattle.encoding_front.specs.calls.Encoder.{EncoderState};
-ghost use Rattle.jillapun_c.specs.Coders.{encoder_in};
-ghost use Rattle.jillapun_c.specs.EncoderCalls.{EncodesAll, EncodesUpToLost};
+ghost use Rattle.jillapun_c.specs.EncoderCalls.{AnswersEncoder, EncodesAll, EncodesUpToLost};
 ghost use Rattle.jillapun_c.specs.declared.encoder_progress.TheConstants.EncoderProgress.{NONE};
-ghost use Rattle.jillapun_c.specs.declared.status.TheConstants.{CLOSED, OK};
+ghost use Rattle.jillapun_c.specs.declared.status.TheConstants.{OK};
 
 use crate::coder::Coder;
 use crate::encoder::EncoderHandle;
@@ -35,11 +33,10 @@ pub extern "C" fn jillapun_encoder_encode_from_utf16(
     last: bool,
     progress: &mut EncoderProgress,
 ) -> u8
-    ensures closed { encoder_in encoder.old.coder.coder ≡ None → result ≡ CLOSED }
-    ensures encodes { (e : EncoderState) → encoder_in encoder.old.coder.coder ≡ Some e
-        → (result ≡ OK) × EncodesAll true e encoder.new.coder.coder last
-        (utf16_lossy_chars text.now) (utf16_lossy_chars (drop progress.new.read text.now))
-        (length text.now) dst.old dst.new progress.new }
+    ensures encodes { AnswersEncoder encoder.old.coder.coder result
+        (λ e. EncodesAll true e encoder.new.coder.coder last (utf16_lossy_chars text.now)
+        (utf16_lossy_chars (drop progress.new.read text.now)) (length text.now) dst.old dst.new
+        progress.new) }
     ensures read { result ≡ OK → (progress.new.read ≤ length text.now)
         × IsUnitBoundary text.now progress.new.read }
     ensures unchanged { result ≢ OK
@@ -63,11 +60,10 @@ fn from_utf16(
     last: bool,
     progress: &mut EncoderProgress,
 ) -> u8
-    ensures closed { encoder_in (Some coder.old) ≡ None → result ≡ CLOSED }
-    ensures encodes { (e : EncoderState) → encoder_in (Some coder.old) ≡ Some e
-        → (result ≡ OK) × EncodesAll true e (Some coder.new) last (utf16_lossy_chars text.now)
+    ensures encodes { AnswersEncoder (Some coder.old) result
+        (λ e. EncodesAll true e (Some coder.new) last (utf16_lossy_chars text.now)
         (utf16_lossy_chars (drop progress.new.read text.now)) (length text.now) dst.old dst.new
-        progress.new }
+        progress.new) }
     ensures read { result ≡ OK → (progress.new.read ≤ length text.now)
         × IsUnitBoundary text.now progress.new.read }
     ensures unchanged { result ≢ OK → (dst.new ≡ dst.old) × (coder.new ≡ coder.old) }
@@ -107,11 +103,10 @@ pub extern "C" fn jillapun_encoder_encode_from_utf16_without_replacement(
     last: bool,
     progress: &mut EncoderProgress,
 ) -> u8
-    ensures closed { encoder_in encoder.old.coder.coder ≡ None → result ≡ CLOSED }
-    ensures encodes { (e : EncoderState) → encoder_in encoder.old.coder.coder ≡ Some e
-        → (result ≡ OK) × EncodesUpToLost true e encoder.new.coder.coder last
-        (utf16_lossy_chars text.now) (utf16_lossy_chars (drop progress.new.read text.now))
-        (length text.now) dst.old dst.new progress.new }
+    ensures encodes { AnswersEncoder encoder.old.coder.coder result
+        (λ e. EncodesUpToLost true e encoder.new.coder.coder last (utf16_lossy_chars text.now)
+        (utf16_lossy_chars (drop progress.new.read text.now)) (length text.now) dst.old dst.new
+        progress.new) }
     ensures read { result ≡ OK → (progress.new.read ≤ length text.now)
         × IsUnitBoundary text.now progress.new.read }
     ensures unchanged { result ≢ OK
@@ -135,11 +130,10 @@ fn from_utf16_part(
     last: bool,
     progress: &mut EncoderProgress,
 ) -> u8
-    ensures closed { encoder_in (Some coder.old) ≡ None → result ≡ CLOSED }
-    ensures encodes { (e : EncoderState) → encoder_in (Some coder.old) ≡ Some e
-        → (result ≡ OK) × EncodesUpToLost true e (Some coder.new) last (utf16_lossy_chars text.now)
+    ensures encodes { AnswersEncoder (Some coder.old) result
+        (λ e. EncodesUpToLost true e (Some coder.new) last (utf16_lossy_chars text.now)
         (utf16_lossy_chars (drop progress.new.read text.now)) (length text.now) dst.old dst.new
-        progress.new }
+        progress.new) }
     ensures read { result ≡ OK → (progress.new.read ≤ length text.now)
         × IsUnitBoundary text.now progress.new.read }
     ensures unchanged { result ≢ OK → (dst.new ≡ dst.old) × (coder.new ≡ coder.old) }

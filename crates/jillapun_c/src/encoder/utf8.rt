@@ -1,12 +1,11 @@
 //! The exports that encode UTF-8.
 
-ghost use Rattle.std.specs.Prelude.{◌≡◌, ◌≢◌, None, Some, false, drop, length};
+ghost use Rattle.std.specs.Prelude.{◌≡◌, ◌≢◌, Some, false, drop, length};
 ghost use Rattle.std.specs.Str.{IsUtf8, chars};
-ghost use Rattle.encoding_front.specs.calls.Encoder.{EncoderState, ReadsText};
-ghost use Rattle.jillapun_c.specs.Coders.{encoder_in};
-ghost use Rattle.jillapun_c.specs.EncoderCalls.{EncodesAll, EncodesUpToLost};
+ghost use Rattle.encoding_front.specs.calls.Encoder.{ReadsText};
+ghost use Rattle.jillapun_c.specs.EncoderCalls.{AnswersEncoder, EncodesAll, EncodesUpToLost};
 ghost use Rattle.jillapun_c.specs.declared.encoder_progress.TheConstants.EncoderProgress.{NONE};
-ghost use Rattle.jillapun_c.specs.declared.status.TheConstants.{CLOSED, NOT_UTF8, OK};
+ghost use Rattle.jillapun_c.specs.declared.status.TheConstants.{NOT_UTF8, OK};
 
 use crate::coder::Coder;
 use crate::encoder::EncoderHandle;
@@ -37,11 +36,9 @@ pub extern "C" fn jillapun_encoder_encode_from_utf8(
     progress: &mut EncoderProgress,
 ) -> u8
     ensures text { (¬ (IsUtf8 text.now)) → result ≡ NOT_UTF8 }
-    ensures closed { IsUtf8 text.now → encoder_in encoder.old.coder.coder ≡ None → result ≡ CLOSED }
-    ensures encodes { (e : EncoderState) → IsUtf8 text.now
-        → encoder_in encoder.old.coder.coder ≡ Some e
-        → (result ≡ OK) × EncodesAll false e encoder.new.coder.coder last (chars text.now)
-        (chars (drop progress.new.read text.now)) (length text.now) dst.old dst.new progress.new }
+    ensures encodes { IsUtf8 text.now → AnswersEncoder encoder.old.coder.coder result
+        (λ e. EncodesAll false e encoder.new.coder.coder last (chars text.now)
+        (chars (drop progress.new.read text.now)) (length text.now) dst.old dst.new progress.new) }
     ensures read { result ≡ OK → ReadsText text.now progress.new.read }
     ensures unchanged { result ≢ OK
         → (dst.new ≡ dst.old) × (encoder.new.coder.coder ≡ encoder.old.coder.coder) }
@@ -67,10 +64,9 @@ fn from_utf8(
     last: bool,
     progress: &mut EncoderProgress,
 ) -> u8
-    ensures closed { encoder_in (Some coder.old) ≡ None → result ≡ CLOSED }
-    ensures encodes { (e : EncoderState) → encoder_in (Some coder.old) ≡ Some e
-        → (result ≡ OK) × EncodesAll false e (Some coder.new) last (chars text.now)
-        (chars (drop progress.new.read text.now)) (length text.now) dst.old dst.new progress.new }
+    ensures encodes { AnswersEncoder (Some coder.old) result
+        (λ e. EncodesAll false e (Some coder.new) last (chars text.now)
+        (chars (drop progress.new.read text.now)) (length text.now) dst.old dst.new progress.new) }
     ensures read { result ≡ OK → ReadsText text.now progress.new.read }
     ensures unchanged { result ≢ OK → (dst.new ≡ dst.old) × (coder.new ≡ coder.old) }
     ensures untold { result ≢ OK → progress.new ≡ progress.old }
@@ -111,11 +107,9 @@ pub extern "C" fn jillapun_encoder_encode_from_utf8_without_replacement(
     progress: &mut EncoderProgress,
 ) -> u8
     ensures text { (¬ (IsUtf8 text.now)) → result ≡ NOT_UTF8 }
-    ensures closed { IsUtf8 text.now → encoder_in encoder.old.coder.coder ≡ None → result ≡ CLOSED }
-    ensures encodes { (e : EncoderState) → IsUtf8 text.now
-        → encoder_in encoder.old.coder.coder ≡ Some e
-        → (result ≡ OK) × EncodesUpToLost false e encoder.new.coder.coder last (chars text.now)
-        (chars (drop progress.new.read text.now)) (length text.now) dst.old dst.new progress.new }
+    ensures encodes { IsUtf8 text.now → AnswersEncoder encoder.old.coder.coder result
+        (λ e. EncodesUpToLost false e encoder.new.coder.coder last (chars text.now)
+        (chars (drop progress.new.read text.now)) (length text.now) dst.old dst.new progress.new) }
     ensures read { result ≡ OK → ReadsText text.now progress.new.read }
     ensures unchanged { result ≢ OK
         → (dst.new ≡ dst.old) × (encoder.new.coder.coder ≡ encoder.old.coder.coder) }
@@ -141,10 +135,9 @@ fn from_utf8_part(
     last: bool,
     progress: &mut EncoderProgress,
 ) -> u8
-    ensures closed { encoder_in (Some coder.old) ≡ None → result ≡ CLOSED }
-    ensures encodes { (e : EncoderState) → encoder_in (Some coder.old) ≡ Some e
-        → (result ≡ OK) × EncodesUpToLost false e (Some coder.new) last (chars text.now)
-        (chars (drop progress.new.read text.now)) (length text.now) dst.old dst.new progress.new }
+    ensures encodes { AnswersEncoder (Some coder.old) result
+        (λ e. EncodesUpToLost false e (Some coder.new) last (chars text.now)
+        (chars (drop progress.new.read text.now)) (length text.now) dst.old dst.new progress.new) }
     ensures read { result ≡ OK → ReadsText text.now progress.new.read }
     ensures unchanged { result ≢ OK → (dst.new ≡ dst.old) × (coder.new ≡ coder.old) }
     ensures untold { result ≢ OK → progress.new ≡ progress.old }

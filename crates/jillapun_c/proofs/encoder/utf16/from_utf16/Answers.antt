@@ -1,18 +1,21 @@
-use Rattle.std.proofs.Common.{refl}
+use Rattle.std.proofs.Common.{refl, rules}
 use Rattle.jillapun_c.proofs.CoderLemmas.{held_encoder}
 use Rattle.jillapun_c.proofs.encoder.utf16.from_utf16.Goals as goal
 
 pub returns-clause-encodes : goal.returns-clause-encodes
-returns-clause-encodes c e held = rw (← held_encoder c.args.coder.now _ e c.in-Encoder.is held) (
-  refl,
-  record {
-    encoder = c.encode_from_utf16-outcome.new.self;
-    held = refl;
-    outcome = c.encode_from_utf16-outcome.result.0;
-    told = c.outcome_of.ensures;
-    no_scalar = refl;
-    wrote = c.encode_from_utf16-outcome.ensures.wrote;
-    call = c.encode_from_utf16-outcome.ensures.call;
-    enough = c.encode_from_utf16-outcome.ensures.enough;
-  },
-)
+returns-clause-encodes c = record {
+  closed = search rules;
+  done = λ e held. rw (← held_encoder c.args.coder.now _ e c.in-Encoder.is held) (
+    refl,
+    record {
+      encoder = c.encode_from_utf16-outcome.new.self;
+      held = refl;
+      outcome = c.encode_from_utf16-outcome.result.0;
+      told = c.outcome_of.ensures;
+      no_scalar = refl;
+      wrote = c.encode_from_utf16-outcome.ensures.wrote;
+      call = c.encode_from_utf16-outcome.ensures.call;
+      enough = c.encode_from_utf16-outcome.ensures.enough;
+    },
+  );
+}
