@@ -1,5 +1,6 @@
 -- A conversion by steps: what a converter is, and what a call of its handle does.
 use Rattle.std.specs.Prelude.{◌≡◌, ◌≢◌, ◌⊎◌, ◌↔◌, ◌≤◌, ℕ, Bool, true, false, IsFalse, IsTrue, List, [], ◌++◌, drop, length, take, Option, None, Some, Result, Ok, IfErr, OnOk}
+use Rattle.std.specs.Io.KnownBytes.{IsAtEnd}
 use Rattle.recode.specs.Devices.{Devices, known}
 use Rattle.recode.specs.Session.{IsNewSession, IsOver, IsStepped, Tells, View}
 use Rattle.recode.specs.Step.{Finishes, Stops, StepsOn}
@@ -47,6 +48,7 @@ pub record IsNewConverter (c : Converter) (j : Job) : Type 0 where
 pub record StepReturns (before after : Devices) (v v' : View) (answer : Result Progress Fault) : Type 0 where
   pub more : answer ≡ Ok Progress.More → StepsOn before after v.job.limit v.state v'.state
   pub done : answer ≡ Ok Progress.Done → Finishes before after v.job.limit v.state v'.state
+  pub end : answer ≡ Ok Progress.Done → IsAtEnd before.input
   pub fault : IfErr answer (Stops before after v.job.limit v.state)
   pub session : IsStepped v v' answer
 

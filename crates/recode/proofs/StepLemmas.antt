@@ -1,5 +1,5 @@
 -- How a step's parts make its clauses. What is left if a conversion failed.
-use Rattle.std.proofs.Common.{Err, ◌⊎◌, ◌≡◌, ℕ, ◌+◌, ◌≤◌, ◌<◌, add-zero, arith, length-append, append_assoc, List, [], ◌++◌, length, Option, Bool, true, false, refl, sym, ap, ◌∙◌, subst, append-nil, take, inl, inr}
+use Rattle.std.proofs.Common.{Err, ◌⊎◌, ◌≡◌, ℕ, ◌+◌, ◌≤◌, ◌<◌, add-zero, arith, length-append, append_assoc, List, [], ◌++◌, length, Option, None, Some, Bool, true, false, refl, sym, ap, ◌∙◌, subst, append-nil, take, inl, inr}
 use Rattle.std.specs.Io.KnownBytes.{Consumes, Keeps, IsAtEnd, Appends}
 use Rattle.std.proofs.KnownBytes.{Consumes-nil, Consumes-kept, Consumes-trans, Appends-kept, Appends-trans, Keeps-refl}
 use Rattle.encoding_mem.specs.Items.{Item}
@@ -306,3 +306,9 @@ module _ (before after : Devices) (flushed : Written) (log : Option (List ℕ)) 
         prefix = λ r h. ([], ap (λ t. tagged (trace j t)) (ap (λ t. k.input ++ t) (h refl) ∙ append-nil k.input) ∙ sym (append-nil all));
         stopped = λ r h. stop all (trace j (k.input ++ r));
       }
+
+-- a reader that gave no byte, and is at its end, was at its end before
+pub ended_before : (old new : Option (List ℕ)) (bs : List ℕ) → Consumes old new bs → bs ≡ [] → IsAtEnd new → IsAtEnd old
+ended_before None new bs consumed none end = tt
+ended_before (Some xs) None bs consumed none end = absurd consumed
+ended_before (Some xs) (Some ys) bs consumed none end = consumed ∙ ap (λ b. b ++ ys) none ∙ end

@@ -2,7 +2,8 @@
 
 ghost use Rattle.std.specs.Prelude.{◌≡◌, ◌≤◌, ◌<◌, ◌^◌, ◌-◌, ◌↔◌, ◌==◌, IsTrue, IsSome, IfOk};
 ghost use Rattle.std.specs.Prelude.{IfErr, IfSome, true, false};
-ghost use Rattle.recode_log.specs.Counted.{failures_of};
+ghost use Rattle.std.specs.Io.KnownBytes.{IsAtEnd};
+ghost use Rattle.recode_log.specs.Counted.{failures_of, inner_of};
 ghost use Rattle.recode.specs.Job.{IsValidJob};
 ghost use Rattle.recode.specs.calls.Buffers.{AreEnough, KeepSizes};
 ghost use Rattle.recode.specs.calls.Chunk.{CanConvert};
@@ -137,8 +138,8 @@ impl<'t> Session<'t> {
     /// - `Ok(More)`: at least one byte was read. All that the bytes read so far decide, however the
     ///   input goes on, is written and logged, with each piece that ends three or more bytes before
     ///   their end.
-    /// - `Ok(Done)`: the end of the input was read. Output and log are whole; `report` has the
-    ///   rest.
+    /// - `Ok(Done)`: the end of the input was read, and no byte. Output and log are whole; `report`
+    ///   has the rest.
     /// - `Err`: a call of the reader (`Read`), the writer (`Write`) or the log (`Log`) failed, the
     ///   input has more bytes than the job's limit (`TooLong`), or the policy stopped at a
     ///   character (`Unmappable`). Output and log have a prefix of what was still to be written. At
@@ -170,6 +171,7 @@ impl<'t> Session<'t> {
             (devices_in R.remaining W.contents L.contents reader.old writer.old log.old)
             (devices_in R.remaining W.contents L.contents reader.new writer.new log.new)
             (view_of self.old).job.limit (view_of self.old).state (view_of self.new).state }
+        ensures end { result ≡ Ok Progress.Done → IsAtEnd (R.remaining (inner_of reader.old)) }
         ensures fault { IfErr result (Stops
             (devices_in R.remaining W.contents L.contents reader.old writer.old log.old)
             (devices_in R.remaining W.contents L.contents reader.new writer.new log.new)

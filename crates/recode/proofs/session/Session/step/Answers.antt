@@ -1,6 +1,6 @@
-use Rattle.std.proofs.Common.{◌≤◌, ◌∙◌, arith, length, rules, take}
+use Rattle.std.proofs.Common.{◌≡◌, ◌≤◌, ◌∙◌, ap, arith, length, rules, take}
 use Rattle.std.proofs.lemmas.Bool.{eqb-true, ne_eqb}
-use Rattle.recode.proofs.StepLemmas.{stops_unread, stops_refused, stops_under, is_writing}
+use Rattle.recode.proofs.StepLemmas.{ended_before, stops_unread, stops_refused, stops_under, is_writing}
 use Rattle.recode.proofs.LatencyLemmas.{steps_on}
 use Rattle.recode.proofs.TraceLemmas.{handed_on}
 use Rattle.recode.proofs.session.Session.step.Goals as goal
@@ -28,3 +28,8 @@ returns-else-read-eq0-clause-more g c e =
     let on = ne_eqb (length (take c.in-Ok.read c.read.new.buf)) 0 (omega (arith, c.in-Ok.ensures.bound.1, c.if-read-eq0.false)) in
     steps_on _ _ _ _ _ _ _ c.in-Ok.ensures.bytes.0 (omega (arith, c.in-Ok.ensures.bound.1, c.if-read-eq0.false))
     (omega (arith, k.chunk.converts.counted, c.in-Ok.ensures.bound.1, c.if-read-self.false)) (search rules) on (search rules)
+
+pub returns-then-read-eq0-clause-end : goal.returns-then-read-eq0-clause-end
+returns-then-read-eq0-clause-end g c e =
+    let none : c.in-Ok.read ≡ 0 = c.if-read-eq0.true in
+    ended_before _ _ _ c.in-Ok.ensures.bytes.0 (ap (λ n. take n c.read.new.buf) none) (c.in-Ok.ensures.bytes.1 none (omega (arith, c.read.auto.buf, c.requires.buffers.input)))
