@@ -812,7 +812,8 @@ uint8_t jillapun_encode(jillapun_tables tables, uint8_t encoding, const uint8_t 
  * - `JILLAPUN_ROOM`: `written` bytes and `losses` records are wanted; nothing was written. Call
  *   again.
  * - `JILLAPUN_STOPPED`: the policy is `JILLAPUN_STOP`, and the character that has no bytes is
- *   in the report. What is before it was converted, and its record is the last.
+ *   in the report. What is before it was converted, with the escape that would come before a
+ *   reference, and its record is the last.
  * - `JILLAPUN_TOO_LONG`: `src` is longer than the limit. `JILLAPUN_NO_MEMORY`: memory was
  *   refused.
  * - `JILLAPUN_UNKNOWN`: a number stands for nothing. `JILLAPUN_NOT_READY`: an index that one of
@@ -859,20 +860,23 @@ void jillapun_converter_free(jillapun_converter *converter);
  *   read again, is the text of the input. `JILLAPUN_LOSSY`: the same, but something was lost.
  *   The report has the counts.
  * - `JILLAPUN_STOPPED`: the policy is `JILLAPUN_STOP`, and the character that has no bytes is
- *   in the report. What is before it was converted, and its record is the last.
+ *   in the report. What is before it was converted, with the escape that would come before a
+ *   reference, and its record is the last.
  * - `JILLAPUN_TOO_LONG`: the input is longer than the limit. `JILLAPUN_NO_MEMORY`: memory was
  *   refused.
  * - `JILLAPUN_FINISHED`: an earlier call returned one of the five above, which end the
  *   conversion. `JILLAPUN_CLOSED`: the handle holds no converter. Nothing is done, and all of
- *   `progress` is 0.
+ *   `progress` and of the report is 0: keep the report of the end.
  *
- * The outputs of all calls, joined, are what `jillapun_convert` writes for all that was read,
- * and so are the records and the counts, however the input is cut and however little room there
- * is. At `JILLAPUN_TOO_LONG` and `JILLAPUN_NO_MEMORY` they are the first part of that. Before
- * the end the report is 0.
+ * At `JILLAPUN_OK`, `JILLAPUN_LOSSY` and `JILLAPUN_STOPPED` the outputs of all calls, joined,
+ * are what `jillapun_convert` writes for all that was read, and so are the records, however the
+ * input is cut and however the room. Before, and at `JILLAPUN_TOO_LONG` and
+ * `JILLAPUN_NO_MEMORY`, they are the first part of what it would write without a limit, however
+ * the input goes on. Before the end, and at these two, the report is 0. Room for one byte and
+ * one record is enough, and records want room even if nobody reads them.
  *
  * What is kept is never more than what one call reads gives: memory does not grow with the
- * input. A call takes some 70 KiB of stack.
+ * input.
  */
 uint8_t jillapun_converter_step(jillapun_converter *converter, const uint8_t *src, size_t src_len,
     bool last, uint8_t *dst, size_t dst_len, jillapun_loss *losses, size_t losses_len,

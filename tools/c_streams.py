@@ -360,6 +360,8 @@ class Streams:
             room, filled = bytearray(b"\x5a" * self.random.randint(0, most)), (loss * self.random.randint(0, 2))()
             last = len(parts) == 1
             status = step(handle, parts[0], last, room, filled, progress, report)
+            within = progress.read <= len(parts[0]), progress.written <= len(room), progress.losses <= len(filled)
+            self.same("told within", (numbers, parts), within, (True, True, True))
             parts[0] = parts[0][progress.read :]
             output += room[: progress.written]
             losses += [(it.kind, it.place, it.number) for it in filled[: progress.losses]]

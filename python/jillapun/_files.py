@@ -74,14 +74,14 @@ def convert_file(
     progress: Optional[Callable[[int], object]] = None,
 ) -> ConvertedFile:
     """Converts a file into another, which is there whole or not at all: it is written beside its place, and moved there
-    at the end. The two may be one. However long the file is, only a chunk of it is in memory, and what was lost.
+    at the end, with the permissions of the source. The two may be one. However long the file is, only a chunk of it is in memory, and what was lost.
 
     `progress` is called after each chunk, with how many bytes have been read. Raises what `convert` does, and
     `OSError`; a `Stopped` has no output then."""
     converter = _Converter(source, target, mark, unmappable, c.NO_LIMIT if limit is None else limit, indexes)
-    folder, name = os.path.split(os.path.abspath(os.fspath(target_path)))
+    folder = os.path.dirname(os.path.abspath(os.fspath(target_path)))
     with open(source_path, "rb") as given:
-        descriptor, beside = tempfile.mkstemp(prefix="." + name, dir=folder)
+        descriptor, beside = tempfile.mkstemp(prefix=".jillapun-", dir=folder)
         try:
             with open(descriptor, "wb") as made:
                 _put_all(converter, given, cast(BinaryIO, made), progress)

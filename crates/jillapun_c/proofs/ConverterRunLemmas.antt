@@ -19,7 +19,7 @@ use Rattle.recode.specs.declared.job.Report.{Report as RunReport}
 use Rattle.recode.specs.declared.session.Phase.{Phase}
 use Rattle.recode.specs.declared.session.Phase.TheVariants.{Done, Open, Stopped}
 use Rattle.jillapun_c.specs.ConverterRuns.{HasConverted, HasRunTo, JoinsToCalls, devices_of}
-use Rattle.jillapun_c.specs.Conversions.{ConvertsInMemory, HasNoCounts, IsDone, IsToldReport}
+use Rattle.jillapun_c.specs.Conversions.{ConvertsInMemory, HasNoCounts, HasNoSizes, IsDone, IsToldReport}
 use Rattle.jillapun_c.specs.Converters.{ConvertsByStep, HandsOut, HoldsNothing, IsNewConverter, MakesStep, MayStep, StepReturns, StepsIfMay, TellsEnd, TellsStatus, held_losses, held_output, view_in}
 use Rattle.jillapun_c.specs.Losses.{log_of_losses, loss_bytes}
 use Rattle.jillapun_c.specs.declared.coder.Coder.{Coder}
@@ -339,7 +339,7 @@ all_told j x y records p report status c t = record {
 stop_told : (j : Job) (x y : List ℕ) (records : List Loss) (index scalar : ℕ) (report : Report) (status : ℕ)
     → WrotePrefix (known [] []) (known y (log_of_losses records)) j.policy (TheFault.Unmappable index scalar) (trace j x)
     → ((taken : List TaggedByte) → StopsAtLoss j.policy index scalar taken (trace j x) → take 1 (lost_log_lines (target_of j) 0 (input_text j x)) ≡ Lost index scalar ∷ [])
-    → (status ≡ STOPPED) × (report.index ≡ index) × (report.scalar ≡ scalar) × HasNoCounts report → ConvertsInMemory j x y records report status
+    → (status ≡ STOPPED) × (report.index ≡ index) × (report.scalar ≡ scalar) × HasNoCounts report × HasNoSizes report → ConvertsInMemory j x y records report status
 stop_told j x y records index scalar report status w first told = record {
   made = λ d. record { is_output = w.wrote.output ∙ ap output_bytes w.stopped.whole; is_log = w.wrote.lined ∙ ap log_bytes w.stopped.whole };
   counts = λ v. absurd (elim v [ inl e ↦ omega (arith, e, told.0) | inr e ↦ omega (arith, e, told.0) ]);
@@ -371,10 +371,10 @@ ended laws j x y records v None report status h tells = elim (done_or_not v.phas
   | inl done ↦ all_told j x y records (tells.done done).0 report status (laws.completes x _ _ j _ refl (h.done done (tells.done done).0 (tells.done done).1)) (tells.done done).2
   | inr other ↦ nothing_said j x y records report status (not_done status (omega (arith, (tells.open_ other).1)) (λ e. omega (arith, e, (tells.open_ other).1)))
 ]
-ended laws j x y records v (Some TheFault.Read) report status h tells = nothing_said j x y records report status (not_done status (omega (arith, tells)) (λ e. omega (arith, e, tells)))
-ended laws j x y records v (Some TheFault.Write) report status h tells = nothing_said j x y records report status (not_done status (omega (arith, tells)) (λ e. omega (arith, e, tells)))
-ended laws j x y records v (Some TheFault.Log) report status h tells = nothing_said j x y records report status (not_done status (omega (arith, tells)) (λ e. omega (arith, e, tells)))
-ended laws j x y records v (Some TheFault.TooLong) report status h tells = nothing_said j x y records report status (not_done status (omega (arith, tells)) (λ e. omega (arith, e, tells)))
+ended laws j x y records v (Some TheFault.Read) report status h tells = nothing_said j x y records report status (not_done status (omega (arith, tells.0)) (λ e. omega (arith, e, tells.0)))
+ended laws j x y records v (Some TheFault.Write) report status h tells = nothing_said j x y records report status (not_done status (omega (arith, tells.0)) (λ e. omega (arith, e, tells.0)))
+ended laws j x y records v (Some TheFault.Log) report status h tells = nothing_said j x y records report status (not_done status (omega (arith, tells.0)) (λ e. omega (arith, e, tells.0)))
+ended laws j x y records v (Some TheFault.TooLong) report status h tells = nothing_said j x y records report status (not_done status (omega (arith, tells.0)) (λ e. omega (arith, e, tells.0)))
 ended laws j x y records v (Some (TheFault.Unmappable index scalar)) report status h tells =
     stop_told j x y records index scalar report status (laws.fails x _ _ j _ refl (h.failed (TheFault.Unmappable index scalar) refl)) (laws.first j x index scalar) tells
 

@@ -12,6 +12,7 @@ use Rattle.recode.specs.declared.job.Report.{Report as RunReport}
 use Rattle.jillapun_c.specs.Losses.{log_of_losses}
 use Rattle.jillapun_c.specs.declared.losses.Loss.{Loss}
 use Rattle.jillapun_c.specs.declared.report.Report.{Report}
+use Rattle.jillapun_c.specs.declared.report.TheConstants.Report.{NONE}
 use Rattle.jillapun_c.specs.declared.status.TheConstants.{LOSSY, NO_MEMORY, OK, ROOM, STOPPED, TOO_LONG}
 
 -- some bytes and some records are what a job makes of an input: all, or, if its policy stops, all up to there
@@ -56,6 +57,10 @@ pub record ConvertsInMemory (j : Job) (input output : List ℕ) (losses : List L
   pub lossy : status ≡ LOSSY → ¬ (Faithful j input)
   pub stopped : status ≡ STOPPED → StopsAtFirst j input report
 
+-- no output and no records in memory are reported
+abbrev pub HasNoSizes : Report → Type 0
+HasNoSizes report = (report.written ≡ 0) × (report.losses ≡ 0)
+
 -- what the report of a run becomes
 pub record IsToldReport (p : RunReport) (report : Report) (status : ℕ) : Type 0 where
   pub faithful : p.faithful ≡ true → status ≡ OK
@@ -64,14 +69,16 @@ pub record IsToldReport (p : RunReport) (report : Report) (status : ℕ) : Type 
   pub bad : report.bad ≡ p.bad
   pub lost : report.lost ≡ p.lost
   pub no_character : (report.index ≡ 0) × (report.scalar ≡ 0)
+  pub no_sizes : HasNoSizes report
 
 -- what the fault of a run in memory becomes: `NO_MEMORY`, `TOO_LONG`, or `STOPPED` with the character
 abbrev pub IsToldFault : Fault → Report → (status : ℕ) → Type 0
-IsToldFault TheFault.Read report status = status ≡ NO_MEMORY
-IsToldFault TheFault.Write report status = status ≡ NO_MEMORY
-IsToldFault TheFault.Log report status = status ≡ NO_MEMORY
-IsToldFault TheFault.TooLong report status = status ≡ TOO_LONG
-IsToldFault (TheFault.Unmappable index scalar) report status = (status ≡ STOPPED) × (report.index ≡ index) × (report.scalar ≡ scalar) × HasNoCounts report
+IsToldFault TheFault.Read report status = (status ≡ NO_MEMORY) × (report ≡ NONE)
+IsToldFault TheFault.Write report status = (status ≡ NO_MEMORY) × (report ≡ NONE)
+IsToldFault TheFault.Log report status = (status ≡ NO_MEMORY) × (report ≡ NONE)
+IsToldFault TheFault.TooLong report status = (status ≡ TOO_LONG) × (report ≡ NONE)
+IsToldFault (TheFault.Unmappable index scalar) report status =
+    (status ≡ STOPPED) × (report.index ≡ index) × (report.scalar ≡ scalar) × HasNoCounts report × HasNoSizes report
 
 -- memory begins with what is reported, which it has room for, and nothing after it has changed
 pub record IsHandedOver (j : Job) (input : List ℕ) (dst dst' : List ℕ) (losses losses' : List Loss) (report : Report) (status : ℕ) : Type 0 where

@@ -54,6 +54,7 @@ pub record StepReturns (before after : Devices) (v v' : View) (answer : Result P
 
 -- A converter made a step over so many of these bytes, and holds what was written and logged in it.
 pub record MakesStep (c c' : Converter) (src : List ℕ) (read : ℕ) : Type 0 where
+  pub within : read ≤ length src
   pub before : Devices
   pub begins : before.input ≡ Some src
   pub blank : before.written ≡ known [] []

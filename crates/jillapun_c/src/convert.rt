@@ -28,7 +28,8 @@ use std::alloc::Global;
 ///   encodings write a character as bytes that read back as another.
 /// - `ROOM`: `written` bytes and `losses` records are wanted; nothing was written. Call again.
 /// - `STOPPED`: the policy is `STOP`, and the character that has no bytes is in the report. What is
-///   before it was converted, and its record is the last.
+///   before it was converted, with the escape that would come before a reference, and its record
+///   is the last.
 /// - `TOO_LONG`: `src` is longer than the limit. `NO_MEMORY`: memory was refused.
 /// - `UNKNOWN`: a number stands for nothing. `NOT_READY`: an index that one of the encodings needs
 ///   is not in the tables. `CLOSED`: the handle has no tables.

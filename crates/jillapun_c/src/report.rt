@@ -1,8 +1,7 @@
 //! What a conversion reports.
 
-ghost use Rattle.std.specs.Prelude.{◌≢◌, IfErr, IfOk};
+ghost use Rattle.std.specs.Prelude.{IfErr, IfOk};
 ghost use Rattle.jillapun_c.specs.Conversions.{IsToldFault, IsToldReport};
-ghost use Rattle.jillapun_c.specs.declared.status.TheConstants.{UNKNOWN};
 
 use crate::status::{LOSSY, NO_MEMORY, OK, STOPPED, TOO_LONG};
 use recode::Fault;
@@ -46,7 +45,6 @@ impl Report {
 // The status of a run that a fault ended, and what is reported of it.
 fn told_fault(fault: Fault) -> (u8, Report)
     ensures told { IsToldFault fault result.1 result.0 }
-    ensures known { result.0 ≢ UNKNOWN }
 {
     let mut report = Report::NONE;
     let status = match fault {
@@ -65,7 +63,6 @@ fn told_fault(fault: Fault) -> (u8, Report)
 pub(crate) fn told(answer: Result<recode::Report, Fault>) -> (u8, Report)
     ensures ok { IfOk answer (λ p. IsToldReport p result.1 result.0) }
     ensures err { IfErr answer (λ f. IsToldFault f result.1 result.0) }
-    ensures known { result.0 ≢ UNKNOWN }
 {
     match answer {
         Ok(run) => {

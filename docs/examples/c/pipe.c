@@ -9,10 +9,10 @@
 
 /* Loads index texts, each from a file of its own name. */
 static uint8_t load(int count, char **paths, jillapun_tables *tables) {
-    static uint8_t texts[2][1 << 20];
-    jillapun_index_file files[2];
+    static uint8_t texts[4][1 << 20];
+    jillapun_index_file files[4];
     jillapun_index_fault fault;
-    for (int i = 0; i < count && i < 2; i++) {
+    for (int i = 0; i < count; i++) {
         const char *slash = strrchr(paths[i], '/'), *name = slash ? slash + 1 : paths[i];
         FILE *file = fopen(paths[i], "rb");
         if (!file)
@@ -21,7 +21,7 @@ static uint8_t load(int count, char **paths, jillapun_tables *tables) {
         files[i].text = (jillapun_bytes){texts[i], fread(texts[i], 1, sizeof texts[i], file)};
         fclose(file);
     }
-    return jillapun_tables_new(files, count < 2 ? count : 2, tables, &fault);
+    return jillapun_tables_new(files, count, tables, &fault);
 }
 
 /* Writes so many bytes to standard output, and returns whether that could be done. */
@@ -39,13 +39,13 @@ static bool put(const uint8_t *bytes, size_t len) {
 static uint8_t convert(jillapun_converter *converter) {
     static uint8_t chunk[1 << 14], output[1 << 16];
     static jillapun_loss losses[256];
-    jillapun_converter_progress told;
+    jillapun_converter_progress told = {0};
     jillapun_report report;
     uint8_t status;
     bool last = false;
     size_t len = 0, at = 0;
     do {
-        if (at == len && !last) {
+        if (at == len && !last && !told.wants_room) {
             ssize_t count = read(STDIN_FILENO, chunk, sizeof chunk);
             if (count < 0)
                 return JILLAPUN_GOES_ON;
@@ -66,7 +66,7 @@ static uint8_t convert(jillapun_converter *converter) {
 int main(int argc, char **argv) {
     static jillapun_tables tables; /* {0}, as all that is static */
     jillapun_converter converter = {0};
-    if (argc < 3 || load(argc - 3, argv + 3, &tables) != JILLAPUN_OK)
+    if (argc < 3 || argc > 7 || load(argc - 3, argv + 3, &tables) != JILLAPUN_OK)
         return 2;
     uint8_t from = jillapun_for_label((const uint8_t *)argv[1], strlen(argv[1]));
     uint8_t to = jillapun_for_label((const uint8_t *)argv[2], strlen(argv[2]));

@@ -38,7 +38,6 @@ impl Converter {
     fn make_step(&mut self, alloc: Global, src: &[u8]) -> usize
         requires { ¬ (IsOver (view_in self.old).phase) }
         ensures step { MakesStep self.old self.new src.now result }
-        ensures unfinished { self.new.is_finished ≡ self.old.is_finished }
     {
         let mut output = mem::replace(&mut self.output, Vec::new(alloc));
         let mut losses = mem::replace(&mut self.losses, Vec::new(alloc));
@@ -59,7 +58,6 @@ impl Converter {
     // A step of the conversion, if one may be made. Returns how many bytes it read.
     fn step_if_may(&mut self, alloc: Global, src: &[u8], last: bool) -> usize
         ensures step { StepsIfMay self.old self.new src.now last result }
-        ensures unfinished { self.new.is_finished ≡ self.old.is_finished }
     {
         if self.may_step(src, last) {
             self.make_step(alloc, src)
@@ -97,17 +95,20 @@ impl Converter {
 /// - `OK`: all was converted and handed out. Nothing was malformed, and the output, read again, is
 ///   the text of the input. `LOSSY`: the same, but something was lost. The report has the counts.
 /// - `STOPPED`: the policy is `STOP`, and the character that has no bytes is in the report. What is
-///   before it was converted, and its record is the last.
+///   before it was converted, with the escape that would come before a reference, and its record is
+///   the last.
 /// - `TOO_LONG`: the input is longer than the limit. `NO_MEMORY`: memory was refused.
 /// - `FINISHED`: an earlier call returned one of the five above, which end the conversion.
-///   `CLOSED`: the handle holds no converter. Nothing is done, and all of `progress` is 0.
+///   `CLOSED`: the handle holds no converter. Nothing is done, and all of `progress` and of the
+///   report is 0: keep the report of the end.
 ///
-/// The outputs of all calls, joined, are what `jillapun_convert` writes for all that was read, and
-/// so are the records and the counts, however the input is cut and however little room there is. At
-/// `TOO_LONG` and `NO_MEMORY` they are the first part of that. Before the end the report is 0.
+/// At `OK`, `LOSSY` and `STOPPED` the outputs of all calls, joined, are what `jillapun_convert`
+/// writes for all that was read, and so are the records, however the input is cut and however the
+/// room. Before, and at `TOO_LONG` and `NO_MEMORY`, they are the first part of what it would write
+/// without a limit, however the input goes on. Before the end, and at these two, the report is 0.
+/// Room for one byte and one record is enough, and records want room even if nobody reads them.
 ///
 /// What is kept is never more than what one call reads gives: memory does not grow with the input.
-/// A call takes some 70 KiB of stack.
 #[unsafe(no_mangle)]
 pub extern "C" fn jillapun_converter_step(
     alloc: Global,
