@@ -209,6 +209,8 @@ class Streams:
         words = self.numbers[job.source], MARKS[job.mark]
         self.in_one_call("jillapun_decode", words, data, text.encode(), bool(faults))
         self.queried(job, data, text)
+        if not faults:
+            self.queried_without_faults(job, data, text)
 
     def queried(self, job, data, text):
         """A whole stream in one call, in the room that its query asks for."""
@@ -220,15 +222,24 @@ class Streams:
             self.must("decoder_new twice", self.library.jillapun_decoder_new(self.tables, 0, 0, handle), "IN_USE")
             self.same("encoding", job, self.library.jillapun_decoder_encoding(handle), self.numbers[job.source])
             size = getattr(self.library, "jillapun_decoder_max_%s_length" % name)(handle, len(data))
-            if name == "utf8":
-                least = self.library.jillapun_decoder_max_utf8_length_without_replacement(handle, len(data))
-                self.same("room without U+FFFD", job, least <= size, True)
             room = bytearray(size) if name == "utf8" else (units([0] * size), size)
             call = "jillapun_decoder_decode_to_" + name
             self.must(call, getattr(self.library, call)(handle, data, room, True, progress))
             written = room[: progress.written] if name == "utf8" else bytes(room[0])[: 2 * progress.written]
             self.same(call, (job, data), (progress.outcome, written.decode(codec)), (NUMBERS["INPUT_EMPTY"], text))
             self.library.jillapun_decoder_free(handle)
+
+    def queried_without_faults(self, job, data, text):
+        """A whole stream that has no malformed sequence, up to the first, in the room that the query for that asks for."""
+        handle, progress = self.library.struct("DecoderHandle")(), self.library.struct("Progress")()
+        new = self.library.jillapun_decoder_new(self.tables, self.numbers[job.source], MARKS[job.mark], handle)
+        self.must("decoder_new", new)
+        room = bytearray(self.library.jillapun_decoder_max_utf8_length_without_replacement(handle, len(data)))
+        call = "jillapun_decoder_decode_to_utf8_without_replacement"
+        self.must(call, getattr(self.library, call)(handle, data, room, True, progress))
+        written = bytes(room[: progress.written]).decode()
+        self.same("room without U+FFFD", (job, data), (progress.outcome, written), (NUMBERS["INPUT_EMPTY"], text))
+        self.library.jillapun_decoder_free(handle)
 
     def in_one_call(self, call, words, given, output, had):
         """A whole input or text at once: in room that is enough, which stays as it was after the output, and in too little."""
