@@ -106,6 +106,11 @@ impl<T: LeadByteRule> DecoderRule for LeadByteDecoderRule<T> {
         longer_ascii_prefix(bytes, most)
     }
 
+    #[inline(always)]
+    fn seeks_pairs(&self, first: u8) -> bool {
+        first >= 0x80
+    }
+
     fn room(&self) -> DecodedLength {
         DecodedLength::multibyte()
     }

@@ -5,7 +5,7 @@ use Rattle.std.proofs.lemmas.List.{append-nil, drop_all, drop-append-le, length-
 use Rattle.std.proofs.lemmas.Str.{encodes-chars, length-encode}
 use Rattle.std.specs.Char.{encode_utf8}
 use Rattle.std.specs.Str.{chars, IsUtf8}
-use Rattle.encoding_mem.specs.Piece.{Piece, head_piece, malformed, piece_text, sizes, piece_len, scalars, piece_scalars, IsWellFormedPiece, AreWellFormed}
+use Rattle.encoding_mem.specs.Piece.{Piece, head_piece, malformed, well_formed, piece_text, sizes, piece_len, scalars, piece_scalars, IsWellFormedPiece, AreWellFormed}
 use Rattle.encoding_mem.specs.calls.Decoding.{Reports, Takes}
 use Rattle.encoding_mem.specs.calls.DecodedLength.{cost_in, counts_past_malformed, is_units, left_after, replacement_len}
 use Rattle.encoding_mem.specs.calls.Driver.{DriverCall}
@@ -185,6 +185,19 @@ first_of_start P P' start rest n last p is h =
           ∙ ap (λ x. p ∷ P' x) (sym (append_assoc (drop (piece_len p) start) (drop n rest) r))
           ∙ ap (λ x. p ∷ P' (x ++ r)) (sym (drop-append-le (piece_len p) start (drop n rest) h.within) ∙ ap (drop (piece_len p)) (sym whole));
     }
+
+-- A character of one or two bytes is taken, by what is decided of two.
+pub come_character : (before P P' : List ℕ → List Piece) (needed need need' : OutputUnit → ℕ → ℕ) (t : Bool) (src rest : List ℕ) (old free free' : ℕ) (W W' : List ℕ → Type 0) (c n : ℕ)
+    → HasCome before P needed need t false src rest old free W
+    → IsFirstPiece P P' (take 2 rest) false (well_formed n (c ∷ []))
+    → n ≤ length rest
+    → ((k : OutputUnit) (m : ℕ) → cost_in (is_units k) c + need' k m ≤ need k (n + m))
+    → free' + cost_in t c ≡ free
+    → ((text : List ℕ) → W text → W' (text ++ (c ∷ [])))
+    → HasCome before P' needed need' t false src (take (length rest - n) (drop n rest)) old free' W'
+come_character before P P' needed need need' t src rest old free free' W W' c n i first some room left step =
+    come_piece before P P' needed need need' t false src rest old free free' W W' (well_formed n (c ∷ [])) n i tt refl (first_of_start P P' (take 2 rest) rest 2 false _ refl first)
+    (piece_room need need' t (length rest) n (λ u. cost_in u c) free free' some room left) step
 
 -- a character of the basic plane has three bytes at most
 pub basic_cost : (t : Bool) (c : ℕ) → c < 0x1_0000 → cost_in t c ≤ 3

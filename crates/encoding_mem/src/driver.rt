@@ -73,9 +73,10 @@ fn take_piece<F: DecoderRule, S: Sink>(
     }
 }
 
-// Takes pairs of bytes, as long as each is a character from U+0800 to U+FFFF and has room, and
-// returns how many bytes they are. Such characters follow one another in text, and none of them
-// asks for room by itself, or for a run of text.
+// Takes pairs of bytes, as long as each is a character from U+0800 to U+FFFF and has room, and the
+// single ASCII characters between them, and returns how many bytes they are. Words of such
+// characters, with spaces between them, are what text is made of, and none of them asks for room by
+// itself, or for a run of text.
 #[inline(always)]
 fn take_pairs<F: DecoderRule, S: Sink>(codec: &mut F, src: &[u8], sink: &mut S) -> usize
     ensures law { Takes AreWellFormed (F.pieces codec.old) (F.pieces codec.new)
@@ -97,6 +98,12 @@ fn take_pairs<F: DecoderRule, S: Sink>(codec: &mut F, src: &[u8], sink: &mut S) 
                 sink.put(c);
                 codec.pass(pair);
                 rest = &rest[2..];
+                pairs_left -= 1;
+            }
+            FirstPiece::One(c, 1) if c < '\u{80}' && pair[1] >= 0x80 => {
+                sink.put(c);
+                codec.pass(pair);
+                rest = &rest[1..];
                 pairs_left -= 1;
             }
             _ => break,

@@ -102,11 +102,12 @@ pub trait DecoderRule {
     }
 
     /// Whether the driver seeks, if this byte comes next, characters from U+0800 to U+FFFF of two
-    /// bytes each in a loop of their own. This decides speed alone: any answer is right, and so no
-    /// clause speaks of it.
+    /// bytes each, with single ASCII characters between them, in a loop of their own. A rule that
+    /// says nothing has none. This decides speed alone: any answer is right, and so no clause
+    /// speaks of it.
     #[inline(always)]
-    fn seeks_pairs(&self, first: u8) -> bool {
-        first >= 0x80
+    fn seeks_pairs(&self, _first: u8) -> bool {
+        false
     }
 
     /// The numbers by which the length queries are computed.

@@ -103,12 +103,6 @@ impl<E: ByteOrder> DecoderRule for Utf16Rule<E> {
         (units, units_below(u16x32::from_array(units), 0xD800))
     }
 
-    // After what is no such unit, units are sought again.
-    #[inline(always)]
-    fn seeks_pairs(&self, _first: u8) -> bool {
-        false
-    }
-
     fn room(&self) -> DecodedLength {
         DecodedLength::utf16()
     }
