@@ -1,5 +1,5 @@
 -- What a walk has still to pass: what is left of a log fits it, and what is found in it is still to be told.
-use Rattle.std.proofs.Common.{◌≡◌, ℕ, ◌+◌, ◌-◌, ◌<◌, ◌≤◌, Bool, true, Option, Some, None, Result, Ok, Err, IfErr, IsErrAnd, IsOk, List, [], ◌∷◌, ◌++◌, refl, sym, ◌∙◌, ap, subst, arith, append-nil, append_assoc, drop}
+use Rattle.std.proofs.Common.{◌≡◌, ℕ, ◌+◌, ◌-◌, ◌<◌, ◌≤◌, Bool, true, Option, Some, None, Result, Ok, Err, IfErr, IsErrAnd, IsOk, List, [], ◌∷◌, ◌++◌, refl, sym, ◌∙◌, ap, subst, arith, append-nil, append_assoc, length, drop}
 use Rattle.encoding_mem.specs.Piece.{Piece, well_formed, malformed, sizes, scalars, text, AreWellFormed, ArePieces}
 use Rattle.encoding_mem.specs.laws.Piece.{sizes-append}
 use Rattle.encoding_mem.specs.calls.Decoding.{DecoderState, Reports, StateLaw}
@@ -8,16 +8,15 @@ use Rattle.encoding_mem.specs.declared.decoder_result.DecoderResult.TheVariants.
 use Rattle.std.proofs.lemmas.Bool.{false≢true}
 use Rattle.std.proofs.lemmas.Option.{none-some, same_Some}
 use Rattle.std.specs.Io.KnownBytes.{Consumes, IsAtEnd}
-use Rattle.recode_places.specs.Findings.{Asked, TellsFound, found_in, found_in_text}
+use Rattle.recode_places.specs.Findings.{Asked, Found, TellsFound, found_in, found_in_text}
 use Rattle.recode_places.specs.Fits.{Fits, FitsFrom, FitsText, IsLeftOfLog, IsNotUnfit}
 use Rattle.recode_places.specs.declared.entry.Entry.{Entry}
-use Rattle.recode_places.specs.declared.entry.Finding.{Finding}
 use Rattle.recode_places.specs.declared.entry.Finding.TheVariants as found
 use Rattle.recode_places.specs.declared.entry.Stop.{Stop}
 use Rattle.recode_places.specs.Logs.{IsLogEnd, LogLeft, bytes, ended, broken, unknown}
 use Rattle.recode_places.specs.calls.Walks.{FitsAhead, TellsPassed, WalkState, found_ahead}
 use Rattle.recode_places.proofs.CallLemmas.{IsCutAt, cut_at, reported, taken_pieces}
-use Rattle.recode_places.proofs.FoundLemmas.{found_before, found_then, pieces_found}
+use Rattle.recode_places.proofs.FoundLemmas.{found_at, found_before, found_then, pieces_found}
 
 pub left_map : (P Q : List ℕ → Type 0) (left : LogLeft) → ((x : List ℕ) → P x → Q x) → IsLeftOfLog P left → IsLeftOfLog Q left
 left_map P Q (bytes x) f h = f x h
@@ -72,18 +71,22 @@ module _ (v : WalkState) (d : DecoderState) (src : List ℕ) (last : Bool) (n : 
       (subst (λ q. IsLeftOfLog (Fits i offset_after (q ++ d.pieces (drop n src ++ r))) left) none h)
 
   -- what is found in the text, and then what is still ahead
-  found_ahead_text : (a : Asked) → found_ahead a v (src ++ r) ≡ found_in_text a cs ++ found_in a offset_after (reported o ++ d.pieces (drop n src ++ r))
-  found_ahead_text a =
+  found_ahead_text : (a : Asked) (i : ℕ) → i ≡ v.place.index + length cs
+      → found_ahead a v (src ++ r) ≡ found_in_text a v.place.index cs ++ found_in a i offset_after (reported o ++ d.pieces (drop n src ++ r))
+  found_ahead_text a i index =
       let qs = reported o ++ d.pieces (drop n src ++ r) in
-      ap (found_in a (v.read - v.decoder.pending)) cut_ahead ∙ pieces_found a (v.read - v.decoder.pending) parts.before qs parts.well_formed
-      ∙ ap (λ t. found_in_text a t ++ found_in a offset_after qs) (sym (is ∙ parts.same))
+      ap (found_in a v.place.index (v.read - v.decoder.pending)) cut_ahead ∙ pieces_found a v.place.index (v.read - v.decoder.pending) parts.before qs parts.well_formed
+      ∙ ap (λ t. found_in_text a v.place.index t ++ found_in a (v.place.index + length t) offset_after qs) (sym (is ∙ parts.same))
+      ∙ ap (λ j. found_in_text a v.place.index cs ++ found_in a j offset_after qs) (sym index)
 
-  pub tells_done : (a : Asked) (t u : Option (List Entry)) → reported o ≡ [] → TellsFound a (found_in_text a cs) [] t u → TellsFound a (found_ahead a v (src ++ r)) (found_in a (v.read + n - d.pending) (d.pieces (drop n src ++ r))) t u
-  tells_done a t u none h =
+  pub tells_done : (a : Asked) (i : ℕ) (t u : Option (List Entry)) → reported o ≡ [] → i ≡ v.place.index + length cs → TellsFound a (found_in_text a v.place.index cs) [] t u
+      → TellsFound a (found_ahead a v (src ++ r)) (found_in a i (v.read + n - d.pending) (d.pieces (drop n src ++ r))) t u
+  tells_done a i t u none index h =
       let qs = d.pieces (drop n src ++ r) in
-      let rest = found_in a (v.read + n - d.pending) qs in
-      let ahead = found_ahead_text a ∙ ap (λ x. found_in_text a cs ++ x) (ap (λ q. found_in a offset_after (q ++ qs)) none ∙ ap (λ p. found_in a p qs) (done_offset none)) in
-      subst (λ fs. TellsFound a fs rest t u) (sym ahead) (found_before a (found_in_text a cs) rest t u h)
+      let here = found_in_text a v.place.index cs in
+      let rest = found_in a i (v.read + n - d.pending) qs in
+      let ahead = found_ahead_text a i index ∙ ap (λ x. here ++ x) (ap (λ q. found_in a i offset_after (q ++ qs)) none ∙ ap (λ p. found_in a i p qs) (done_offset none)) in
+      subst (λ fs. TellsFound a fs rest t u) (sym ahead) (found_before a here rest t u h)
 
   -- a call that reported a malformed sequence
   module _ (a b : ℕ) (o_is : o ≡ Malformed a b) where
@@ -114,17 +117,19 @@ module _ (v : WalkState) (d : DecoderState) (src : List ℕ) (last : Bool) (n : 
         subst (λ p. IsLeftOfLog (Fits j p (d.pieces (drop n src ++ r))) left) (passed_offset offset spot)
         (subst (λ q. IsLeftOfLog (Fits q (offset + a) (d.pieces (drop n src ++ r))) left) (sym index) h)
 
-    pub tells_malformed : (q q' : Asked) (offset : ℕ) (t u w : Option (List Entry)) → offset + a + b ≡ v.read + n → q' ≡ q → TellsFound q (found_in_text q cs) [] t u → TellsFound q' (found.Malformed offset a ∷ []) [] u w
-        → TellsFound q (found_ahead q v (src ++ r)) (found_in q (v.read + n - d.pending) (d.pieces (drop n src ++ r))) t w
-    tells_malformed q q' offset t u w there same h m =
+    pub tells_malformed : (q q' : Asked) (offset i j : ℕ) (t u w : Option (List Entry)) → offset + a + b ≡ v.read + n → i ≡ v.place.index + length cs → j ≡ i + 1 → q' ≡ q
+        → TellsFound q (found_in_text q v.place.index cs) [] t u → TellsFound q' ((i, found.Malformed offset a) ∷ []) [] u w
+        → TellsFound q (found_ahead q v (src ++ r)) (found_in q j (v.read + n - d.pending) (d.pieces (drop n src ++ r))) t w
+    tells_malformed q q' offset i j t u w there index passed same h m =
         let qs = d.pieces (drop n src ++ r) in
-        let rest = found_in q (v.read + n - d.pending) qs in
-        let here = found_in_text q cs in
-        let next = ap (λ x. found_in q offset_after (reported x ++ qs)) o_is ∙ ap (λ p. found_in q p (malformed a ∷ qs)) (malformed_offset offset there)
-        ∙ ap (λ p. found.Malformed offset a ∷ found_in q p qs) (passed_offset offset there) in
-        subst (λ fs. TellsFound q fs rest t w) (sym (found_ahead_text q ∙ ap (λ x. here ++ x) next))
-        (found_then q q' (here ++ (found.Malformed offset a ∷ rest)) (found.Malformed offset a ∷ rest) rest t u w same
-        (found_before q here (found.Malformed offset a ∷ rest) t u h) (found_before q' (found.Malformed offset a ∷ []) rest u w m))
+        let rest = found_in q j (v.read + n - d.pending) qs in
+        let here = found_in_text q v.place.index cs in
+        let sequence : Found = (i, found.Malformed offset a) in
+        let next = ap (λ x. found_in q i offset_after (reported x ++ qs)) o_is ∙ ap (λ p. found_in q i p (malformed a ∷ qs)) (malformed_offset offset there)
+        ∙ ap (λ x. sequence ∷ x) (found_at q (i + 1) j (offset + a) (v.read + n - d.pending) qs (sym passed) (passed_offset offset there)) in
+        subst (λ fs. TellsFound q fs rest t w) (sym (found_ahead_text q i index ∙ ap (λ x. here ++ x) next))
+        (found_then q q' (here ++ (sequence ∷ rest)) (sequence ∷ rest) rest t u w same
+        (found_before q here (sequence ∷ rest) t u h) (found_before q' (sequence ∷ []) rest u w m))
 
 -- ---- a whole input
 
@@ -150,22 +155,22 @@ ends_ahead w left z none end h =
     subst (λ ps. IsLeftOfLog (Fits w.place.index (w.read - w.decoder.pending) ps) left) (ap w.decoder.pieces none ∙ end) h
 
 -- more was passed
-pub tells_passed : (a b : Asked) (fs : List Finding) (w w' : WalkState) (t u s : Option (List Entry)) (xs ys : List ℕ) → b ≡ a → TellsFound a fs (found_ahead a w xs) t u → TellsPassed b w w' xs ys u s → TellsFound a fs (found_ahead a w' ys) t s
+pub tells_passed : (a b : Asked) (fs : List Found) (w w' : WalkState) (t u s : Option (List Entry)) (xs ys : List ℕ) → b ≡ a → TellsFound a fs (found_ahead a w xs) t u → TellsPassed b w w' xs ys u s → TellsFound a fs (found_ahead a w' ys) t s
 tells_passed a b fs w w' t u s xs ys same h k = found_then a a fs (found_ahead a w xs) (found_ahead a w' ys) t u s refl h (subst (λ x. TellsPassed x w w' xs ys u s) same k)
 
 -- what was read was passed
-pub tells_read : (a b : Asked) (fs : List Finding) (w w' : WalkState) (t u s : Option (List Entry)) (xs y z : List ℕ) → b ≡ a → y ≡ xs ++ z → TellsFound a fs (found_ahead a w y) t u → TellsPassed b w w' (xs ++ z) z u s
+pub tells_read : (a b : Asked) (fs : List Found) (w w' : WalkState) (t u s : Option (List Entry)) (xs y z : List ℕ) → b ≡ a → y ≡ xs ++ z → TellsFound a fs (found_ahead a w y) t u → TellsPassed b w w' (xs ++ z) z u s
     → TellsFound a fs (found_ahead a w' z) t s
 tells_read a b fs w w' t u s xs y z same is h k = tells_passed a b fs w w' t u s (xs ++ z) z same (subst (λ x. TellsFound a fs (found_ahead a w x) t u) is h) k
 
 -- nothing is left to be found
-pub tells_all : (a : Asked) (pending : ℕ) (held pieces : List ℕ → List Piece) (w : WalkState) (t u : Option (List Entry)) → ((x : List ℕ) → held x ≡ pieces x) → (x z : List ℕ) → z ≡ [] → w.decoder.pieces [] ≡ []
-    → TellsFound a (found_in a (0 - pending) (held x)) (found_ahead a w z) t u → TellsFound a (found_in a 0 (pieces x)) [] t u
-tells_all a pending held pieces w t u is x z none end h =
+pub tells_all : (a : Asked) (index pending : ℕ) (held pieces : List ℕ → List Piece) (w : WalkState) (t u : Option (List Entry)) → index ≡ 0 → ((x : List ℕ) → held x ≡ pieces x) → (x z : List ℕ) → z ≡ [] → w.decoder.pieces [] ≡ []
+    → TellsFound a (found_in a index (0 - pending) (held x)) (found_ahead a w z) t u → TellsFound a (found_in a 0 0 (pieces x)) [] t u
+tells_all a index pending held pieces w t u first is x z none end h =
     let offset : 0 - pending ≡ 0 = omega arith in
-    let begins = ap (found_in a (0 - pending)) (is x) ∙ ap (λ p. found_in a p (pieces x)) offset in
-    let ends = ap (found_in a (w.read - w.decoder.pending)) (ap w.decoder.pieces none ∙ end) in
-    subst (λ fs. TellsFound a fs [] t u) begins (subst (λ gs. TellsFound a (found_in a (0 - pending) (held x)) gs t u) ends h)
+    let begins = ap (found_in a index (0 - pending)) (is x) ∙ found_at a index 0 (0 - pending) 0 (pieces x) first offset in
+    let ends = ap (found_in a w.place.index (w.read - w.decoder.pending)) (ap w.decoder.pieces none ∙ end) in
+    subst (λ fs. TellsFound a fs [] t u) begins (subst (λ gs. TellsFound a (found_in a index (0 - pending) (held x)) gs t u) ends h)
 
 pub if_err : {T : Type 0} (r : Result T Stop) (e : Stop) → IsErrAnd r (λ x. x ≡ e) → IsNotUnfit e → IfErr r IsNotUnfit
 if_err (Ok x) e same h = tt

@@ -108,7 +108,7 @@ fn tell_character<L: Read, V: Visitor>(
     ensures fates { OnOk result (TellsFates (asked_by choice.old) (asked_by choice.new)
         (V.told visitor.old) (V.told visitor.new)) }
     ensures finds { OnOk result (TellsFound (asked_by choice.old)
-        (found_in_text (asked_by choice.old) (c ∷ [])) []
+        (found_in_text (asked_by choice.old) place.old.index (c ∷ [])) []
         (V.told visitor.old) (V.told visitor.new)) }
     ensures fits { (offset : ℕ) (t : List ℕ) (ps : List Piece)
         → IsLeftOfLog (FitsFrom place.old.index offset (c ∷ t) ps)
@@ -146,7 +146,7 @@ fn tell_text<L: Read, V: Visitor>(
     ensures fates { OnOk result (TellsFates (asked_by choice.old) (asked_by choice.new)
         (V.told visitor.old) (V.told visitor.new)) }
     ensures finds { OnOk result (TellsFound (asked_by choice.old)
-        (found_in_text (asked_by choice.old) (chars text.now)) []
+        (found_in_text (asked_by choice.old) place.old.index (chars text.now)) []
         (V.told visitor.old) (V.told visitor.new)) }
     ensures fits { (offset : ℕ) (ps : List Piece)
         → IsLeftOfLog (FitsFrom place.old.index offset (chars text.now) ps)
@@ -179,7 +179,7 @@ fn tell_malformed<L: Read, V: Visitor>(
     ensures fates { OnOk result (TellsFates (asked_by choice.old) (asked_by choice.new)
         (V.told visitor.old) (V.told visitor.new)) }
     ensures finds { OnOk result (TellsFound (asked_by choice.old)
-        (Finding.Malformed offset length ∷ []) []
+        ((place.index, Finding.Malformed offset length) ∷ []) []
         (V.told visitor.old) (V.told visitor.new)) }
     ensures fits { (ps : List Piece) → 0 < length
         → IsLeftOfLog (Fits place.index offset (malformed length ∷ ps))
@@ -303,8 +303,9 @@ impl<'t> Walk<'t> {
 /// lines of the entries, in their order, and then its end: none was passed over. A character that
 /// is told then is folded in the target that the choice asks, where folds are asked for, or lost
 /// there; or it is lost by its line in the log. On success, if the choice goes by no log, nothing
-/// is left out: each malformed sequence is told, and each character that its target loses, or
-/// folds, if folds are asked for.
+/// is left out: each malformed sequence is told once, and so is each character that its target
+/// loses, or folds, if folds are asked for, each with its place, in the order of the input. The
+/// U+FFFD of a malformed sequence is told by that alone.
 ///
 /// The error is what the choice or the visitor ended with (`Unfit`, `Log`, `Write`, `Memory`),
 /// `Input` if a read fails, or `TooLong` if the input has more than 2^48 bytes. It is not `Unfit`
@@ -325,7 +326,7 @@ pub fn tell_places<R: Read, L: Read, V: Visitor>(
     ensures fates { OnOk result (TellsFates (asked_by choice.old) (asked_by choice.new)
         (V.told visitor.old) (V.told visitor.new)) }
     ensures finds { (x : List ℕ) → R.remaining reader.old ≡ Some x
-        → OnOk result (TellsFound (asked_by choice.old) (found_in (asked_by choice.old) 0
+        → OnOk result (TellsFound (asked_by choice.old) (found_in (asked_by choice.old) 0 0
         (marked_pieces source.entry.tables.now source.entry.mark source.entry.from x)) []
         (V.told visitor.old) (V.told visitor.new)) }
     ensures fits { (x : List ℕ) → R.remaining reader.old ≡ Some x

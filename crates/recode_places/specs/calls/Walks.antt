@@ -4,12 +4,11 @@ use Rattle.encoding_mem.specs.Piece.{Piece, sizes, text}
 use Rattle.encoding_mem.specs.calls.Decoding.{DecoderState}
 use Rattle.encoding_front.specs.calls.DecoderViews.{decoder_view}
 use Rattle.recode_places.specs.Entries.{TellsTrueIn}
-use Rattle.recode_places.specs.Findings.{Asked, TellsFound, found_in}
+use Rattle.recode_places.specs.Findings.{Asked, Found, TellsFound, found_in}
 use Rattle.recode_places.specs.Fits.{Fits, IsLeftOfLog}
 use Rattle.recode_places.specs.Logs.{LogLeft}
 use Rattle.recode_places.specs.Places.{IsPlaceAfter}
 use Rattle.recode_places.specs.declared.entry.Entry.{Entry}
-use Rattle.recode_places.specs.declared.entry.Finding.{Finding}
 use Rattle.recode_places.specs.declared.place.Place.{Place}
 use Rattle.recode_places.specs.declared.walk.Walk.{Walk}
 
@@ -80,8 +79,8 @@ abbrev pub FitsAhead : WalkState → LogLeft → List ℕ → Type 0
 FitsAhead w left x = IsLeftOfLog (Fits w.place.index (w.read - w.decoder.pending) (w.decoder.pieces x)) left
 
 -- what a walk has still to find: in these bytes, and in what its decoder holds
-abbrev pub found_ahead : Asked → WalkState → List ℕ → List Finding
-found_ahead a w x = found_in a (w.read - w.decoder.pending) (w.decoder.pieces x)
+abbrev pub found_ahead : Asked → WalkState → List ℕ → List Found
+found_ahead a w x = found_in a w.place.index (w.read - w.decoder.pending) (w.decoder.pieces x)
 
 -- if no log is asked, a walk that had these bytes to pass, and now has those left, told what it found in between
 abbrev pub TellsPassed : Asked → (v w : WalkState) (bytes left : List ℕ) (told told' : Option (List Entry)) → Type 0

@@ -11,16 +11,22 @@ use Rattle.recode_places.specs.declared.entry.Finding.TheVariants.{Folded, Lost,
 abbrev asking : (folds : Bool) → Asked
 asking folds = record { has_log = false; target = Some (record { tables = record { flats = []; rows = None }; encoding = ShiftJis }); folds = folds }
 
--- of `a`, the yen sign and U+65E5, which has no bytes
-of_folds : found_in_text (asking true) (0x61 ∷ 0xA5 ∷ 0x65E5 ∷ []) ≡ Folded 0xA5 (Some 0x5C) ∷ Lost 0x65E5 ∷ []
+-- of `a`, the yen sign and U+65E5, which has no bytes: the first has index 7
+of_folds : found_in_text (asking true) 7 (0x61 ∷ 0xA5 ∷ 0x65E5 ∷ []) ≡ (8, Folded 0xA5 (Some 0x5C)) ∷ (9, Lost 0x65E5) ∷ []
 unfolding fate_of pieces_in
 of_folds = refl
 
-of_lost : found_in_text (asking false) (0x61 ∷ 0xA5 ∷ 0x65E5 ∷ []) ≡ Lost 0x65E5 ∷ []
+of_lost : found_in_text (asking false) 7 (0x61 ∷ 0xA5 ∷ 0x65E5 ∷ []) ≡ (9, Lost 0x65E5) ∷ []
 unfolding fate_of pieces_in
 of_lost = refl
 
+-- each of two equal characters, at its own index
+of_equal : found_in_text (asking false) 0 (0x65E5 ∷ 0x61 ∷ 0x65E5 ∷ []) ≡ (0, Lost 0x65E5) ∷ (2, Lost 0x65E5) ∷ []
+unfolding fate_of pieces_in
+of_equal = refl
+
 -- `a`, a byte that is malformed, U+65E5, and two bytes that are
-of_input : found_in (asking true) 0 (well_formed 1 (0x61 ∷ []) ∷ malformed 1 ∷ well_formed 3 (0x65E5 ∷ []) ∷ malformed 2 ∷ []) ≡ Malformed 1 1 ∷ Lost 0x65E5 ∷ Malformed 5 2 ∷ []
+of_input : found_in (asking true) 0 0 (well_formed 1 (0x61 ∷ []) ∷ malformed 1 ∷ well_formed 3 (0x65E5 ∷ []) ∷ malformed 2 ∷ [])
+    ≡ (1, Malformed 1 1) ∷ (2, Lost 0x65E5) ∷ (3, Malformed 5 2) ∷ []
 unfolding fate_of pieces_in
 of_input = refl

@@ -49,11 +49,11 @@ returns-in_err-entry-in-Some-clause-told g c = λ ps t p.
 pub returns-clause-finds : goal.returns-clause-finds
 returns-clause-finds g c =
     let a = asked_by c.args.choice.now in
-    let finds = TellsFound a (found_in_text a (c.args.c ∷ [])) [] (g.V.Visitor.told c.args.visitor.now) in
+    let finds = TellsFound a (found_in_text a c.args.place.now.index (c.args.c ∷ [])) [] (g.V.Visitor.told c.args.visitor.now) in
     let told = c.in_ok-finding.ensures.told in
     elim c.match-branch-2.branch [
       | in-Some+in_ok-entry-in-Some w ↦
           subst finds (sym (c.characters.ensures ∙ ap g.V.Visitor.told w.visitor-is)) (found_one a c.args.c _ _ _ (subst (IsToldOf a c.args.c) w.in-Some.is told) w.in_ok-entry-in-Some.ensures.ok)
       | in-None w ↦
-          subst finds (sym (c.characters.ensures ∙ ap g.V.Visitor.told w.visitor-is)) (found_nothing a c.args.c _ (subst (IsToldOf a c.args.c) w.in-None.is told))
+          subst finds (sym (c.characters.ensures ∙ ap g.V.Visitor.told w.visitor-is)) (found_nothing a c.args.place.now.index c.args.c _ (subst (IsToldOf a c.args.c) w.in-None.is told))
     ]

@@ -94,5 +94,5 @@ returns-then-count-eq0-clause-finds g c = λ x e.
     let next = consumed _ _ _ now.0 c.in-Ok.ensures.bytes.0 now.1 in
     let ended = eq-eqb (length (take c.in-Ok.count c.read.new.buf)) 0 (omega (arith, c.in-Ok.ensures.bound.1, c.if-count-eq0.true)) in
     let none = at_end _ next.0 next.1 (c.in-Ok.ensures.bytes.1 (c.in-Ok.ensures.bound.1 ∙ eqb-true _ 0 ended) (omega (arith, c.read.auto.buf))) in
-    if_ok_anyway _ _ (tells_all (asked_by c.args.choice.now) (decoder_view c.new.result).state.pending (decoder_view c.new.result).state.pieces _ (walk_state c.chunk.new.self) _ _ c.new.ensures.begins.pieces x next.0 none (c.in_ok-chunk.ensures.chunk.end ended)
+    if_ok_anyway _ _ (tells_all (asked_by c.args.choice.now) c.first.result.index (decoder_view c.new.result).state.pending (decoder_view c.new.result).state.pieces _ (walk_state c.chunk.new.self) _ _ c.first.ensures.index c.new.ensures.begins.pieces x next.0 none (c.in_ok-chunk.ensures.chunk.end ended)
     (tells_read (asked_by c.args.choice.now) (asked_by c.input.choice) _ (walk_state c.input.walk) (walk_state c.chunk.new.self) _ _ _ _ _ _ c.input.invariant.fates.0 next.2 now.2 (c.in_ok-chunk.ensures.finds next.0 (λ end. none))))

@@ -27,7 +27,7 @@ loop-c-preserved g c =
           (e.fits o rest ps (i.fits o (c.in-Some.c ∷ rest) ps (subst (λ t. IsLeftOfLog (FitsFrom c.args.place.now.index o t ps) (choice_left g.L.Read.remaining c.args.choice.now)) (append_assoc c.loop-c.yielded (c.in-Some.c ∷ []) rest) h)));
       lines = lines_then _ _ _ _ _ _ i.lines e.lines;
       fates = fated_then _ _ _ _ _ _ i.fates e.fates;
-      finds = found_on (asked_by c.args.choice.now) (asked_by c.loop-c.choice) c.loop-c.yielded (c.in-Some.c ∷ []) _ _ _ i.fates.0 i.finds e.finds;
+      finds = found_on (asked_by c.args.choice.now) (asked_by c.loop-c.choice) c.args.place.now.index _ c.loop-c.yielded (c.in-Some.c ∷ []) _ _ _ i.fates.0 i.index i.finds e.finds;
       told = λ ps t p. tells_on ps t c.loop-c.yielded (c.in-Some.c ∷ []) _ _ _ (i.told ps t p) (e.told ps (t ++ c.loop-c.yielded) (i.place t p));
     }
 
@@ -86,11 +86,11 @@ pub returns-then-passes_over-clause-finds : goal.returns-then-passes_over-clause
 returns-then-passes_over-clause-finds g c =
     let a = asked_by c.args.choice.now in
     let told = g.V.Visitor.told c.args.visitor.now in
-    subst (TellsFound a (found_in_text a (chars c.args.text.now)) [] told) (sym c.in_ok-characters.ensures) (found_none a _ _ told (kept_found a (chars c.args.text.now) (c.passes_over.ensures.kept c.if-passes_over.true)))
+    subst (TellsFound a (found_in_text a c.args.place.now.index (chars c.args.text.now)) [] told) (sym c.in_ok-characters.ensures) (found_none a _ _ told (kept_found a c.args.place.now.index (chars c.args.text.now) (c.passes_over.ensures.kept c.if-passes_over.true)))
 
 pub returns-clause-finds : goal.returns-clause-finds
 returns-clause-finds g c =
     let a = asked_by c.args.choice.now in
     let done = YieldsList-end (YieldsList-from_chars c.args.text.now c.utf8.text cc) c.loop-c.yielded _ c.loop-c.yielded_by _ _ c.in-None.is c.next.ensures.steps in
     let all : c.loop-c.yielded ≡ chars c.args.text.now = sym (map-id c.loop-c.yielded) ∙ done.0 in
-    subst (λ t. TellsFound a (found_in_text a t) [] (g.V.Visitor.told c.args.visitor.now) (g.V.Visitor.told c.loop-c.visitor)) all c.loop-c.invariant.finds
+    subst (λ t. TellsFound a (found_in_text a c.args.place.now.index t) [] (g.V.Visitor.told c.args.visitor.now) (g.V.Visitor.told c.loop-c.visitor)) all c.loop-c.invariant.finds

@@ -166,16 +166,16 @@ returns-in_ok-malformed-in-Malformed-clause-fits g c = λ r end h.
 pub returns-in-InputEmpty-clause-finds : goal.returns-in-InputEmpty-clause-finds
 returns-in-InputEmpty-clause-finds g c = λ r end.
     let call = c.decode_to_utf8_without_replacement-outcome in
-    tells_done (walk_state c.args.self.now) (decoder_view call.new.self).state _ _ _ _ _ call.ensures.call.law _ (call_chars (decoder_view c.args.self.now.decoder).state (decoder_view call.new.self).state _ _ _ _ _ _ _ call.ensures.call.law _ c.from_utf8_unchecked-text.ensures) c.requires.ready.within r end (asked_by c.args.choice.now) _ _ (ap reported c.in-InputEmpty.is) c.in_ok-tell_text.ensures.finds
+    tells_done (walk_state c.args.self.now) (decoder_view call.new.self).state _ _ _ _ _ call.ensures.call.law _ (call_chars (decoder_view c.args.self.now.decoder).state (decoder_view call.new.self).state _ _ _ _ _ _ _ call.ensures.call.law _ c.from_utf8_unchecked-text.ensures) c.requires.ready.within r end (asked_by c.args.choice.now) _ _ _ (ap reported c.in-InputEmpty.is) c.in_ok-tell_text.ensures.index c.in_ok-tell_text.ensures.finds
 
 pub returns-in-OutputFull-clause-finds : goal.returns-in-OutputFull-clause-finds
 returns-in-OutputFull-clause-finds g c = λ r end.
     let call = c.decode_to_utf8_without_replacement-outcome in
-    tells_done (walk_state c.args.self.now) (decoder_view call.new.self).state _ _ _ _ _ call.ensures.call.law _ (call_chars (decoder_view c.args.self.now.decoder).state (decoder_view call.new.self).state _ _ _ _ _ _ _ call.ensures.call.law _ c.from_utf8_unchecked-text.ensures) c.requires.ready.within r end (asked_by c.args.choice.now) _ _ (ap reported c.in-OutputFull.is) c.in_ok-tell_text.ensures.finds
+    tells_done (walk_state c.args.self.now) (decoder_view call.new.self).state _ _ _ _ _ call.ensures.call.law _ (call_chars (decoder_view c.args.self.now.decoder).state (decoder_view call.new.self).state _ _ _ _ _ _ _ call.ensures.call.law _ c.from_utf8_unchecked-text.ensures) c.requires.ready.within r end (asked_by c.args.choice.now) _ _ _ (ap reported c.in-OutputFull.is) c.in_ok-tell_text.ensures.index c.in_ok-tell_text.ensures.finds
 
 pub returns-in_ok-malformed-in-Malformed-clause-finds : goal.returns-in_ok-malformed-in-Malformed-clause-finds
 returns-in_ok-malformed-in-Malformed-clause-finds g c = λ r end.
     let call = c.decode_to_utf8_without_replacement-outcome in
     rw c.in_ok-malformed-in-Malformed.ensures (tells_malformed (walk_state c.args.self.now) (decoder_view call.new.self).state _ _ _ _ _ call.ensures.call.law _ (call_chars (decoder_view c.args.self.now.decoder).state (decoder_view call.new.self).state _ _ _ _ _ _ _ call.ensures.call.law _ c.from_utf8_unchecked-text.ensures) c.requires.ready.within r end _ _ c.in-Malformed.is
-    (asked_by c.args.choice.now) (asked_by c.tell_text.new.choice) _ _ _ _ (omega (arith, c.from.ensures, c.from-in-Malformed.ensures, malformed_within (decoder_view c.args.self.now.decoder).state (decoder_view call.new.self).state _ _ _ _ _ _ _ c.args.self.now.place.index c.args.self.now.read c.in-Malformed.is call.ensures.call.law c.requires.ready.within))
-    c.in_ok-tell_text.ensures.fates.0 c.in_ok-tell_text.ensures.finds c.in_ok-tell_malformed-in-Malformed.ensures.finds)
+    (asked_by c.args.choice.now) (asked_by c.tell_text.new.choice) _ _ _ _ _ _ (omega (arith, c.from.ensures, c.from-in-Malformed.ensures, malformed_within (decoder_view c.args.self.now.decoder).state (decoder_view call.new.self).state _ _ _ _ _ _ _ c.args.self.now.place.index c.args.self.now.read c.in-Malformed.is call.ensures.call.law c.requires.ready.within))
+    c.in_ok-tell_text.ensures.index c.pass.ensures.index c.in_ok-tell_text.ensures.fates.0 c.in_ok-tell_text.ensures.finds c.in_ok-tell_malformed-in-Malformed.ensures.finds)
