@@ -74,9 +74,9 @@ fn take_piece<F: DecoderRule, S: Sink>(
 }
 
 // Takes pairs of bytes, as long as each is a character from U+0800 to U+FFFF and has room, and the
-// single ASCII characters between them, and returns how many bytes they are. Words of such
-// characters, with spaces between them, are what text is made of, and none of them asks for room by
-// itself, or for a run of text.
+// single ASCII characters between them, and returns how many bytes they are. Text has words of such
+// characters with spaces between them, and no character of it asks for room by itself, or for a run
+// of text.
 #[inline(always)]
 fn take_pairs<F: DecoderRule, S: Sink>(codec: &mut F, src: &[u8], sink: &mut S) -> usize
     ensures law { Takes AreWellFormed (F.pieces codec.old) (F.pieces codec.new)
@@ -89,24 +89,31 @@ fn take_pairs<F: DecoderRule, S: Sink>(codec: &mut F, src: &[u8], sink: &mut S) 
         return 0;
     }
     let mut rest = src;
-    // Each has three bytes of UTF-8. If units are written, a third of the room would do.
+    // Each has at most three bytes of UTF-8. If units are written, a third of the room would do.
     let mut pairs_left = (src.len() / 2).min(sink.free_len() / 3);
     'pairs: while pairs_left > 0 {
         let pair = &rest[..2];
-        match codec.first_piece(pair, false) {
-            FirstPiece::One(c, 2) if c >= '\u{800}' && c <= '\u{FFFF}' => {
-                sink.put(c);
-                codec.pass(pair);
-                rest = &rest[2..];
-                pairs_left -= 1;
+        // Asked apart, so that the loop tests of a pair only what a pair needs.
+        if pair[0] < 0x80 && pair[1] >= 0x80 {
+            match codec.first_piece(pair, false) {
+                FirstPiece::One(c, 1) if c < '\u{80}' => {
+                    sink.put(c);
+                    codec.pass(pair);
+                    rest = &rest[1..];
+                    pairs_left -= 1;
+                }
+                _ => break,
             }
-            FirstPiece::One(c, 1) if c < '\u{80}' && pair[1] >= 0x80 => {
-                sink.put(c);
-                codec.pass(pair);
-                rest = &rest[1..];
-                pairs_left -= 1;
+        } else {
+            match codec.first_piece(pair, false) {
+                FirstPiece::One(c, 2) if c >= '\u{800}' && c <= '\u{FFFF}' => {
+                    sink.put(c);
+                    codec.pass(pair);
+                    rest = &rest[2..];
+                    pairs_left -= 1;
+                }
+                _ => break,
             }
-            _ => break,
         }
     }
     src.len() - rest.len()

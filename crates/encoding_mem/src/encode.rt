@@ -3,7 +3,7 @@
 ghost use Rattle.std.specs.Prelude.{◌≡◌, ◌≢◌, true, ℕ, ◌+◌, ◌-◌, ◌<◌, ◌≤◌, List, [], ◌∷◌, ◌++◌};
 ghost use Rattle.std.specs.Prelude.{length, take, drop};
 ghost use Rattle.encoding_mem.specs.Coding.{IsCoding};
-ghost use Rattle.encoding_mem.specs.calls.DecodedLength.{bound_at, cost_in};
+ghost use Rattle.encoding_mem.specs.calls.DecodedLength.{bound_at};
 ghost use Rattle.encoding_mem.specs.calls.EncodedLength.{IsRoomFor, bound_for};
 ghost use Rattle.encoding_mem.specs.declared.room.EncodedLength.{EncodedLength};
 ghost use Rattle.encoding_mem.specs.calls.EncoderRule.{CopiesAscii, CopiesUtf8, EncoderCall};
@@ -177,39 +177,26 @@ fn put(dst: &mut [u8], at: usize, bytes: &[u8]) -> usize
     }
 }
 
-// Copies the next run of ASCII, which begins with `c`, to an offset, as much of it as fits, and
-// returns the offset after it. A character that is no run is put by itself, without a call. The
-// conditions are that `peek` returns `c` with `len`, that `c` is ASCII, and that it has room.
+// Copies the next run of ASCII to an offset, as much of it as fits, and returns the offset after
+// it.
 #[inline(always)]
-fn copy_run<S: Source>(source: &mut S, c: char, len: usize, dst: &mut [u8], at: usize) -> usize
-    requires next { left S.text (S.all source.old) (S.offset source.old)
-        ≡ c ∷ left S.text (S.all source.old) (S.offset source.old + len) }
-    requires first { S.IsBoundary (drop (S.offset source.old) (S.all source.old)) len }
-    requires within { S.offset source.old + len ≤ length (S.all source.old) }
-    requires size { len ≡ cost_in S.is_units c }
-    requires ascii { c < 0x80 }
-    requires room { at < length dst.old }
+fn copy_run<S: Source>(source: &mut S, dst: &mut [u8], at: usize) -> usize
+    requires { at ≤ length dst.old }
     ensures same { S.all source.new ≡ S.all source.old }
     ensures room { result ≤ length dst.new }
-    ensures run { IsRun (left S.text (S.all source.old) (S.offset source.old))
-        (left S.text (S.all source.old) (S.offset source.new))
+    ensures run { IsRun (left S.text (S.all source.old) (S.offset source.old)) (left S.text (S.all source.old) (S.offset source.new))
         (take at dst.old) (take result dst.new) }
     ensures behind { drop result dst.new ≡ drop result dst.old }
     ensures after { at ≤ result }
     ensures offset { S.offset source.new ≡ S.offset source.old + (result - at) }
-    ensures some { length (left S.text (S.all source.old) (S.offset source.new))
-        < length (left S.text (S.all source.old) (S.offset source.old)) }
+    ensures some { (c : ℕ) (rest : List ℕ) → left S.text (S.all source.old) (S.offset source.old) ≡ c ∷ rest
+        → c < 0x80 → at < length dst.old
+        → length (left S.text (S.all source.old) (S.offset source.new)) < length (left S.text (S.all source.old) (S.offset source.old)) }
 {
-    if source.is_second_ascii() {
-        return at + source.copy_ascii(&mut dst[at..]);
-    }
-    let end = put_all(dst, at, &[c as u8]);
-    source.advance_by(len);
-    end
+    at + source.copy_ascii(&mut dst[at..])
 }
 
 // The call below, character by character but for runs of ASCII.
-#[inline(always)]
 fn encode_each<T: EncoderRule, S: Source>(
     target: &T,
     set: &mut EscapeState,
@@ -229,8 +216,9 @@ fn encode_each<T: EncoderRule, S: Source>(
 {
     let mut written = 0;
     while let Some((c, len)) = source.peek() {
-        if u32::from(c) < 0x80 && written < dst.len() && target.copies_ascii(*set) {
-            written = copy_run(source, c, len, dst, written);
+        let is_run = u32::from(c) < 0x80 && source.is_second_ascii();
+        if is_run && written < dst.len() && target.copies_ascii(*set) {
+            written = copy_run(source, dst, written);
             continue;
         }
         let (next, form) = target.step(*set, c);
@@ -274,8 +262,7 @@ fn encode_each<T: EncoderRule, S: Source>(
 ///
 /// It ends when all is read, at the first character without bytes, whose escape is written, and
 /// when the next escape or character does not fit. After a call with `last` that read all, the set
-/// is ASCII. For speed the caller lends a source of its own (`Source::detach`).
-#[inline(always)]
+/// is ASCII.
 pub fn encode<T: EncoderRule, S: Source>(
     target: &T,
     set: &mut EscapeState,

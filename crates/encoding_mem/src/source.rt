@@ -18,11 +18,10 @@ use crate::ascii::ascii_prefix;
 use crate::ascii_copies::copy_basic_latin_to_ascii;
 use crate::scalar::scalar_of;
 use crate::utf16_conversions::convert_utf16_to_utf8_partial;
-use std::mem;
 
 /// A text that is read character by character from its start: a list of bytes of UTF-8 or of units
 /// of UTF-16, which stays as it is, and an offset in it. Encoders read any.
-pub trait Source: Drop {
+pub trait Source {
     /// The text of a list of units.
     ghost text: { List ℕ → List ℕ };
 
@@ -107,11 +106,6 @@ pub trait Source: Drop {
         ensures offset { result ≡ offset self.now }
         ensures within { result ≤ length (all self.now) }
         ensures boundary { IsBoundary (all self.now) result };
-
-    /// Hands out the source, and leaves an empty one in its place, for a loop that puts it back at
-    /// its end, as `Sink::detach` does.
-    fn detach(&mut self) -> Self
-        ensures { result ≡ self.old };
 
     /// The offset is at most the length of the list.
     ghost within: { (s : Self) → offset s ≤ length (all s) };
@@ -221,7 +215,6 @@ impl<'a> Source for Utf8Source<'a> {
         matches!(self.rest.as_bytes(), [_, b, ..] if *b < 0x80)
     }
 
-    #[inline(always)]
     fn copy_ascii(&mut self, dst: &mut [u8]) -> usize {
         let (run, rest) = ascii_run(self.rest, dst.len());
         let count = run.len();
@@ -243,11 +236,6 @@ impl<'a> Source for Utf8Source<'a> {
     #[inline(always)]
     fn read(&self) -> usize {
         self.read
-    }
-
-    #[inline(always)]
-    fn detach(&mut self) -> Self {
-        mem::replace(self, Utf8Source::new(""))
     }
 
     ghost within = { λ s. sum_within s.read (length s.rest.now) (length s.text.now) s.sum };
@@ -344,7 +332,6 @@ impl<'a> Source for Utf16Source<'a> {
         matches!(&self.units[self.offset..], [_, unit, ..] if *unit < 0x80)
     }
 
-    #[inline(always)]
     fn copy_ascii(&mut self, dst: &mut [u8]) -> usize {
         let count = narrow_ascii(&self.units[self.offset..], dst);
         self.offset += count;
@@ -360,11 +347,6 @@ impl<'a> Source for Utf16Source<'a> {
     #[inline(always)]
     fn read(&self) -> usize {
         self.offset
-    }
-
-    #[inline(always)]
-    fn detach(&mut self) -> Self {
-        mem::replace(self, Utf16Source::new(&[]))
     }
 
     ghost within = { λ s. s.within };

@@ -57,17 +57,16 @@ impl<R: EncoderRule> SourceEncoder for R {
 
     ghost laws = { R.laws };
 
+    #[inline(always)]
     fn encode_from<S: Source>(
         &mut self,
         source: &mut S,
         dst: &mut [u8],
         last: bool,
     ) -> (EncoderResult, usize) {
-        let mut own = source.detach();
         let mut set = self.current_set();
-        let (result, written) = encode(self, &mut set, &mut own, dst, last);
+        let (result, written) = encode(self, &mut set, source, dst, last);
         self.enter(set);
-        *source = own;
         (result, written)
     }
 

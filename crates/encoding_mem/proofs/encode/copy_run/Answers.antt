@@ -1,18 +1,18 @@
-use Rattle.std.proofs.Common.{◌++◌, ◌∙◌, refl, ap, arith, take}
+use Rattle.std.proofs.Common.{refl, ◌++◌, ◌∙◌, ap, take}
 use Rattle.encoding_mem.proofs.DestinationLemmas.{take_into, drop_into}
 use Rattle.encoding_mem.specs.calls.EncoderRule.{left}
 use Rattle.encoding_mem.proofs.encode.copy_run.Goals as goal
 
-pub returns-then-is_second_ascii-clause-run : goal.returns-then-is_second_ascii-clause-run
-returns-then-is_second_ascii-clause-run g c =
+pub returns-clause-run : goal.returns-clause-run
+returns-clause-run g c =
     let e = c.copy_ascii.ensures in
     let run = take c.copy_ascii.result c.copy_ascii.new.dst in
     record {
       run = run;
       ascii = e.ascii;
       taken = e.text ∙ ap (λ l. run ++ left g.S.Source.text l (g.S.Source.offset c.copy_ascii.new.self)) e.same;
-      put = take_into _ _ _ _ _ (omega (arith, c.requires.room)) e.fits;
+      put = take_into _ _ _ _ _ c.requires e.fits;
     }
 
-pub returns-then-is_second_ascii-clause-behind : goal.returns-then-is_second_ascii-clause-behind
-returns-then-is_second_ascii-clause-behind g c = drop_into _ _ _ _ _ (omega (arith, c.requires.room)) refl c.copy_ascii.ensures.fits c.copy_ascii.ensures.behind
+pub returns-clause-behind : goal.returns-clause-behind
+returns-clause-behind g c = drop_into _ _ _ _ _ c.requires refl c.copy_ascii.ensures.fits c.copy_ascii.ensures.behind
