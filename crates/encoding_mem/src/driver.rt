@@ -93,27 +93,26 @@ fn take_pairs<F: DecoderRule, S: Sink>(codec: &mut F, src: &[u8], sink: &mut S) 
     let mut pairs_left = (src.len() / 2).min(sink.free_len() / 3);
     'pairs: while pairs_left > 0 {
         let pair = &rest[..2];
-        // Asked apart, so that the loop tests of a pair only what a pair needs.
-        if pair[0] < 0x80 && pair[1] >= 0x80 {
-            match codec.first_piece(pair, false) {
-                FirstPiece::One(c, 1) if c < '\u{80}' => {
-                    sink.put(c);
-                    codec.pass(pair);
-                    rest = &rest[1..];
-                    pairs_left -= 1;
-                }
-                _ => break,
+        match codec.first_piece(pair, false) {
+            FirstPiece::One(c, 2) if c >= '\u{800}' && c <= '\u{FFFF}' => {
+                sink.put(c);
+                codec.pass(pair);
+                rest = &rest[2..];
+                pairs_left -= 1;
+                continue;
             }
-        } else {
-            match codec.first_piece(pair, false) {
-                FirstPiece::One(c, 2) if c >= '\u{800}' && c <= '\u{FFFF}' => {
-                    sink.put(c);
-                    codec.pass(pair);
-                    rest = &rest[2..];
-                    pairs_left -= 1;
-                }
-                _ => break,
+            _ if pair[0] < 0x80 && pair[1] >= 0x80 => {}
+            _ => break,
+        }
+        // Asked apart, so that nothing but a pair is tested for in a run of pairs.
+        match codec.first_piece(pair, false) {
+            FirstPiece::One(c, 1) if c < '\u{80}' => {
+                sink.put(c);
+                codec.pass(pair);
+                rest = &rest[1..];
+                pairs_left -= 1;
             }
+            _ => break,
         }
     }
     src.len() - rest.len()
