@@ -7,7 +7,7 @@ use Rattle.std.proofs.lemmas.Str.{encodes-chars}
 use Rattle.std.proofs.lemmas.List.Sums.{sum_by-append, sum_by-cons, count_by-le-length}
 use Rattle.std.proofs.lemmas.Bool.{cases_lt, lt-ltb, le-ltb, le-leb, lt-leb}
 use Rattle.recode.specs.calls.Character.{begins_character}
-use Rattle.std.specs.Prelude.{nat_lt, nat_le}
+use Rattle.std.specs.Prelude.{nat_le}
 use Rattle.std.proofs.lemmas.List.{length-take-le, length-drop, take_all, take-append-drop}
 
 begins_low : (b : ℕ) → b < 0x80 → begins_character b ≡ true
@@ -50,16 +50,26 @@ characters_begin text u = ap (count_by begins_character) (sym (encodes-chars tex
 
 -- How many characters begin in some bytes, by vectors.
 
--- no byte passes both tests
-one_of_both : (b : ℕ) → cond (nat_lt b 0x80) 1 0 + cond (nat_le 0xC0 b) 1 0 ≡ cond (begins_character b) 1 0
-one_of_both b = elim (cases_lt b 0x80) [
-  | inl low ↦ rw (lt-ltb b 0x80 low) (rw (lt-leb 0xC0 b (omega arith)) refl)
-  | inr high ↦ rw (le-ltb b 0x80 high) (omega arith)
+-- A byte that is not ASCII begins a character if it is a lead.
+one_by_lead : (b : ℕ) → cond (begins_character b) 1 0 + cond (nat_le 0x80 b) 1 0 ≡ 1 + cond (nat_le 0xC0 b) 1 0
+one_by_lead b = elim (cases_lt b 0x80) [
+  | inl low ↦ rw (lt-ltb b 0x80 low, lt-leb 0x80 b low, lt-leb 0xC0 b (omega arith)) refl
+  | inr high ↦ rw (le-ltb b 0x80 high, le-leb 0x80 b high) (omega arith)
 ]
 
-pub both_counts : (xs : List ℕ) → count_by (λ b. nat_lt b 0x80) xs + count_by (λ b. nat_le 0xC0 b) xs ≡ count_by begins_character xs
-both_counts [] = refl
-both_counts (b ∷ xs) = omega (arith, sum_by-cons (λ y. cond (nat_lt y 0x80) 1 0) b xs, sum_by-cons (λ y. cond (nat_le 0xC0 y) 1 0) b xs, sum_by-cons (λ y. cond (begins_character y) 1 0) b xs, one_of_both b, both_counts xs)
+pub counted_by_leads : (xs : List ℕ) → count_by begins_character xs + count_by (nat_le 0x80) xs ≡ length xs + count_by (nat_le 0xC0) xs
+counted_by_leads [] = refl
+counted_by_leads (b ∷ xs) = omega (arith, sum_by-cons (λ y. cond (begins_character y) 1 0) b xs, sum_by-cons (λ y. cond (nat_le 0x80 y) 1 0) b xs, sum_by-cons (λ y. cond (nat_le 0xC0 y) 1 0) b xs, one_by_lead b, counted_by_leads xs)
+
+lead_is_other : (b : ℕ) → cond (nat_le 0xC0 b) 1 0 ≤ cond (nat_le 0x80 b) 1 0
+lead_is_other b = elim (cases_lt b 0xC0) [
+  | inl low ↦ rw (lt-leb 0xC0 b low) (omega arith)
+  | inr high ↦ rw (le-leb 0xC0 b high, le-leb 0x80 b (omega arith)) (omega arith)
+]
+
+pub leads_are_others : (xs : List ℕ) → count_by (nat_le 0xC0) xs ≤ count_by (nat_le 0x80) xs
+leads_are_others [] = omega arith
+leads_are_others (b ∷ xs) = omega (arith, sum_by-cons (λ y. cond (nat_le 0x80 y) 1 0) b xs, sum_by-cons (λ y. cond (nat_le 0xC0 y) 1 0) b xs, lead_is_other b, leads_are_others xs)
 
 -- n bytes more
 pub more_counted : (xs : List ℕ) (at n : ℕ) → count_by begins_character (take (at + n) xs) ≡ count_by begins_character (take at xs) + count_by begins_character (take n (drop at xs))

@@ -270,14 +270,17 @@ pub fn count_characters(text: &str) -> usize
 // How many bytes are looked at together.
 const LANES: usize = 64;
 
-// How many bytes of a vector begin a character.
+// How many bytes of a vector begin a character: all of them if it is ASCII.
 #[inline(always)]
 fn beginnings_in(block: u8x64) -> usize
     ensures { result ≡ count_by begins_character block }
 {
-    let alone = block.simd_lt(u8x64::splat(0x80)).to_bitmask().count_ones();
-    let leads = block.simd_ge(u8x64::splat(0xC0)).to_bitmask().count_ones();
-    alone as usize + leads as usize
+    let others = block.simd_ge(u8x64::splat(0x80)).to_bitmask();
+    if others == 0 {
+        return LANES;
+    }
+    let leads = block.simd_ge(u8x64::splat(0xC0)).to_bitmask();
+    LANES - others.count_ones() as usize + leads.count_ones() as usize
 }
 
 // How many bytes begin a character, one by one.
