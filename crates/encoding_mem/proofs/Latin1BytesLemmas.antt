@@ -12,6 +12,10 @@ use Rattle.encoding_mem.proofs.DestinationLemmas.{bytes_are_scalars}
 use Rattle.encoding_mem.proofs.Latin1Lemmas.{latin1_from_ascii}
 use Rattle.encoding_mem.proofs.Utf8TextLemmas.{of_two}
 
+-- No bytes.
+pub none_latin1 : (text : List ℕ) → length text ≡ 0 → IsLatin1Text text
+none_latin1 text none = latin1_from_ascii text (λ i. omega (arith, get_or_past text i 0 (omega (arith, none))))
+
 -- One character more.
 one_low : (c : ℕ) → c ≤ 0xFF → (k : ℕ) → get_or (c ∷ []) k 0 < 256
 one_low c low zero = omega arith

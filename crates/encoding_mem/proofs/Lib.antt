@@ -24,3 +24,4 @@ pub mod PlainUnitsLemmas
 pub mod ReplacementLemmas
 pub mod ConversionLemmas
 pub mod TextUnitsLemmas
+pub mod SinkLemmas

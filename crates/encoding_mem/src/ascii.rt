@@ -25,6 +25,8 @@ pub fn longer_ascii_prefix(bytes: &[u8], most: usize) -> &str
     ensures ascii { IsAscii result.now }
     ensures some { 2 ≤ length bytes.now → 2 ≤ most → slice_index bytes.now 0 < 0x80
         → slice_index bytes.now 1 < 0x80 → 2 ≤ length result.now }
+    ensures begins { 0 < length result.now → 2 ≤ length bytes.now
+        × slice_index bytes.now 0 < 0x80 × slice_index bytes.now 1 < 0x80 }
     ensures longest { 0 < length result.now → length result.now < length bytes.now
         → length result.now < most → 0x80 ≤ slice_index bytes.now (length result.now) }
 {

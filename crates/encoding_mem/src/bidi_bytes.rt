@@ -60,8 +60,8 @@ fn any_bidi_in(bytes: &[u8]) -> bool
     ensures none { result ≡ false → (k : ℕ) → k < 16 → is_bidi_at bytes.now k ≡ false }
     ensures some { IsTrue result → (k : ℕ) × IsTrue (is_bidi_at bytes.now k) }
 {
-    // Latin, Greek, Cyrillic, kana, Chinese and Korean letters have none of these bytes, and a byte
-    // is tested faster than three.
+    // Most Latin, Greek, Cyrillic, kana, Chinese and Korean letters have none of these bytes, and a
+    // byte is tested faster than three.
     if !any_bidi_lead(&bytes[..BLOCK]) {
         return false;
     }

@@ -6,7 +6,7 @@ ghost use Rattle.encoding_mem.specs.calls.Driver.{buffered};
 ghost use Rattle.encoding_mem.specs.Decided.{IsUndecided};
 
 use crate::decoder_result::DecoderResult;
-use crate::driver::decode_pieces;
+use crate::driver::decode_detached;
 use crate::first_piece::DecoderRule;
 use crate::pending::Pending;
 use crate::room::DecodedLength;
@@ -54,10 +54,7 @@ impl<F: DecidedPiece> SinkDecoder for Bytewise<F> {
         sink: &mut S,
         last: bool,
     ) -> (DecoderResult, usize) {
-        let mut own = sink.detach();
-        let ended = decode_pieces(&mut self.rule, &mut Pending::new(), src, &mut own, last);
-        *sink = own;
-        ended
+        decode_detached(&mut self.rule, &mut Pending::new(), src, sink, last)
     }
 
     fn held_len(&self) -> usize {

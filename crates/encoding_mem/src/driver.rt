@@ -160,10 +160,9 @@ pub(crate) fn finish_pending<F: DecoderRule, S: Sink>(
 }
 
 /// Decodes a source with nothing pending: runs of text as a whole, and what else there is by
-/// pieces. Returns how the call ended, and the bytes read. For speed the caller lends a sink of its
-/// own (`Sink::detach`).
+/// pieces. Returns how the call ended, and the bytes read.
 #[inline(always)]
-pub(crate) fn decode_pieces<F: DecoderRule, S: Sink>(
+fn decode_pieces<F: DecoderRule, S: Sink>(
     codec: &mut F,
     pending: &mut Pending,
     src: &[u8],
@@ -213,4 +212,32 @@ pub(crate) fn decode_pieces<F: DecoderRule, S: Sink>(
         }
     }
     (DecoderResult::InputEmpty, src.len())
+}
+
+/// Decodes a source with nothing pending (`decode_pieces`), for speed by a sink that this call
+/// owns, if it can be detached (`Sink::detach`).
+#[inline(always)]
+pub(crate) fn decode_detached<F: DecoderRule, S: Sink>(
+    codec: &mut F,
+    pending: &mut Pending,
+    src: &[u8],
+    sink: &mut S,
+    last: bool,
+) -> (DecoderResult, usize)
+    requires { pending.old ≡ [] }
+    ensures call { DriverCall (F.pieces codec.old) (F.pieces codec.new)
+        (F.needs codec.old) (F.needs codec.new) [] pending.new src.now last result.1
+        (λ text. S.writes sink.old text sink.new) S.is_units (S.free sink.old) (S.free sink.new)
+        S.room (S.cost 0xFFFD) (Some result.0) }
+    ensures limits { F.limits codec.new ≡ F.limits codec.old }
+    ensures waits { Remains (F.pieces codec.new) pending.new }
+{
+    match sink.detach() {
+        Some(mut own) => {
+            let ended = decode_pieces(codec, pending, src, &mut own, last);
+            *sink = own;
+            ended
+        }
+        None => decode_pieces(codec, pending, src, sink, last),
+    }
 }

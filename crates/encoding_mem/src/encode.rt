@@ -51,11 +51,13 @@ pub trait EncoderRule {
     fn current_set(&self) -> EscapeState
         ensures { result ≡ (parts self.now).set };
 
-    /// Takes `next` as the set in force. The condition is that it is that set, ASCII, or a set that
-    /// some character is written in: one that the driver has left by `step`.
+    /// Takes `next` as the set in force, if it is one that the driver may leave: the set in force,
+    /// ASCII, or a set that some character is written in. Another may be taken or not. Nothing but
+    /// the set in force changes.
     fn enter(&mut self, next: EscapeState)
-        requires { Moves (parts self.old).coding (parts self.old).set next }
-        ensures { parts self.new ≡ record (parts self.old) { set = next } };
+        ensures same { parts self.new ≡ record (parts self.old) { set = (parts self.new).set } }
+        ensures set { Moves (parts self.old).coding (parts self.old).set next
+            → (parts self.new).set ≡ next };
 
     /// The numbers by which the length queries are computed.
     fn encoded_length(&self) -> EncodedLength

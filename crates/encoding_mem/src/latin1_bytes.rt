@@ -38,7 +38,7 @@ pub(crate) fn is_latin1_text(bytes: &[u8]) -> bool
     ensures { IsTrue result → IsLatin1Text bytes.now }
 {
     if bytes.is_empty() {
-        return false;
+        return true;
     }
     // A continuation byte begins no text.
     if !is_latin1_pair(0, bytes[0]) {

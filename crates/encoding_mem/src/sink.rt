@@ -1,11 +1,15 @@
 //! A destination of decoded text.
 
 ghost use Rattle.std.specs.Prelude.{Bool, if◌then◌else◌, ◌≡◌, ℕ, ◌+◌, ◌<◌, ◌≤◌, ◌↔◌, IsTrue, List};
-ghost use Rattle.std.specs.Prelude.{[], ◌∷◌, ◌++◌, length, slice_index};
+ghost use Rattle.std.specs.Prelude.{[], ◌∷◌, ◌++◌, length, slice_index, MatchOption};
 ghost use Rattle.std.specs.Char.{len_utf8};
 ghost use Rattle.std.specs.Str.{chars, encode_utf8_all};
 ghost use Rattle.encoding_mem.specs.calls.Writing.{len_utf16};
 ghost use Rattle.encoding_mem.specs.calls.TextRun.{text_len};
+ghost use Rattle.encoding_mem.specs.laws.Writing.{cost_within, costs_within};
+
+use crate::scalar::scalar_of;
+use crate::source::first_char;
 
 /// A destination of text, filled from its start, whose units are bytes of UTF-8 or units of UTF-16.
 /// Decoders write into any.
@@ -28,10 +32,6 @@ pub trait Sink: Drop {
     /// That the scalars of a list, written to the first sink, give the second.
     ghost writes: { Self → List ℕ → Self → Type 0 };
 
-    /// How many units are free: bytes of UTF-8 or units of UTF-16.
-    fn free_len(&self) -> usize
-        ensures { result ≡ free self.now };
-
     /// Whether there is room for any character, which is also room for two below U+0800: 4 bytes or
     /// 2 units.
     fn has_room(&self) -> bool
@@ -47,12 +47,33 @@ pub trait Sink: Drop {
         ensures free { free self.new + cost c ≡ free self.old }
         ensures writes { writes self.old (c ∷ []) self.new };
 
+    /// How many units are written: bytes of UTF-8 or units of UTF-16.
+    fn written(&self) -> usize
+        ensures { result ≡ count self.now };
+
+    /// A number of units that are surely free, for which a run of text is put as a whole. It
+    /// decides speed alone: it is 0 for a sink that says nothing, and all that are free for those
+    /// of this crate.
+    #[inline(always)]
+    fn free_len(&self) -> usize
+        ensures { result ≤ free self.now }
+    {
+        0
+    }
+
     /// Writes a text. The condition, that it has at most as many bytes as units are free, is tested
-    /// by comparing its length with `free_len`.
+    /// by comparing its length with `free_len`, or by what the caller knows of the room.
     fn put_text(&mut self, text: &str)
         requires { length text.now ≤ free self.old }
         ensures free { free self.new + text_len is_units text.now ≡ free self.old }
-        ensures writes { writes self.old (chars text.now) self.new };
+        ensures writes { writes self.old (chars text.now) self.new }
+    {
+        let mut rest = text;
+        'characters: while let Some((c, more)) = first_char(rest) {
+            self.put(c);
+            rest = more;
+        }
+    }
 
     /// Writes at most 32 characters below U+D800, given as units of UTF-16. The conditions are
     /// tested by their number, by comparing each with D800 hex and `free_len` with 96.
@@ -62,17 +83,23 @@ pub trait Sink: Drop {
         requires room { 96 ≤ free self.old }
         ensures free { free self.new + text_len is_units (encode_utf8_all units.now)
             ≡ free self.old }
-        ensures writes { writes self.old units.now self.new };
-
-    /// How many units are written: bytes of UTF-8 or units of UTF-16.
-    fn written(&self) -> usize
-        ensures { result ≡ count self.now };
+        ensures writes { writes self.old units.now self.new }
+    {
+        for unit in units {
+            self.put(scalar_of(u32::from(*unit)));
+        }
+    }
 
     /// Hands out the sink, and leaves one without room in its place, for a loop that puts it back
     /// at its end. A loop that owns its sink keeps in registers what it would load and store for
-    /// each character.
-    fn detach(&mut self) -> Self
-        ensures { result ≡ self.old };
+    /// each character. A sink that has none to leave in its place returns `None`, and the loop
+    /// writes to it where it is.
+    #[inline(always)]
+    fn detach(&mut self) -> Option<Self>
+        ensures { MatchOption result (self.new ≡ self.old) (λ s. s ≡ self.old) }
+    {
+        None
+    }
 
     /// A scalar takes the units of its form in UTF-16, or in UTF-8.
     ghost cost_is: { (c : ℕ) → cost c ≡ (if is_units then len_utf16 c else len_utf8 c) };
@@ -81,10 +108,12 @@ pub trait Sink: Drop {
     ghost room_is: { room ≡ (if is_units then 2 else 4) };
 
     /// No scalar takes more than `room`.
-    ghost fits_room: { (c : ℕ) → cost c ≤ room };
+    ghost fits_room: { (c : ℕ) → cost c ≤ room } = { cost_within is_units cost room
+        cost_is room_is };
 
     /// No two scalars below U+0800 take more than `room`.
-    ghost fits_two: { (c d : ℕ) → c < 0x800 → d < 0x800 → cost c + cost d ≤ room };
+    ghost fits_two: { (c d : ℕ) → c < 0x800 → d < 0x800
+        → cost c + cost d ≤ room } = { costs_within is_units cost room cost_is room_is };
 
     /// Writing nothing changes nothing.
     ghost writes_none: { (s : Self) → writes s [] s };

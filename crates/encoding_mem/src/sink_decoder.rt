@@ -7,7 +7,7 @@ ghost use Rattle.encoding_mem.specs.calls.Driver.{IsNear, buffered};
 ghost use Rattle.encoding_mem.specs.calls.DecodedLength.{queried};
 
 use crate::decoder_result::DecoderResult;
-use crate::driver::{decode_pieces, finish_pending};
+use crate::driver::{decode_detached, finish_pending};
 use crate::first_piece::DecoderRule;
 use crate::pending::Pending;
 use crate::raw_decoder::RawDecoder;
@@ -141,15 +141,13 @@ impl<F: DecoderRule> SinkDecoder for Buffered<F> {
         if let Some(outcome) = ended {
             return (outcome, read);
         }
-        let mut own = sink.detach();
-        let (outcome, more) = decode_pieces(
+        let (outcome, more) = decode_detached(
             &mut self.rule,
             &mut self.pending,
             &src[read..],
-            &mut own,
+            sink,
             last,
         );
-        *sink = own;
         (outcome, read + more)
     }
 

@@ -55,23 +55,39 @@ pub trait Source {
         ensures next { (c : ℕ) × (text (drop (offset self.old) (all self.old)) ≡ c ∷ text (drop (offset self.new) (all self.new)))
             × (offset self.new ≡ offset self.old + cost_in is_units c) };
 
-    /// Goes past the next character, which has `len` bytes or units. The condition, that there is
-    /// one and that it has so many, is that `peek` returns it with `len`.
-    fn advance_by(&mut self, len: usize)
+    /// How many bytes or units were read. They end between characters: in UTF-16, not between the
+    /// two units of a pair.
+    fn read(&self) -> usize
+        ensures offset { result ≡ offset self.now }
+        ensures within { result ≤ length (all self.now) }
+        ensures boundary { IsBoundary (all self.now) result };
+
+    /// Goes past the next character, which has `len` bytes or units, as `advance` does. The
+    /// condition, that there is one and that it has so many, is that `peek` returns it with `len`.
+    #[inline(always)]
+    fn advance_by(&mut self, _len: usize)
         requires next { (c : ℕ) × (text (drop (offset self.old) (all self.old))
-            ≡ c ∷ text (drop (offset self.old + len) (all self.old)))
-            × (len ≡ cost_in is_units c) }
-        requires first { IsBoundary (drop (offset self.old) (all self.old)) len }
-        requires within { offset self.old + len ≤ length (all self.old) }
+            ≡ c ∷ text (drop (offset self.old + _len) (all self.old)))
+            × (_len ≡ cost_in is_units c) }
+        requires first { IsBoundary (drop (offset self.old) (all self.old)) _len }
+        requires within { offset self.old + _len ≤ length (all self.old) }
         ensures same { all self.new ≡ all self.old }
         ensures next { (c : ℕ) × (text (drop (offset self.old) (all self.old))
             ≡ c ∷ text (drop (offset self.new) (all self.new)))
-            × (offset self.new ≡ offset self.old + cost_in is_units c) };
+            × (offset self.new ≡ offset self.old + cost_in is_units c) }
+    {
+        self.advance();
+    }
 
-    /// Whether the second of the bytes or units that are next is there and is ASCII. If the first
-    /// is too, a run of at least two characters is next, which is worth a copy.
+    /// Whether the second of the bytes or units that are next is surely there and ASCII. If the
+    /// first is too, a run of at least two characters is next, which is worth a copy. It decides
+    /// speed alone: a source that says nothing returns false, those of this crate know.
+    #[inline(always)]
     fn is_second_ascii(&self) -> bool
-        ensures { IsTrue result ↔ IsSecondAscii (drop (offset self.now) (all self.now)) };
+        ensures { IsTrue result → IsSecondAscii (drop (offset self.now) (all self.now)) }
+    {
+        false
+    }
 
     /// Copies the run of ASCII that is next to the start of `dst`, as much of it as fits, and goes
     /// past it. Returns its length in bytes, which is also its length in units.
@@ -86,10 +102,26 @@ pub trait Source {
         ensures some { (c : ℕ) (rest : List ℕ) → text (drop (offset self.old) (all self.old)) ≡ c ∷ rest
             → c < 0x80 → 0 < length dst.old → 0 < result }
         ensures longest { result < length dst.old
-            → (c : ℕ) (rest : List ℕ) → text (drop (offset self.new) (all self.new)) ≡ c ∷ rest → 0x80 ≤ c };
+            → (c : ℕ) (rest : List ℕ) → text (drop (offset self.new) (all self.new)) ≡ c ∷ rest → 0x80 ≤ c }
+    {
+        let mut copied = 0;
+        'characters: while copied < dst.len() {
+            match self.peek() {
+                Some((c, _)) if c < '\u{80}' => {
+                    dst[copied] = c as u8;
+                    self.advance();
+                    copied += 1;
+                }
+                _ => return copied,
+            }
+        }
+        copied
+    }
 
-    /// Writes characters that are next in UTF-8 to the start of `dst`, as many as there is surely
-    /// room for, and goes past them. Returns how many bytes they have.
+    /// Writes characters that are next in UTF-8 to the start of `dst`, and goes past them. Returns
+    /// how many bytes they have. How many characters these are decides speed alone: a source that
+    /// says nothing writes those of a run of ASCII, the sources of this crate as many as there is
+    /// surely room for.
     fn copy_text(&mut self, dst: &mut [u8]) -> usize
         ensures same { all self.new ≡ all self.old }
         ensures fits { result ≤ length dst.new }
@@ -98,14 +130,10 @@ pub trait Source {
         ensures bytes { result ≤ (bound_for encoded_length_utf8 is_units).factor
             * (offset self.new - offset self.old) }
         ensures text { IsCopied (text (drop (offset self.old) (all self.old))) (take result dst.new)
-            (text (drop (offset self.new) (all self.new))) };
-
-    /// How many bytes or units were read. They end between characters: in UTF-16, not between the
-    /// two units of a pair.
-    fn read(&self) -> usize
-        ensures offset { result ≡ offset self.now }
-        ensures within { result ≤ length (all self.now) }
-        ensures boundary { IsBoundary (all self.now) result };
+            (text (drop (offset self.new) (all self.new))) }
+    {
+        self.copy_ascii(dst)
+    }
 
     /// The offset is at most the length of the list.
     ghost within: { (s : Self) → offset s ≤ length (all s) };
@@ -211,7 +239,9 @@ impl<'a> Source for Utf8Source<'a> {
     }
 
     #[inline(always)]
-    fn is_second_ascii(&self) -> bool {
+    fn is_second_ascii(&self) -> bool
+        ensures { IsTrue result ↔ IsSecondAscii (drop self.now.read self.now.text.now) }
+    {
         matches!(self.rest.as_bytes(), [_, b, ..] if *b < 0x80)
     }
 
@@ -328,7 +358,9 @@ impl<'a> Source for Utf16Source<'a> {
     }
 
     #[inline(always)]
-    fn is_second_ascii(&self) -> bool {
+    fn is_second_ascii(&self) -> bool
+        ensures { IsTrue result ↔ IsSecondAscii (drop self.now.offset self.now.units.now) }
+    {
         matches!(&self.units[self.offset..], [_, unit, ..] if *unit < 0x80)
     }
 

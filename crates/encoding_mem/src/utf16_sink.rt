@@ -3,8 +3,7 @@
 ghost use Rattle.std.specs.Prelude.{true, ◌≡◌, ◌-◌, ◌<◌, ◌≤◌, ◌∷◌, [], length, refl};
 ghost use Rattle.std.proofs.Common.{◌∙◌};
 ghost use Rattle.encoding_mem.specs.calls.Writing.{Adds, len_utf16, encode_utf16_all};
-ghost use Rattle.encoding_mem.specs.laws.Writing.{adds_none, adds_encoded16, cost_fits16};
-ghost use Rattle.encoding_mem.specs.laws.Writing.{cost_two16};
+ghost use Rattle.encoding_mem.specs.laws.Writing.{adds_none, adds_encoded16};
 
 use crate::sink::Sink;
 use crate::utf8_conversions::convert_str_to_utf16;
@@ -66,7 +65,10 @@ impl<'a> Sink for Utf16Sink<'a> {
     ghost writes = { λ s cs t. (t.units.ghost_name ≡ s.units.ghost_name) × Adds s.units.now s.written (encode_utf16_all cs) t.units.now t.written };
 
     #[inline(always)]
-    fn free_len(&self) -> usize {
+    fn free_len(&self) -> usize
+        ensures within { result ≤ length self.now.units.now - self.now.written }
+        ensures all { result ≡ length self.now.units.now - self.now.written }
+    {
         self.units.len() - self.written
     }
 
@@ -108,17 +110,13 @@ impl<'a> Sink for Utf16Sink<'a> {
     }
 
     #[inline(always)]
-    fn detach(&mut self) -> Self {
-        mem::replace(self, Utf16Sink::new(&mut []))
+    fn detach(&mut self) -> Option<Self> {
+        Some(mem::replace(self, Utf16Sink::new(&mut [])))
     }
 
     ghost cost_is = { λ _. refl };
 
     ghost room_is = { refl };
-
-    ghost fits_room = { cost_fits16 };
-
-    ghost fits_two = { cost_two16 };
 
     ghost writes_none = { λ s. (refl, adds_none s.units.now s.written s.within) };
 

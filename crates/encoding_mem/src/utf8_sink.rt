@@ -5,7 +5,7 @@ ghost use Rattle.std.specs.Prelude.{encode_utf8_all};
 ghost use Rattle.std.specs.Char.{len_utf8};
 ghost use Rattle.std.proofs.Common.{◌∙◌};
 ghost use Rattle.encoding_mem.specs.calls.Writing.{Adds};
-ghost use Rattle.encoding_mem.specs.laws.Writing.{adds_none, adds_encoded, cost_fits, cost_two};
+ghost use Rattle.encoding_mem.specs.laws.Writing.{adds_none, adds_encoded};
 
 use crate::plain_units::put_plain_units;
 use crate::sink::Sink;
@@ -66,7 +66,10 @@ impl<'a> Sink for Utf8Sink<'a> {
     ghost writes = { λ s cs t. (t.bytes.ghost_name ≡ s.bytes.ghost_name) × Adds s.bytes.now s.written (encode_utf8_all cs) t.bytes.now t.written };
 
     #[inline(always)]
-    fn free_len(&self) -> usize {
+    fn free_len(&self) -> usize
+        ensures within { result ≤ length self.now.bytes.now - self.now.written }
+        ensures all { result ≡ length self.now.bytes.now - self.now.written }
+    {
         self.bytes.len() - self.written
     }
 
@@ -121,17 +124,13 @@ impl<'a> Sink for Utf8Sink<'a> {
     }
 
     #[inline(always)]
-    fn detach(&mut self) -> Self {
-        mem::replace(self, Utf8Sink::new(&mut []))
+    fn detach(&mut self) -> Option<Self> {
+        Some(mem::replace(self, Utf8Sink::new(&mut [])))
     }
 
     ghost cost_is = { λ _. refl };
 
     ghost room_is = { refl };
-
-    ghost fits_room = { cost_fits };
-
-    ghost fits_two = { cost_two };
 
     ghost writes_none = { λ s. (refl, adds_none s.bytes.now s.written s.within) };
 

@@ -56,26 +56,6 @@ broken_then_well_formed p q n m cs e f h = cc
 pub well_formed_then_broken : (p q : Piece) (n m : ℕ) (cs : List ℕ) → p ≡ well_formed m cs → q ≡ malformed n → p ≡ q → ⊥
 well_formed_then_broken p q n m cs e f h = cc
 
-same_piece : (f g : List ℕ → Piece) (k : ℕ) (x : List ℕ) (last : Bool) (p : Piece) → ((r : List ℕ) → f (x ++ r) ≡ g (x ++ r)) → ShowsPiece g k x last p → ShowsPiece f k x last p
-same_piece f g k x last p same h = (h.0, h.1, λ r e. same r ∙ h.2 r e)
-
-pub shows_same : (f g : List ℕ → Piece) (k : ℕ) (x : List ℕ) (last : Bool) (F : FirstPiece) → f x ≡ g x → ((r : List ℕ) → f (x ++ r) ≡ g (x ++ r)) → Shows g k x last F → Shows f k x last F
-shows_same f g k x last More now same h = record { goes_on = h.goes_on; short = h.short; more = h.more; bytes = h.bytes; few = h.few; differs = λ e. h.differs (sym now ∙ e ∙ same h.more); soon = λ r. rw (same r) (h.soon r) }
-shows_same f g k x last (One c n) now same h = same_piece f g k x last (well_formed n (c ∷ [])) same h
-shows_same f g k x last (Two c d n) now same h = (same_piece f g k x last (well_formed n (c ∷ d ∷ [])) same h.0, h.1, h.2)
-shows_same f g k x last (Ignored n) now same h = same_piece f g k x last (well_formed n []) same h
-shows_same f g k x last (Malformed n) now same h = (same_piece f g k x last (malformed n) same h.0, h.1)
-
-piece_uncons : (f : List ℕ → Piece) (k e : ℕ) (x : List ℕ) (last : Bool) (p : Piece) → ShowsPiece f k (e ∷ x) last p → ShowsPiece (λ y. f (e ∷ y)) (suc k) x last p
-piece_uncons f k e x last p h = (h.0, omega (arith, h.1), h.2)
-
-pub shows_uncons : (f : List ℕ → Piece) (k e : ℕ) (x : List ℕ) (last : Bool) (F : FirstPiece) → Shows f k (e ∷ x) last F → Shows (λ y. f (e ∷ y)) (suc k) x last F
-shows_uncons f k e x last More h = record { goes_on = h.goes_on; short = omega (arith, h.short); more = h.more; bytes = h.bytes; few = h.few; differs = h.differs; soon = λ r. omega (arith, h.soon r) }
-shows_uncons f k e x last (One c n) h = piece_uncons f k e x last (well_formed n (c ∷ [])) h
-shows_uncons f k e x last (Two c d n) h = (piece_uncons f k e x last (well_formed n (c ∷ d ∷ [])) h.0, h.1, h.2)
-shows_uncons f k e x last (Ignored n) h = piece_uncons f k e x last (well_formed n []) h
-shows_uncons f k e x last (Malformed n) h = (piece_uncons f k e x last (malformed n) h.0, h.1)
-
 -- the mode after x is m', whatever follows
 abbrev pub SettlesMode : {M : Type 0} → (M → List ℕ → M) → M → M → List ℕ → Bool → Type 0
 SettlesMode after m m' x last = (r : List ℕ) → (IsTrue last → r ≡ []) → after m (x ++ r) ≡ m'

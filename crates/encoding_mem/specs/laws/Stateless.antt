@@ -1,12 +1,9 @@
 -- Targets with one set.
-use Rattle.std.proofs.Common.{◌≡◌, ℕ, ◌≤◌, refl, arith, Bool, true, false, cond, [], ◌∷◌, suc, inl, inr, ◌∙◌}
+use Rattle.std.proofs.Common.{ℕ, ◌≤◌, refl, arith, Bool, true, false, cond, [], ◌∷◌, suc}
 use Rattle.encoding_mem.specs.Coding.{IsCoding, FitsNeed}
-use Rattle.encoding_mem.specs.calls.EncoderRule.{Moves}
 use Rattle.encoding_mem.specs.Stateless.{stateless}
 use Rattle.encoding_mem.specs.declared.form.Form.{Form}
 use Rattle.encoding_mem.specs.declared.form.Form.TheVariants.{Mapped, Unmapped}
-use Rattle.encoding_mem.specs.declared.form.EscapeState.{EscapeState}
-use Rattle.encoding_mem.specs.declared.form.EscapeState.TheVariants.{Ascii}
 
 -- It is a target if no character has more than need bytes.
 pub stateless_laws : (need : ℕ) (form : ℕ → Form) → need ≤ 4 → ((c : ℕ) → FitsNeed need (form c)) → IsCoding need (stateless form)
@@ -17,10 +14,6 @@ stateless_laws need form few short = record {
   escape_short = λ s s'. omega arith;
   few = few;
 }
-
--- It never leaves ASCII.
-pub stays_ascii : (form : ℕ → Form) (s s' : EscapeState) → Moves (stateless form) s s' → s ≡ Ascii → s' ≡ Ascii
-stays_ascii form s s' m h = elim m [ inl e ↦ e ∙ h | inr w ↦ elim w [ inl v ↦ v.2 | inr e ↦ e ] ]
 
 -- of a choice by a test
 pub short_if : {n : ℕ} (b : Bool) {x y : Form} → FitsNeed n x → FitsNeed n y → FitsNeed n (cond b x y)

@@ -18,7 +18,7 @@ units_alone [] small = refl
 units_alone (u ∷ us) small = ap (λ l. l ++ encode_utf16_all us) (one_unit u (small 0)) ∙ ap (λ l. u ∷ l) (units_alone us (λ k. small (suc k)))
 
 -- in UTF-8 each has three bytes at most
-three_bytes : (c : ℕ) → c < 0xD800 → len_utf8 c ≤ 3
+pub three_bytes : (c : ℕ) → c < 0xD800 → len_utf8 c ≤ 3
 three_bytes c small = grind (arith, nat_tests)
 
 unit_bytes : (us : List ℕ) → ((k : ℕ) → get_or us k 0 < 0xD800) → length (encode_utf8_all us) ≤ 3 * length us

@@ -1,17 +1,17 @@
 -- A verdict that is kept from call to call, and a decoder that reads a call's bytes in parts.
-use Rattle.std.proofs.Common.{◌≡◌, ℕ, inl, inr, Bool, true, false, IsTrue, List, [], ◌∷◌, ◌++◌, drop, refl, sym, ◌∙◌, ap, subst, append_assoc}
+use Rattle.std.proofs.Common.{◌≡◌, ℕ, inl, inr, Bool, true, false, IsTrue, List, [], ◌∷◌, ◌++◌, refl, sym, ◌∙◌, ap, subst}
 use Rattle.std.specs.Prelude.{◌↔◌}
 use Rattle.std.specs.Str.{all_scalars}
 use Rattle.std.proofs.lemmas.List.{append-nil}
 use Rattle.encoding_mem.specs.Coding.{Coding, IsCoding, AllMapped, open_from, last_set, output, bytes_from}
-use Rattle.encoding_mem.specs.calls.Decoding.{DecoderState, EndsWith, Takes}
+use Rattle.encoding_mem.specs.calls.Decoding.{DecoderState, EndsWith}
 use Rattle.encoding_mem.specs.calls.EncoderCalls.{Encodes, Leaves}
-use Rattle.encoding_mem.specs.Piece.{Piece, malformed}
+use Rattle.encoding_mem.specs.Piece.{Piece}
 use Rattle.encoding_mem.specs.ReadBack.{ReadsAs, ReadsBackExactly}
-use Rattle.encoding_mem.specs.calls.ReadCalls.{AreRead, HasTaken, HasTakenPart, KeepsVerdict, NeverReadsWhole, IsNotUnmappable, ReadsWhole, ReadsWholeAs}
+use Rattle.encoding_mem.specs.calls.ReadCalls.{HasTaken, HasTakenPart, KeepsVerdict, NeverReadsWhole, IsNotUnmappable, ReadsWhole, ReadsWholeAs}
 use Rattle.encoding_mem.specs.Stateless.{HasOneSet}
 use Rattle.encoding_mem.specs.Steps.{Follows, IsBroken, StepLaw, in_any_set}
-use Rattle.encoding_mem.specs.laws.Agreement.{broken_behind, broken_never_reads, open_reads, well_formed_parts}
+use Rattle.encoding_mem.specs.laws.Agreement.{broken_behind, broken_never_reads, open_reads}
 use Rattle.encoding_mem.specs.laws.EncoderCalls.{mapped_open}
 use Rattle.encoding_mem.specs.laws.ReadCalls.{agreed_whole, ends_along, scalars_parts}
 use Rattle.encoding_mem.specs.declared.reference.Reference.{Reference}
@@ -52,18 +52,6 @@ keeps_then e last v v1 v2 P P1 P2 s s1 s2 t t1 t2 h k ref u ends =
     let one = h ref u ends in
     let two = k ref u ends in
     (λ x. two.0 (one.0 x), λ x. one.1 (two.1 x))
-
--- from text to text: nothing is left of the first
-pub keeps_texts : (e : Coding) (last v v1 v2 : Bool) (P P1 P2 : List ℕ → List Piece) (s s1 s2 : EscapeState) (t more rest : List ℕ)
-    → KeepsVerdict e false v P s t v1 P1 s1 [] → KeepsVerdict e last v1 P1 s1 more v2 P2 s2 rest → KeepsVerdict e last v P s (t ++ more) v2 P2 s2 rest
-keeps_texts e last v v1 v2 P P1 P2 s s1 s2 t more rest h k ref u ends =
-    let one = h ref (more ++ u) (λ no. absurd (untrue no)) in
-    let two = k ref u ends in
-    let whole : (t ++ more) ++ u ≡ t ++ (more ++ u) = append_assoc t more u in
-    rw whole (λ x. two.0 (one.0 x), λ x. one.1 (two.1 x))
-  where
-    untrue : IsTrue false → ⊥
-    untrue h = cc
 
 -- at the end it is the verdict
 pub verdict_at_end : (ref : Reference) {need : ℕ} (e : Coding) → IsCoding need e → (verdict : Bool) (pieces : List ℕ → List Piece) → (IsTrue verdict → ReadsAs pieces [] [])
@@ -108,15 +96,6 @@ keeps_exact e P coding one exact steps last outcome s t w s' rest scalars c kept
 pub part_begins : (pieces : List ℕ → List Piece) (bytes : List ℕ) → HasTakenPart pieces pieces bytes bytes []
 part_begins pieces bytes = record { rest = λ r. refl }
 
-pub part_goes_on : (WellFormed : List Piece → Type 0) (pieces before after : List ℕ → List Piece) (bytes left : List ℕ) (taken : List Piece) (held now read : ℕ) (Writes : List ℕ → Type 0)
-    → HasTakenPart pieces before bytes left taken → (h : Takes WellFormed before after left false held now read Writes) → HasTakenPart pieces after bytes (drop read left) (taken ++ h.taken)
-part_goes_on WellFormed pieces before after bytes left taken held now read Writes p h = record {
-  rest = λ r. p.rest r ∙ ap (λ l. taken ++ l) (h.rest r (λ no. absurd (untrue no))) ∙ sym (append_assoc taken h.taken (after (drop read left ++ r)));
-}
-  where
-    untrue : IsTrue false → ⊥
-    untrue h = cc
-
 pub part_is_decided : (pieces now : List ℕ → List Piece) (bytes left : List ℕ) (taken : List Piece) → HasTakenPart pieces now bytes left taken → IsFixed pieces bytes taken
 part_is_decided pieces now bytes left taken p = λ r. (now (left ++ r), p.rest r)
 
@@ -127,7 +106,3 @@ part_ends pieces after bytes left taken free room mark p ends = record {
   rest = λ r. p.rest r ∙ ap (λ l. taken ++ after.pieces (l ++ r)) ends.0;
   nothing = elim ends.1 [ inl none ↦ inl none.1 | inr waits ↦ inr waits.1.undecided ];
 }
-
--- and one that is malformed is no part of what is read
-pub malformed_is_not_read : (taken : List Piece) (n : ℕ) (prefix : List ℕ) → ¬ (AreRead (taken ++ malformed n ∷ []) prefix)
-malformed_is_not_read taken n prefix h = (well_formed_parts taken (malformed n ∷ []) h.0).1.0

@@ -63,6 +63,16 @@ cost_fits16 c = either (nat_lt c 0x1_0000)
 pub cost_two16 : (c d : ℕ) → c < 0x800 → d < 0x800 → len_utf16 c + len_utf16 d ≤ 2
 cost_two16 c d h k = rw (lt-ltb c 0x1_0000 (omega arith)) (rw (lt-ltb d 0x1_0000 (omega arith)) (omega arith))
 
+-- what takes as many units as its form in UTF-16, or in UTF-8, has room for one of any kind, and for
+-- two below U+0800
+pub cost_within : (b : Bool) (cost : ℕ → ℕ) (room : ℕ) → ((c : ℕ) → cost c ≡ cond b (len_utf16 c) (len_utf8 c)) → room ≡ cond b 2 4 → (c : ℕ) → cost c ≤ room
+cost_within true cost room is two c = omega (arith, is c, two, cost_fits16 c)
+cost_within false cost room is four c = omega (arith, is c, four, cost_fits c)
+
+pub costs_within : (b : Bool) (cost : ℕ → ℕ) (room : ℕ) → ((c : ℕ) → cost c ≡ cond b (len_utf16 c) (len_utf8 c)) → room ≡ cond b 2 4 → (c d : ℕ) → c < 0x800 → d < 0x800 → cost c + cost d ≤ room
+costs_within true cost room is two c d low lower = omega (arith, is c, is d, two, cost_two16 c d low lower)
+costs_within false cost room is four c d low lower = omega (arith, is c, is d, four, cost_two c d low lower)
+
 pub len_utf16_le : (c : ℕ) → len_utf16 c ≤ len_utf8 c
 len_utf16_le c = grind (arith, nat_tests)
 

@@ -1,7 +1,11 @@
 use Rattle.std.proofs.Common.{ℕ, ◌-◌, ◌+◌, ◌<◌, ◌∙◌, IsTrue, length, get_or, refl, sym, arith}
+use borrow.Author.Tests.{true-eqb}
 use Rattle.encoding_mem.specs.Latin1Bytes.{is_latin1_pair}
-use Rattle.encoding_mem.proofs.Latin1BytesLemmas.{next_block, next_head, one_more, text_of_pairs, whole_pairs}
+use Rattle.encoding_mem.proofs.Latin1BytesLemmas.{next_block, next_head, none_latin1, one_more, text_of_pairs, whole_pairs}
 use Rattle.encoding_mem.proofs.latin1_bytes.is_latin1_text.Goals as goal
+
+pub returns-then-is_empty : goal.returns-then-is_empty
+returns-then-is_empty c = λ _. none_latin1 c.args.bytes.now (true-eqb _ 0 c.if-is_empty.ensures)
 
 pub wide-preserved : goal.wide-preserved
 wide-preserved c = record {

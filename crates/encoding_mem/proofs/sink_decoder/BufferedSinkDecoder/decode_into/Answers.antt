@@ -19,10 +19,10 @@ returns g c =
     let S = g.S.Sink in
     let old = c.args.self.now in
     let first = c.finish_pending-ended in
-    let second = c.decode_pieces-outcome in
+    let second = c.decode_detached-outcome in
     let rule = second.new.codec in
     let begun = rw c.in_default.is at first.ensures.call in
-    let then = rw c.detach-own.ensures at second.ensures.call in
+    let then = second.ensures.call in
     let all = calls_join (F.pieces old.rule) (F.pieces first.new.codec) (F.pieces rule) (F.needs old.rule) (F.needs first.new.codec) (F.needs rule) old.pending first.new.pending second.new.pending c.args.src.now _ c.args.last first.result.1 second.result.1
     (λ text. S.writes c.args.sink.now text first.new.sink) (λ text. S.writes first.new.sink text second.new.sink) (λ text. S.writes c.args.sink.now text second.new.sink) S.is_units (S.free c.args.sink.now) (S.free first.new.sink) (S.free second.new.sink) S.room (S.cost 0xFFFD) second.result.0
     (take_rest c.args.src.now first.result.1) (λ t u h k. g.met.S.Sink.writes_more _ _ _ t u h k) begun then in
