@@ -17,6 +17,7 @@ use Rattle.encoding_front.specs.calls.TakesMark.{LeavesRoom}
 use Rattle.encoding_front.proofs.BomLemmas.{reports_join}
 use Rattle.std.specs.Str.{IsUtf8}
 use Rattle.encoding_tables.specs.IndexLists.{IndexLists}
+use Rattle.encoding_front.specs.laws.Calls.{wrote_scalars, wrote_text}
 use Rattle.encoding_front.specs.laws.Input.{text_scalars}
 use Rattle.encoding_front.specs.Marks.{marked_pieces, marked_text}
 use Rattle.encoding_front.specs.calls.OneShot.{IsDecoded}
@@ -214,50 +215,47 @@ pub record IsWhole (t : IndexLists) (mark : Mark) (e : Encoding) (x new : List �
   pub decoded : IsDecoded t mark e x (take written new) had
   pub utf8 : IsUtf8 (take written new)
 
-ended : {A P B : Type 0} → (A × P) ⊎ ((true ≡ false) × B) → P
-ended (inl h) = h.1
-ended (inr h) = absurd (cc)
-
 -- the pieces that were taken, and those that are left
 taken_of : (v v' : DecoderView) (t : IndexLists) (mark : Mark) (e : Encoding) (x : List ℕ) (ps : List Piece) (read : ℕ) → IsNewDecoder v t mark e
     → ((r : List ℕ) → (IsTrue true → r ≡ []) → v.state.pieces (x ++ r) ≡ ps ++ v'.state.pieces (drop read x ++ r)) → marked_pieces t mark e x ≡ ps ++ v'.state.pieces (drop read x)
 taken_of v v' t mark e x ps read begins rest =
     sym (begins.pieces x) ∙ ap v.state.pieces (sym (append-nil x)) ∙ rest [] (λ _. refl) ∙ ap (λ l. ps ++ v'.state.pieces l) (append-nil (drop read x))
 
-all_taken : (v v' : DecoderView) (t : IndexLists) (mark : Mark) (e : Encoding) (x : List ℕ) (ps : List Piece) (read : ℕ) → IsNewDecoder v t mark e
-    → ((r : List ℕ) → (IsTrue true → r ≡ []) → v.state.pieces (x ++ r) ≡ ps ++ v'.state.pieces (drop read x ++ r)) → drop read x ≡ [] → v'.state.pieces [] ≡ [] → ps ≡ marked_pieces t mark e x
-all_taken v v' t mark e x ps read begins rest all none =
-    sym (taken_of v v' t mark e x ps read begins rest ∙ ap (λ l. ps ++ v'.state.pieces l) all ∙ ap (λ l. ps ++ l) none ∙ append-nil ps)
-
-whole_of : (v v' : DecoderView) (t : IndexLists) (mark : Mark) (e : Encoding) (x old new : List ℕ) (ps : List Piece) (written : ℕ) (had : Bool)
-    → IsNewDecoder v t mark e → ps ≡ marked_pieces t mark e x → Adds old 0 (encode_utf8_all (text ps)) new written → (IsTrue had ↔ (0 < malformed_count ps)) → IsWhole t mark e x new written had
-whole_of v v' t mark e x old new ps written had begins is adds told =
-    let are : ArePieces (marked_pieces t mark e x) = subst ArePieces (begins.pieces x) (v.state.are_pieces x) in
+whole_of : (v : DecoderView) (t : IndexLists) (mark : Mark) (e : Encoding) (x old new : List ℕ) (written : ℕ) (had : Bool)
+    → IsNewDecoder v t mark e → Adds old 0 (encode_utf8_all (text (v.state.pieces x))) new written → (IsTrue had ↔ (0 < malformed_count (v.state.pieces x))) → IsWhole t mark e x new written had
+whole_of v t mark e x old new written had begins adds told =
+    let is : v.state.pieces x ≡ marked_pieces t mark e x = begins.pieces x in
+    let are : ArePieces (marked_pieces t mark e x) = subst ArePieces is (v.state.are_pieces x) in
     let wrote : take written new ≡ encode_utf8_all (marked_text t mark e x) =
-    ap (take written) adds.list ∙ take_at (encode_utf8_all (text ps)) (drop written old) written (omega (arith, adds.counted)) ∙ ap (λ (l : List Piece). encode_utf8_all (text l)) is in
+    ap (take written) adds.list ∙ take_at (encode_utf8_all (text (v.state.pieces x))) (drop written old) written (omega (arith, adds.counted)) ∙ ap (λ (l : List Piece). encode_utf8_all (text l)) is in
     record {
       decoded = record { bytes = wrote; malformed_ = subst (λ (l : List Piece). IsTrue had ↔ (0 < malformed_count l)) is told };
       utf8 = (marked_text t mark e x, (text_scalars (marked_pieces t mark e x) are, sym wrote));
     }
 
 -- with U+FFFD for each malformed sequence
+all_read : (outcome : CoderResult) → outcome ≢ CoderResult.OutputFull → outcome ≡ CoderResult.InputEmpty
+all_read CoderResult.InputEmpty never = refl
+all_read CoderResult.OutputFull never = absurd (never refl)
+
 pub whole_call : (v v' : DecoderView) (t : IndexLists) (mark : Mark) (e : Encoding) (x old new : List ℕ) (outcome : CoderResult) (read written free : ℕ) (had : Bool)
-    → IsNewDecoder v t mark e → outcome ≢ CoderResult.OutputFull → EndsWith v'.state (drop read x) true free 4 3 (raw_result outcome)
-    → TakesText v.state.pieces v'.state.pieces x true v.state.pending v'.state.pending read (λ (l : List ℕ). Adds old 0 (encode_utf8_all l) new written) had → IsWhole t mark e x new written had
-whole_call v v' t mark e x old new CoderResult.InputEmpty read written free had begins never ends k =
-    whole_of v v' t mark e x old new k.taken written had begins (all_taken v v' t mark e x k.taken read begins k.rest ends.0 (ended ends.1)) k.writes k.had
-whole_call v v' t mark e x old new CoderResult.OutputFull read written free had begins never ends k = absurd (never refl)
+    → IsNewDecoder v t mark e → outcome ≢ CoderResult.OutputFull → TextCall v v' x true read (λ (l : List ℕ). Adds old 0 (encode_utf8_all l) new written) free 4 3 outcome had → IsWhole t mark e x new written had
+whole_call v v' t mark e x old new outcome read written free had begins never call =
+    let wrote = wrote_text v v' x read (λ (l : List ℕ). Adds old 0 (encode_utf8_all l) new written) free 4 3 outcome had call (all_read outcome never) in
+    whole_of v t mark e x old new written had begins wrote.0 wrote.1
 
 -- without replacement, if no piece is malformed
+all_decoded : (outcome : DecoderResult) → outcome ≢ DecoderResult.OutputFull → ((a b : ℕ) → outcome ≢ Malformed a b) → outcome ≡ DecoderResult.InputEmpty
+all_decoded DecoderResult.InputEmpty never fine = refl
+all_decoded DecoderResult.OutputFull never fine = absurd (never refl)
+all_decoded (Malformed a b) never fine = absurd (fine a b refl)
+
 pub well_formed_call : (v v' : DecoderView) (t : IndexLists) (mark : Mark) (e : Encoding) (x old new : List ℕ) (outcome : DecoderResult) (read written free : ℕ)
-    → IsNewDecoder v t mark e → outcome ≢ DecoderResult.OutputFull → ((a b : ℕ) → outcome ≢ Malformed a b) → EndsWith v'.state (drop read x) true free 4 3 outcome
-    → Takes (Reports outcome v'.state.pending) v.state.pieces v'.state.pieces x true v.state.pending v'.state.pending read (λ (l : List ℕ). Adds old 0 (encode_utf8_all l) new written) → IsWhole t mark e x new written false
-well_formed_call v v' t mark e x old new DecoderResult.InputEmpty read written free begins never fine ends k =
-    whole_of v v' t mark e x old new k.taken written false begins (all_taken v v' t mark e x k.taken read begins k.rest ends.0 (ended ends.1))
-    (subst (λ (l : List ℕ). Adds old 0 (encode_utf8_all l) new written) (sym (well_formed_text k.taken k.well_formed)) k.writes)
-    (λ h. absurd (cc), λ some. absurd (omega (arith, some, well_formed_count k.taken k.well_formed)))
-well_formed_call v v' t mark e x old new DecoderResult.OutputFull read written free begins never fine ends k = absurd (never refl)
-well_formed_call v v' t mark e x old new (Malformed a b) read written free begins never fine ends k = absurd (fine a b refl)
+    → IsNewDecoder v t mark e → outcome ≢ DecoderResult.OutputFull → ((a b : ℕ) → outcome ≢ Malformed a b) → DecoderCall v v' x true read (λ (l : List ℕ). Adds old 0 (encode_utf8_all l) new written) free 4 3 outcome
+    → IsWhole t mark e x new written false
+well_formed_call v v' t mark e x old new outcome read written free begins never fine call =
+    let wrote = wrote_scalars v v' x read (λ (l : List ℕ). Adds old 0 (encode_utf8_all l) new written) free 4 3 outcome call (all_decoded outcome never fine) in
+    whole_of v t mark e x old new written false begins wrote.0 (λ h. absurd (cc), λ some. absurd (omega (arith, some, well_formed_count (v.state.pieces x) wrote.1)))
 
 -- and if one is
 pub malformed_call : (v v' : DecoderView) (t : IndexLists) (mark : Mark) (e : Encoding) (x : List ℕ) (outcome : DecoderResult) (a b read : ℕ) (W : List ℕ → Type 0)

@@ -8,6 +8,8 @@ use Rattle.std.proofs.lemmas.List.{append-nil, append_cancel_right, drop-drop, d
 use Rattle.encoding_mem.specs.declared.reference.Reference.TheVariants.{Decimal}
 use Rattle.encoding_mem.specs.Coding.{AllMapped, Coding, IsMapped, last_set, lost_count, bytes_from, open_from, reference_bytes, spelled, unmapped_count, whole_from, output}
 use Rattle.encoding_mem.specs.calls.EncoderCalls.{WritesPart, Encodes, EncodesItems}
+use Rattle.encoding_mem.specs.laws.Losses.{lost_count-append}
+use Rattle.encoding_mem.specs.laws.ReadBack.{none_lost}
 use Rattle.encoding_mem.specs.laws.EncoderCalls.{items_in_bytes, last_set-append, mapped_open, open_from-append}
 use Rattle.encoding_mem.specs.declared.encoder_result.EncoderResult.TheVariants.{Unmappable, InputEmpty, OutputFull}
 use Rattle.encoding_mem.specs.declared.form.Form.{Form}
@@ -36,20 +38,6 @@ digits_fit c digits small is =
     omega (arith, ap length is, length-decimal-le 7 c (omega arith) (omega arith) (omega arith))
 
 -- Calls with replacement: what the calls without replacement and the references between them make together.
-
--- Two texts, one after another.
-pub count-append : (e : Coding) (a b : List ℕ) → lost_count e (a ++ b) ≡ lost_count e a + lost_count e b
-count-append e [] b = sym (zero-add (lost_count e b))
-count-append e (c ∷ a) b = ap (λ n. unmapped_count (e.form c) + n) (count-append e a b) ∙ sym (add_assoc (unmapped_count (e.form c)) (lost_count e a) (lost_count e b))
-
--- A text in which each character has bytes.
-mapped_count : (f : Form) → IsMapped f → unmapped_count f ≡ 0
-mapped_count (Mapped bs) h = refl
-mapped_count (Unmapped c) h = absurd h
-
-pub count_mapped : (e : Coding) (t : List ℕ) → AllMapped e t → lost_count e t ≡ 0
-count_mapped e [] h = refl
-count_mapped e (c ∷ t) h = rw (mapped_count (e.form c) h.0, count_mapped e t h.1) refl
 
 -- A text that ends with a character without bytes.
 abbrev pub before_reference : Coding → EscapeState → List ℕ → ℕ → List ℕ
@@ -114,7 +102,7 @@ put_on e s written prefix q more w s' opened set is =
     ∙ ap (λ (k : EscapeState). open_from Decimal e s (prefix ++ more) ++ e.escape k s') (sym (last_set-append e s prefix more))
 
 counted_lost : (e : Coding) (t : List ℕ) (d u : ℕ) → AllMapped e t → e.form d ≡ Unmapped u → lost_count e (t ++ d ∷ []) ≡ 1
-counted_lost e t d u mapped lost = count-append e t (d ∷ []) ∙ rw (count_mapped e t mapped, lost) refl
+counted_lost e t d u mapped lost = lost_count-append e t (d ∷ []) ∙ rw (none_lost e t mapped, lost) refl
 
 pub gone_on : (e : Coding) (last : Bool) (s : EscapeState) (text written : List ℕ) (s' : EscapeState) (rest : List ℕ) (lost : Bool) (prefix : List ℕ) (w : List ℕ) (u : ℕ) (s'' : EscapeState) (rest' : List ℕ)
     → Gone e last s text written s' rest lost prefix → Encodes e last (Unmappable u) s' rest w s'' rest' → (p : EncodesItems Decimal e last (Unmappable u) s' rest w s'' rest')
@@ -130,7 +118,7 @@ gone_on e last s text written s' rest lost prefix w u s'' rest' g law p =
       sets = g.sets ∙ p.sets tt;
       told =
           let one : lost_count e p.prefix ≡ 1 = ap (lost_count e) p.reads.2 ∙ counted_lost e p.reads.0 p.reads.1 u p.reads.3 p.reads.4 in
-          (λ h. omega (arith, count-append e prefix p.prefix), λ h. refl);
+          (λ h. omega (arith, lost_count-append e prefix p.prefix), λ h. refl);
     }
 
 -- How a call with replacement ends.
@@ -278,7 +266,7 @@ ended x x' last outcome text written s rest lost w rest' prefix size end at enou
       sets = λ h. g.gone.sets ∙ sets h;
       moves = moves_on e x.set s x'.set g.moves moves;
       told =
-          let count : lost_count e (g.prefix ++ prefix) ≡ lost_count e g.prefix = count-append e g.prefix prefix ∙ omega (arith, count_mapped e prefix mapped) in
+          let count : lost_count e (g.prefix ++ prefix) ≡ lost_count e g.prefix = lost_count-append e g.prefix prefix ∙ omega (arith, none_lost e prefix mapped) in
           (λ h. omega (arith, g.gone.told.0 h), λ h. g.gone.told.1 (omega arith));
       ends = ends;
       full = λ h. omega (arith, full h);
@@ -489,7 +477,7 @@ passed_on x x1 x2 outcome text written rest more rest' lost lost' size p r0 =
       owed = p.owed ∙ ap (λ l. written ++ l) r.bytes ∙ sym (append_assoc written more (whole_from Decimal (coding_in x) x2.set rest'));
       told =
           let both = either lost lost' (lost_count (coding_in x) p.prefix) (lost_count (coding_in x) r.prefix) p.told r.told in
-          let sum = count-append (coding_in x) p.prefix r.prefix in
+          let sum = lost_count-append (coding_in x) p.prefix r.prefix in
           (λ h. omega (arith, sum, both.0 h), λ h. both.1 (omega (arith, sum)));
     }
 

@@ -1,4 +1,5 @@
 -- Lemmas about the definitions of `specs/`. Nothing here has to be read to trust a claim.
+pub mod Calls
 pub mod Encoder
 pub mod Encodings
 pub mod Input

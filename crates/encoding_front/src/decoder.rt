@@ -98,8 +98,9 @@ pub trait StreamDecoder {
 ///   bytes.
 /// - A call returns how many bytes it read, and how many bytes or units of text it wrote. Unread
 ///   bytes are handed in again, first, in the next call.
-/// - `InputEmpty`: all is read. After a call with `last` the decoder is finished: `is_finished`
-///   returns true, and only it and `encoding` may be called.
+/// - `InputEmpty`: all is read. A call with `last` has then written the text of all that was to
+///   come (`laws::last_calls_write_all_text`), and the decoder is finished: `is_finished` returns
+///   true, and only it and `encoding` may be called.
 /// - `OutputFull`: make room, and call again with the unread bytes and `last` as it was, even if
 ///   nothing is unread. Room for 4 bytes or 2 units is always enough to go on.
 /// - `Malformed`, in calls without replacement: write U+FFFD or not, and call again as after
@@ -665,6 +666,7 @@ fn take_bytes(text: &mut String) -> Vec<u8>
     ensures capacity { vec_capacity result ≡ string_capacity text.old }
     ensures utf8 { IsUtf8 result.items }
 {
+    // For the proof alone: `as_str` promises that the bytes are UTF-8, `into_bytes` does not.
     let _ = text.as_str();
     let empty = String::new(*text.allocator());
     mem::replace(text, empty).into_bytes()

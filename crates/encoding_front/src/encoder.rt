@@ -35,14 +35,16 @@ use std::marker::Model;
 ///   it. A stream that ends is ended by one call with `last`, which may have no text.
 /// - A call returns how many bytes or units of text it read, and how many bytes it wrote. Unread
 ///   text is handed in again, first, in the next call.
-/// - `InputEmpty`: all is read. After a call with `last` the set is ASCII again, and the encoder is
-///   as a new one.
+/// - `InputEmpty`: all is read. A call with `last` has then written the bytes of its whole text
+///   (`laws::last_calls_write_all_bytes`); the set is ASCII again, and the encoder is as a new one.
 /// - `OutputFull`: make room, and call again with the unread text and `last` as it was, even if
 ///   nothing is unread. Room for 4 bytes is always enough to go on without replacement, and for 14
 ///   with it.
 /// - `Unmappable`, in calls without replacement: the character that was read last has no bytes.
-///   Write its reference (`write_reference`) or something else in ASCII, and call again as after
-///   `OutputFull`. Calls with replacement write the reference themselves.
+///   Write its reference (`write_reference`) or other printable ASCII but `\` and `~`, and call
+///   again as after `OutputFull`. In ISO-2022-JP the set in force may be Roman, where the bytes of
+///   these two, 5C and 7E, are U+00A5 and U+203E. Calls with replacement write the reference
+///   themselves.
 ///
 /// A surrogate in no pair, in UTF-16, is encoded as U+FFFD. A pair must not be cut between two
 /// calls: each slice is read by itself.

@@ -6,10 +6,12 @@ ghost use Rattle.std.specs.Str.{all_scalars, chars};
 ghost use Rattle.encoding_mem.specs.declared.reference.Reference.{Reference};
 ghost use Rattle.encoding_mem.specs.declared.reference.Reference.TheVariants.{Decimal};
 ghost use Rattle.encoding_mem.specs.Agreement.{ReadsBackOrBreaks, ReadsByStep};
-ghost use Rattle.encoding_mem.specs.Coding.{mapped_bytes, open_from, output, reference_bytes};
+ghost use Rattle.encoding_mem.specs.Coding.{AllMapped, lost_count, mapped_bytes, open_from};
+ghost use Rattle.encoding_mem.specs.Coding.{output, reference_bytes, whole_from};
 ghost use Rattle.encoding_mem.specs.calls.Decoding.{TakesSoon};
 ghost use Rattle.encoding_mem.specs.calls.EncoderCalls.{Encodes};
-ghost use Rattle.encoding_mem.specs.Piece.{ArePieces, sizes};
+ghost use Rattle.encoding_mem.specs.Piece.{ArePieces, AreWellFormed, malformed_count};
+ghost use Rattle.encoding_mem.specs.Piece.{sizes, text};
 ghost use Rattle.encoding_mem.specs.calls.ReadCalls.{KeepsVerdict, IsNotUnmappable};
 ghost use Rattle.encoding_mem.specs.declared.encoder_result.EncoderResult.{EncoderResult};
 ghost use Rattle.encoding_mem.specs.ReadBack.{ReadsAs, ReadsBackExactly};
@@ -21,6 +23,7 @@ ghost use Rattle.encoding_tables.specs.IndexLists.{AreAcceptedTables, IndexLists
 ghost use Rattle.encoding_front.specs.calls.ReportedCharacter.{ReportsItself};
 ghost use Rattle.encoding_front.specs.calls.DecoderCall.{DecoderCall, Destination, HasText};
 ghost use Rattle.encoding_front.specs.calls.DecoderCall.{TextCall};
+ghost use Rattle.encoding_front.specs.calls.Encoder.{Encoded, EncoderState, Replaces, coding_in};
 ghost use Rattle.encoding_front.specs.EncodingTable.{encoding_name};
 ghost use Rattle.encoding_front.specs.Encodings.{HasLabel, KeepsCharacters, coding_of};
 ghost use Rattle.encoding_front.specs.Encodings.{output_encoding_of, pieces_of};
@@ -162,6 +165,63 @@ pub fn pieces_are_passed_soon()
         → (call : TextCall v v' src last read (HasText there) free room mark
         CoderResult.InputEmpty had_errors)
         → TakesSoon v.state.pieces src last (v.state.pending + length src) call.law.taken }
+{}
+
+/// A last call of a decoder that read all, into any destination, wrote the text of all pieces that
+/// were to come. If it writes U+FFFD for malformed sequences, it returned whether one of them is
+/// malformed; if it stops at these, none is.
+pub fn last_calls_write_all_text()
+    ensures replaced { (v v' : DecoderView) (src : List ℕ) (read : ℕ)
+        → (there : Destination) (free room mark : ℕ) (had_errors : Bool)
+        → TextCall v v' src true read (HasText there) free room mark
+        CoderResult.InputEmpty had_errors
+        → HasText there (text (v.state.pieces src)) }
+    ensures errors { (v v' : DecoderView) (src : List ℕ) (read : ℕ)
+        → (there : Destination) (free room mark : ℕ) (had_errors : Bool)
+        → TextCall v v' src true read (HasText there) free room mark
+        CoderResult.InputEmpty had_errors
+        → IsTrue had_errors ↔ (0 < malformed_count (v.state.pieces src)) }
+    ensures reported { (v v' : DecoderView) (src : List ℕ) (read : ℕ)
+        → (there : Destination) (free room mark : ℕ)
+        → DecoderCall v v' src true read (HasText there) free room mark DecoderResult.InputEmpty
+        → HasText there (text (v.state.pieces src)) }
+    ensures well_formed { (v v' : DecoderView) (src : List ℕ) (read : ℕ)
+        → (there : Destination) (free room mark : ℕ)
+        → DecoderCall v v' src true read (HasText there) free room mark DecoderResult.InputEmpty
+        → AreWellFormed (v.state.pieces src) }
+{}
+
+/// A last call of an encoder that read all wrote the bytes of the whole text, from the set that was
+/// in force. If it writes references, it returned whether it wrote one; if it stops at characters
+/// without bytes, there is none.
+pub fn last_calls_write_all_bytes()
+    ensures replaced { (x x' : EncoderState) (text written rest : List ℕ)
+        → (lost : Bool) (size : ℕ)
+        → Replaces x true CoderResult.InputEmpty text written x' rest lost size
+        → written ≡ whole_from Decimal (coding_in x) x.set text }
+    ensures references { (x x' : EncoderState) (text written rest : List ℕ)
+        → (lost : Bool) (size : ℕ)
+        → Replaces x true CoderResult.InputEmpty text written x' rest lost size
+        → IsTrue lost ↔ (0 < lost_count (coding_in x) text) }
+    ensures reported { (x x' : EncoderState) (text written rest : List ℕ) (room : ℕ)
+        → Encoded x true EncoderResult.InputEmpty text written x' rest room
+        → written ≡ whole_from Decimal (coding_in x) x.set text }
+    ensures mapped { (x x' : EncoderState) (text written rest : List ℕ) (room : ℕ)
+        → Encoded x true EncoderResult.InputEmpty text written x' rest room
+        → AllMapped (coding_in x) text }
+{}
+
+/// A call of an encoder that reports a character without bytes leaves one less to be reported, and
+/// any other call as many: so the calls without replacement count those of a text.
+pub fn lost_characters_are_reported()
+    ensures one { (x x' : EncoderState) (last : Bool) (text written rest : List ℕ)
+        → (room c : ℕ)
+        → Encoded x last (EncoderResult.Unmappable c) text written x' rest room
+        → lost_count (coding_in x) text ≡ 1 + lost_count (coding_in x) rest }
+    ensures none { (x x' : EncoderState) (last : Bool) (text written rest : List ℕ)
+        → (room : ℕ) (outcome : EncoderResult)
+        → Encoded x last outcome text written x' rest room → IsNotUnmappable outcome
+        → lost_count (coding_in x) text ≡ lost_count (coding_in x) rest }
 {}
 
 /// An input that is decoded at once, and its text encoded at once, gives the output for its text.

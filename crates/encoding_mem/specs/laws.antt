@@ -18,6 +18,7 @@ pub mod Agreement
 pub mod OneSet
 pub mod Verdict
 pub mod Latency
+pub mod Losses
 pub mod ReadCalls
 pub mod EncoderCalls
 pub mod TextRun

@@ -18,7 +18,7 @@ from_utf8_unchecked-requires c =
     let fits : length c.in_ok-text.text.items ≤ length c.deref_mut.result.now = omega (arith, ap length c.deref_mut.ensures.value) in
     let asked = sym c.max_utf8_buffer_length_without_replacement-room.ensures ∙ c.in_ok-text.ensures.len in
     let k = well_formed_call (decoder.ghosts.view c.new_decoder_without_bom_handling-decoder.result) (decoder.ghosts.view c.decode_to_utf8_without_replacement-outcome.new.self) c.args.tables.now Keep c.args.self c.args.bytes.now
-    c.deref_mut.result.now new c.decode_to_utf8_without_replacement-outcome.result.0 c.decode_to_utf8_without_replacement-outcome.result.1 c.decode_to_utf8_without_replacement-outcome.result.2 _ c.new_decoder_without_bom_handling-decoder.ensures.begins (e.enough _ asked fits) c.in_default.not-Malformed e.call.ends e.call.law in
+    c.deref_mut.result.now new c.decode_to_utf8_without_replacement-outcome.result.0 c.decode_to_utf8_without_replacement-outcome.result.1 c.decode_to_utf8_without_replacement-outcome.result.2 _ c.new_decoder_without_bom_handling-decoder.ensures.begins (e.enough _ asked fits) c.in_default.not-Malformed e.call in
     let within : c.decode_to_utf8_without_replacement-outcome.result.2 ≤ length new = omega (arith, e.call.law.writes.within, c.decode_to_utf8_without_replacement-outcome.auto.dst) in
     let wrote = c.truncate.ensures.items ∙ kept new _ c.in_ok-text.text.len c.decode_to_utf8_without_replacement-outcome.result.2 within (c.decode_to_utf8_without_replacement-outcome.auto.dst ∙ c.deref_mut.ensures.len) in
     subst IsUtf8 (sym wrote) k.utf8
@@ -30,7 +30,7 @@ returns-clause-text c =
     let fits : length c.in_ok-text.text.items ≤ length c.deref_mut.result.now = omega (arith, ap length c.deref_mut.ensures.value) in
     let asked = sym c.max_utf8_buffer_length_without_replacement-room.ensures ∙ c.in_ok-text.ensures.len in
     let k = well_formed_call (decoder.ghosts.view c.new_decoder_without_bom_handling-decoder.result) (decoder.ghosts.view c.decode_to_utf8_without_replacement-outcome.new.self) c.args.tables.now Keep c.args.self c.args.bytes.now
-    c.deref_mut.result.now new c.decode_to_utf8_without_replacement-outcome.result.0 c.decode_to_utf8_without_replacement-outcome.result.1 c.decode_to_utf8_without_replacement-outcome.result.2 _ c.new_decoder_without_bom_handling-decoder.ensures.begins (e.enough _ asked fits) c.in_default.not-Malformed e.call.ends e.call.law in
+    c.deref_mut.result.now new c.decode_to_utf8_without_replacement-outcome.result.0 c.decode_to_utf8_without_replacement-outcome.result.1 c.decode_to_utf8_without_replacement-outcome.result.2 _ c.new_decoder_without_bom_handling-decoder.ensures.begins (e.enough _ asked fits) c.in_default.not-Malformed e.call in
     let within : c.decode_to_utf8_without_replacement-outcome.result.2 ≤ length new = omega (arith, e.call.law.writes.within, c.decode_to_utf8_without_replacement-outcome.auto.dst) in
     let wrote = c.truncate.ensures.items ∙ kept new _ c.in_ok-text.text.len c.decode_to_utf8_without_replacement-outcome.result.2 within (c.decode_to_utf8_without_replacement-outcome.auto.dst ∙ c.deref_mut.ensures.len) in
     ap (λ (v : Vec ℕ Global). v.items) c.from_utf8_unchecked.ensures.value ∙ wrote ∙ k.decoded.bytes
@@ -42,5 +42,5 @@ returns-clause-malformed c =
     let fits : length c.in_ok-text.text.items ≤ length c.deref_mut.result.now = omega (arith, ap length c.deref_mut.ensures.value) in
     let asked = sym c.max_utf8_buffer_length_without_replacement-room.ensures ∙ c.in_ok-text.ensures.len in
     let k = well_formed_call (decoder.ghosts.view c.new_decoder_without_bom_handling-decoder.result) (decoder.ghosts.view c.decode_to_utf8_without_replacement-outcome.new.self) c.args.tables.now Keep c.args.self c.args.bytes.now
-    c.deref_mut.result.now new c.decode_to_utf8_without_replacement-outcome.result.0 c.decode_to_utf8_without_replacement-outcome.result.1 c.decode_to_utf8_without_replacement-outcome.result.2 _ c.new_decoder_without_bom_handling-decoder.ensures.begins (e.enough _ asked fits) c.in_default.not-Malformed e.call.ends e.call.law in
+    c.deref_mut.result.now new c.decode_to_utf8_without_replacement-outcome.result.0 c.decode_to_utf8_without_replacement-outcome.result.1 c.decode_to_utf8_without_replacement-outcome.result.2 _ c.new_decoder_without_bom_handling-decoder.ensures.begins (e.enough _ asked fits) c.in_default.not-Malformed e.call in
     (λ h. absurd (cc), λ some. absurd (cc (k.decoded.malformed_.1 some)))
