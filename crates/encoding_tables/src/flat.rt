@@ -65,10 +65,10 @@ impl<'a> Flat<'a> {
         ensures pointer { result ≡ first_pointer self.now c from to }
         ensures before { IfSome result (λ p. p < to) }
     {
-        let rows = self.by_entry.rows_of(c as u32);
+        let rows = self.by_entry.block_of(c as u32);
         let (below, _) = search(rows, (c as u32, from));
         match &rows[below..] {
-            [(_, pointer), ..] if *pointer < to => Some(*pointer),
+            [(entry, pointer), ..] if *entry == c as u32 && *pointer < to => Some(*pointer),
             _ => None,
         }
     }
@@ -81,10 +81,10 @@ impl<'a> Flat<'a> {
         ensures pointer { result ≡ last_pointer self.now c from to }
         ensures before { IfSome result (λ p. p < to) }
     {
-        let rows = self.by_entry.rows_of(c as u32);
+        let rows = self.by_entry.block_of(c as u32);
         let (below, _) = search(rows, (c as u32, to));
         match &rows[..below] {
-            [.., (_, pointer)] if *pointer >= from => Some(*pointer),
+            [.., (entry, pointer)] if *entry == c as u32 && *pointer >= from => Some(*pointer),
             _ => None,
         }
     }

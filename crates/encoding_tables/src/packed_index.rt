@@ -35,40 +35,44 @@ impl Model for PackedIndex {
 }
 
 impl PackedIndex {
-    /// The index of a list.
-    pub(crate) fn from_list(alloc: Global, list: &[u32]) -> Result<Self, AllocError>
-        requires { length list.now < 2 ^ 16 }
+    /// The index of a list, whose directory by entry has a number for each 2^width scalars.
+    pub(crate) fn from_list(alloc: Global, list: &[u32], width: u32) -> Result<Self, AllocError>
+        requires small { length list.now < 2 ^ 16 }
+        requires narrow { width < 16 }
         ensures { IfOk result (λ index. index ≡ list.now) }
     {
         let rows = rows_of_list(alloc, list)?;
-        PackedIndex::new(alloc, list.len(), &rows)
+        PackedIndex::new(alloc, list.len(), &rows, width)
     }
 
-    /// The index of a list with these entries and 0 elsewhere.
+    /// The index of a list with these entries and 0 elsewhere, with such a directory.
     pub(crate) fn from_rows(
         alloc: Global,
         size: usize,
         rows: &[(u32, u32)],
+        width: u32,
     ) -> Result<Self, AllocError>
         requires rise { PointersRise rows.now }
         requires below { PointersAreBelow size rows.now }
         requires small { size < 2 ^ 16 }
+        requires narrow { width < 16 }
         ensures { IfOk result (λ index. index ≡ flat_list size rows.now) }
     {
         if are_mapped(rows) {
-            return PackedIndex::new(alloc, size, rows);
+            return PackedIndex::new(alloc, size, rows, width);
         }
         let mapped = rows_with_entry(alloc, rows)?;
-        PackedIndex::new(alloc, size, &mapped)
+        PackedIndex::new(alloc, size, &mapped, width)
     }
 
     // The index of mapped rows.
-    fn new(alloc: Global, size: usize, rows: &[(u32, u32)]) -> Result<Self, AllocError>
+    fn new(alloc: Global, size: usize, rows: &[(u32, u32)], width: u32) -> Result<Self, AllocError>
         requires rows { AreIndexRows size rows.now }
         requires small { size < 2 ^ 16 }
+        requires narrow { width < 16 }
         ensures { IfOk result (λ index. index ≡ flat_list size rows.now) }
     {
-        let by_entry = reversed(alloc, rows)?;
+        let by_entry = reversed(alloc, rows, width)?;
         Ok(PackedIndex {
             size,
             by_pointer: PointerRows::new(alloc, rows)?,
@@ -162,9 +166,10 @@ fn ends(alloc: Global, rows: &[(u32, u32)]) -> Result<Vec<u16>, AllocError>
 // Each row the other way round, in order: from the last row on, each goes to the end of the places
 // of its entry that are free. Where the first of an entry went, its pairs begin. No two rows are
 // compared, and no branch depends on what a row has.
-fn reversed(alloc: Global, rows: &[(u32, u32)]) -> Result<SortedRows, AllocError>
+fn reversed(alloc: Global, rows: &[(u32, u32)], width: u32) -> Result<SortedRows, AllocError>
     requires rise { PointersRise rows.now }
     requires few { length rows.now < 2 ^ 16 }
+    requires narrow { width < 16 }
     ensures { IfOk result (λ pairs. IsReversed rows.now pairs) }
 {
     let mut begins = ends(alloc, rows)?;
@@ -177,5 +182,5 @@ fn reversed(alloc: Global, rows: &[(u32, u32)]) -> Result<SortedRows, AllocError
         begins[entry as usize] = place;
         pairs[place as usize] = (entry, pointer);
     }
-    Ok(SortedRows::with_directory(pairs, begins))
+    SortedRows::new(alloc, pairs, &begins, width)
 }
