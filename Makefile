@@ -57,6 +57,12 @@ edits:
 example:
 	@python3 tools/example.py
 
+# The definitions that the theorem of a run stands on, run beside a plain program: every input of up to two bytes in each of
+# the 40 encodings, every scalar to each output encoding, and longer inputs and whole jobs at random. The gate does a sample.
+.PHONY: definitions
+definitions:
+	@python3 tools/compare_definitions.py --all
+
 # The merge gate on a clean clone of HEAD, and what it said, and took, into docs/STATUS.md.
 status:
 	@python3 tools/status.py

@@ -6,7 +6,8 @@
 The programs run by a table of command lines (`command_lines.py`), on random inputs (`fuzz.py`), on a text that Python
 converts, too (`sample.py`), with memory refused (`refused_memory.py`), with hostile index texts (`hostile_indexes.py`)
 and on hostile streams (`hostile_streams.py`), and `recode-places` on the logs of runs (`places.py`). The library for C is
-built, loaded and called (`c_interface.py`). What is stored is compared with what plain programs say (`stored.py`).
+built, loaded and called (`c_interface.py`). What is stored is compared with what plain programs say (`stored.py`), and
+what the definitions give with what such a program gives (`compare_definitions.py`).
 Each of these steps counts as one more in the last line. Two of them run at a time, since the machine of the gate has
 two processors. The status is 0 if nothing failed.
 """
@@ -24,6 +25,7 @@ sys.dont_write_bytecode = True
 
 import c_interface
 import command_lines
+import compare_definitions
 import fuzz
 import hostile_indexes
 import hostile_streams
@@ -45,6 +47,7 @@ STEPS = [
     ("hostile streams", hostile_streams.faults),
     ("places", places.faults),
     ("library for C", c_interface.faults),
+    ("definitions", compare_definitions.faults),
 ]
 
 

@@ -54,6 +54,7 @@ HOW_TO_READ = """
 - The bound on the work is in the report: `least` and `most` bound `calls`, its number of calls of decoders and encoders, by what was read, malformed and lost.
 - What it does not say: when the result is `Ok` (`laws::answers_without_faults`), how output and log are interleaved (`fails` says that a fault leaves both at one place of their one order, and `more` that a step does), that the indexes are those of the standard (they were accepted, `IsValidJob`), or that a reader who takes byte order marks finds none at the start of the output.
 - What is proved is what the contracts say. Whether these definitions say what the standards say is for a reader to judge: hence this page. Rows worked by hand stand beside them, in the `specs/examples` of the crate.
+- The definitions run (`tools/run_definitions.py`), and `make definitions` compares what they give with a plain program that follows the steps of the standard: the pieces of every input of up to two bytes, and of longer ones at random, in each of the 40 encodings; what is written for every scalar value in each output encoding, from each set in force; output, log, their order and the verdict of whole jobs at random. `Completes` has to hold of each right outcome, and of none that is wrong in one place.
 """
 
 def clause(crate, function, name, kind="ensures"):
