@@ -38,6 +38,7 @@ generate:
 doc:
 	@python3 tools/reference.py
 	@python3 tools/edits_table.py
+	@python3 tools/edit_record.py
 	@python3 tools/headline.py
 	@python3 tools/definitions_page.py
 	@python3 tools/c_header.py
