@@ -13,37 +13,38 @@ import threading
 
 from edit_files import TOP, below, read
 
-# What a run takes as arguments: `TESTS`, or the files of `data/` that are handed in (the others are empty).
+# What a run takes as arguments: `TESTS`, or the files of `data/` that are handed in (`None`: all); the others are empty.
 TESTS = ("--test",)
 INDEX_LINES = ("lists.txt", "rows.txt", "ranges.txt", "index-texts.txt")
-MARK_LINES = ("without-index.txt", "marks.txt", "decoder-calls.txt", "references.txt", "encodings.txt")
-CODEC_LINES = ("utf-8.txt", "single-byte.txt", "big5.txt", "euc-kr.txt", "gb18030.txt", "iso-2022-jp.txt")
-CODEC_LINES += ("shift_jis-and-euc-jp.txt", "codecs-together.txt")
+UTF_LINES = ("utf-8.txt", "without-index.txt", "references.txt", "encodings.txt", "decoder-calls.txt")
+CODEC_LINES = ("single-byte.txt", "big5.txt", "euc-kr.txt", "gb18030.txt", "iso-2022-jp.txt", "shift_jis-and-euc-jp.txt")
+CODEC_LINES += ("codecs-together.txt", "marks.txt")
+# Of the cases of `recode` those that are read in seconds without a proof.
+WORD_LINES = ("words.txt", "calls.txt")
+STEP_LINES = ("worked.txt", "counts.txt", "steps.txt", "reads.txt", "codec-calls.txt")
 
-# The runs, the quickest first. `test_recode_cases` is slow without a proof, so that it gets files of few conversions.
+# The runs, the quickest first.
 RUNS = (
     ("test_encoding_mem", TESTS),
-    ("jillapun_c", TESTS),
+    ("test_encoding_cases", UTF_LINES),
     ("test_encoding_cases", INDEX_LINES),
-    ("test_encoding_cases", MARK_LINES),
     ("test_encoding_cases", CODEC_LINES),
+    ("jillapun_c", TESTS),
     ("test_libraries", TESTS),
-    ("test_recode_cases", ("words.txt", "calls.txt")),
-    ("test_recode_cases", ("worked.txt", "counts.txt", "steps.txt", "reads.txt", "codec-calls.txt")),
+    ("test_recode_cases", WORD_LINES),
+    ("test_recode_cases", STEP_LINES),
     ("test_examples", ()),
     ("test_refusals", ()),
     ("test_index_files", None),
 )
 
-# Which of these comes first for a crate, since its lines are about it.
+# Which of these comes first for a crate, since its cases are about it.
 FIRST = {
     "encoding_tables": ("test_encoding_cases", INDEX_LINES),
     "encoding_index": ("test_encoding_cases", INDEX_LINES),
     "encoding_codecs": ("test_encoding_cases", CODEC_LINES),
-    "encoding_labels": ("test_encoding_cases", ("encodings.txt",)),
-    "encoding_front": ("test_encoding_cases", MARK_LINES),
-    "recode_words": ("test_recode_cases", ("words.txt", "calls.txt")),
-    "recode_log": ("test_recode_cases", ("words.txt", "calls.txt")),
+    "recode_log": ("test_recode_cases", WORD_LINES),
+    "recode_words": ("test_recode_cases", WORD_LINES),
     "recode_system": ("test_examples", ()),
 }
 
