@@ -38,6 +38,7 @@ generate:
 doc:
 	@python3 tools/reference.py
 	@python3 tools/edits_table.py
+	@python3 tools/edit_record.py
 	@python3 tools/headline.py
 	@python3 tools/definitions_page.py
 	@python3 tools/c_header.py
@@ -47,8 +48,9 @@ usage:
 	@python3 tools/usage.py
 	@python3 tools/c_manual.py
 
-# The edits that the gate leaves out, each of which the prover must refuse: those of the crates that have changed since
-# they were tried last. What came of it goes into docs/STATUS.md. For a release, since it can take hours.
+# The edits that the gate leaves out, each of which the prover or a run must refuse: those that were not tried on the code as
+# it is. What came of each is kept at once, and goes into docs/STATUS.md. For a release, since it can take hours: it can be
+# ended, and goes on where it was.
 edits:
 	@python3 tools/edits.py
 

@@ -88,3 +88,13 @@ def edits_of(crate, folder):
     paths = [os.path.join(top, name) for top, _, names in os.walk(place) for name in names]
     names = [os.path.relpath(path, place) for path in sorted(paths) if path.endswith((".edit", ".edits"))]
     return sorted((edit for name in names for edit in edits_of_file(place, name)), key=lambda edit: edit.name)
+
+
+def below(crate):
+    """The crate, and the repository's crates that it stands on."""
+    lines = [line.split("#")[0].partition(":") for line in read(os.path.join(TOP, "crates.txt")).split("\n")]
+    uses = {name.split()[0]: used.split() for name, _, used in lines if name.strip()}
+    found = [crate]
+    for name in found:
+        found += [other for other in uses[name] if other in uses and other not in found]
+    return found

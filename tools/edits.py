@@ -2,32 +2,39 @@
 """Tries edits, each a wrong body, which the prover has to refuse: those of `edits/` in each crate, which the merge gate
 leaves out, or with `--gate` those of `must-fail/`, which `rt ci` tries.
 
-    python3 tools/edits.py [--gate] [--jobs N] [--copies N] [CRATE[/NAME]..]
+    python3 tools/edits.py [--gate] [--anew] [--jobs N] [--copies N] [CRATE[/NAME]..]
+    python3 tools/edits.py --readable | --runs [--jobs N] [CRATE[/NAME]..]
 
-With a name, those of the crate whose names begin with it. Without crates, those of `edits/` of each crate that has changed,
-or that stands on one that has, since its row of docs/STATUS.md was written. What came of a whole crate is written to that
-page as soon as it is done, so a run that was cut off goes on with the crates that are left. `--jobs` crates are tried at
-a time, by default two. A crate with many edits is tried in as many copies as `--copies` says, by default one.
+With a name, those of the crate whose names begin with it. An edit that was refused on the code as it is, by the record of
+tools/edit_record.py, is not tried again, unless `--anew` says so. What came of an edit is recorded as soon as it is known,
+so a run that was cut off goes on with the edits that are left; docs/STATUS.md is written from the record. `--jobs` crates are
+tried at a time, by default two. A crate with many edits is tried in as many copies as `--copies` says, by default one.
 
-In a copy of the repository for each crate, with what checks have kept in `out/`, its edits are made in rounds: of each
-function at most one edit in a round. A check then says of each function whether it is proved, and of one that is not
-which goals are open. A function that calls one that is not proved is not looked at: its edit comes into a later round.
-An edit that changes no function, as that of a constant, and one that no round decides, is tried alone. An edit is
+In copies of the repository, with what checks have kept in `out/`, edits are made in rounds: of each function at most one
+edit in a round. First a pass over the sources finds edits that cannot be compiled. A check then says of each function
+whether it is proved, and of one that is not which goals are open. A function that calls one that is not proved is not
+looked at: its edit comes into a later round. An edit that changes no function, as that of a constant, and one that no round
+decides, is tried alone. An edit is
 
 - refused by the fact, if a goal of its own function is open that no answer is written for: a clause, a condition of a
   call, a bound, an invariant. Of an edit that changes no function a goal of any function counts, and a row of `specs/`;
-- refused by a stale answer, if nothing but an answer fails, which was written for the right body. The answer may fail
-  because its goal is false now, or only because a step has another name or place: somebody has to look. First such an
-  edit is tried once more with the answers set aside that fail, and so is the right body: a goal that is open for the
-  edit alone refuses it by the fact, and goals that are open for both, or that may have a new name, say nothing;
-- let through, if the function is proved, with its answers or without them.
+- refuted by a run, if nothing but an answer fails, which was written for the right body, and a program of cases or of tests
+  has another result with the edit (tools/edit_runs.py). An answer may fail because its goal is false now, or only because
+  a step has another name or place. So such an edit is tried once more with the answers set aside that fail, and so is the
+  right body: a goal that is open for the edit alone refuses it by the fact, and goals that are open for both, or that may
+  have a new name, say nothing. Then the programs are run;
+- showing nothing, if none of them has another result: it is adapted, or it goes;
+- let through, if the function is proved, with its answers or without them;
+- unreadable, if it cannot be made, compiled or checked.
 
-The status is 0 if none is let through.
+The status is 0 if each is refused by the fact or refuted by a run. `--readable` makes the pass over the sources alone, and
+`--runs` the runs alone, of edits that are named or recorded as showing nothing: neither needs a proof.
 """
 
 import argparse
 import collections
 import concurrent.futures
+import contextlib
 import datetime
 import os
 import queue
@@ -36,30 +43,16 @@ import shutil
 import subprocess
 import sys
 import tempfile
+import threading
 
 sys.dont_write_bytecode = True
 
 import edit_files
+import edit_record
+import edit_runs
 import status
-from edit_files import CRATES, TOP, read
-
-TABLE = """| Crate | Commit | Day | Kit | Refused by the fact | By a stale answer | Let through |
-|---|---|---|---|---|---|---|
-{rows}"""
-
-STALE_TABLE = """
-
-By a stale answer:
-
-| Edit | Open without its answers |
-|---|---|
-{rows}"""
-
-ROW = re.compile(r"^\| (\w+) \| ([0-9a-f]{7,40}) \| .* \|$", re.M)
-STALE_ROW = re.compile(r"^\| (\w+)/\S+ \| .* \|$", re.M)
-
-# What may come of an edit.
-REFUSED, STALE, THROUGH = "refused", "by a stale answer", "LET THROUGH"
+from edit_files import CRATES, TOP, below, read
+from edit_record import KINDS, REFUSED, RUN, STALE, THROUGH, UNREADABLE
 
 FUNCTION = re.compile(r'^ *(?:pub(?:\([^)]*\))? )?(?:extern "C" )?fn (\w+)')
 # The type of a block of methods, after the trait that it implements.
@@ -145,7 +138,7 @@ class Edit:
     """An edit, and the function that its changes stand in."""
 
     def __init__(self, edit, folder):
-        self.name, self.changes = edit.name, edit.changes
+        self.name, self.changes, self.checksum = edit.name, edit.changes, edit_record.checksum_of_edit(edit)
         self.function = edit.function.split("-")[-1]
         self.files = {target for target, _, _ in self.changes}
         self.path = self.path_in(folder) if len(self.files) == 1 else None
@@ -153,7 +146,7 @@ class Edit:
     def path_in(self, folder):
         """The function that the first change stands in, as a check names it, if it is that of the edit's name."""
         target, old, _ = self.changes[0]
-        text = read(os.path.join(folder, target))
+        text = read(os.path.join(folder, target)) if os.path.isfile(os.path.join(folder, target)) else ""
         lines = text[: text.find("\n", text.find(old))].split("\n")
         names = [name for name in target[len("src/") : -len(".rt")].split("/") if name not in ("lib", "main")]
         is_found = False
@@ -177,7 +170,8 @@ class Edit:
         """These texts, by their paths, with the edit made; none unless each text to replace stands in them once."""
         texts = dict(texts)
         for target, old, new in self.changes:
-            text = texts.get(target) or read(os.path.join(folder, target))
+            path = os.path.join(folder, target)
+            text = texts.get(target) or (read(path) if os.path.isfile(path) else "")
             if text.count(old) != 1:
                 return None
             texts[target] = text.replace(old, new)
@@ -195,10 +189,7 @@ def rounds_of(edits, folder):
                 found[1] = texts
                 break
         else:
-            texts = edit.made_in({}, folder)
-            if texts is None:
-                sys.exit("%s: a text that it replaces does not stand in its file once" % edit.name)
-            rounds.append([[edit], texts])
+            rounds.append([[edit], edit.made_in({}, folder)])
     return rounds
 
 
@@ -213,50 +204,98 @@ def set_aside(folder, path, goals):
     return texts
 
 
-def checked(folder, texts, aside=None):
-    """A check in a crate's folder with these texts in place of its own, and with answers aside: of functions, for goals."""
+@contextlib.contextmanager
+def made(folder, texts, aside=None):
+    """A crate's folder with these texts in place of its own, and with answers aside: of functions, for goals."""
     texts = dict(texts)
     for path, goals in (aside or {}).items():
         texts |= set_aside(folder, path, goals)
     kept = {target: read(os.path.join(folder, target)) for target in texts}
-    for target, text in texts.items():
-        write(os.path.join(folder, target), text)
-        if not text:
-            os.remove(os.path.join(folder, target))
-    out = {"stdout": subprocess.PIPE, "stderr": subprocess.STDOUT, "text": True}
-    ran = subprocess.run(["rt", "check"], cwd=folder, check=False, **out)
-    for target, text in kept.items():
-        write(os.path.join(folder, target), text)
-    return Check(ran.stdout, ran.returncode == 0)
+    try:
+        for target, text in texts.items():
+            write(os.path.join(folder, target), text)
+            if not text:
+                os.remove(os.path.join(folder, target))
+        yield
+    finally:
+        for target, text in kept.items():
+            write(os.path.join(folder, target), text)
+
+
+def said(folder, *words):
+    """What a command prints in a folder, and whether it succeeds."""
+    out = {"stdout": subprocess.PIPE, "stderr": subprocess.STDOUT, "text": True, "errors": "replace"}
+    ran = subprocess.run(words, cwd=folder, check=False, **out)
+    return ran.stdout, ran.returncode == 0
 
 
 class Crate:
     """A crate's copies, in which its edits are tried, and what came of each."""
 
-    def __init__(self, name, folders):
-        self.name, self.folder = name, folders[0]
-        self.told, self.right = [], {}
+    def __init__(self, name, folders, runs, record):
+        self.name, self.folder, self.runs, self.record = name, folders[0], runs, record
+        self.told, self.right, self.open = [], {}, {}
         self.free, self.pool = queue.SimpleQueue(), concurrent.futures.ThreadPoolExecutor(len(folders))
         for folder in folders:
             self.free.put(folder)
 
-    def checked(self, texts, aside=None):
-        """A check in a copy that is free."""
+    @contextlib.contextmanager
+    def copy(self, texts, aside=None):
+        """A copy that is free, with these texts."""
         folder = self.free.get()
         try:
-            return checked(folder, texts, aside)
+            with made(folder, texts, aside):
+                yield folder
         finally:
             self.free.put(folder)
 
-    def tell(self, edit, kind, goals=()):
-        self.told.append(("%s/%s" % (self.name, edit.name), kind, goals))
-        print("%s/%s: %s%s" % (self.name, edit.name, kind, " (%s)" % ", ".join(goals) if goals else ""), flush=True)
+    def checked(self, texts, aside=None):
+        with self.copy(texts, aside) as folder:
+            return Check(*said(folder, "rt", "check"))
+
+    def tell(self, edit, kind, details=()):
+        self.told.append(kind)
+        print("%s/%s: %s%s" % (self.name, edit.name, kind, " (%s)" % ", ".join(details) if details else ""), flush=True)
+        self.record(self.name, edit, kind, ", ".join(details))
 
     def try_all(self, edits):
+        edits = self.readable(edits)
         left, stale = self.in_rounds([edit for edit in edits if edit.path])
         self.without_answers(stale)
         list(self.pool.map(self.alone, [edit for edit in edits if not edit.path] + left))
+        list(self.pool.map(self.run, self.open))
         return self.told
+
+    def readable(self, edits):
+        """Those that can be made and compiled; tells the others."""
+        found = [edit for edit in edits if edit.made_in({}, self.folder)]
+        for edit in set(edits) - set(found):
+            self.tell(edit, UNREADABLE, ["a text that it replaces does not stand in its file once"])
+        errors = {}
+        rounds = rounds_of(found, self.folder)
+        for (together, _), error in zip(rounds, self.pool.map(lambda made: self.compile_error(made[1]), rounds)):
+            if error:
+                alone = self.pool.map(lambda edit: self.compile_error(edit.made_in({}, self.folder)), together)
+                errors |= {edit: error for edit, error in zip(together, alone) if error}
+        for edit, error in errors.items():
+            self.tell(edit, UNREADABLE, [error])
+        return [edit for edit in found if edit not in errors]
+
+    def compile_error(self, texts):
+        """The first error of a pass over the sources that proves nothing, or none."""
+        with self.copy(texts) as folder:
+            text, is_right = said(folder, "rt", "check", "--jobs", "1", "--only", "")
+        errors = re.findall(r"^.*error.*$", text, re.M) or text.rstrip("\n").split("\n")[-1:]
+        return None if is_right else errors[0]
+
+    def run(self, edit):
+        """Tells whether a run refutes an edit."""
+        with self.copy(edit.made_in({}, self.folder)) as folder:
+            try:
+                case = self.runs.refuting(os.path.dirname(folder), self.name)
+                self.tell(edit, RUN if case else STALE, [case] if case else self.open[edit])
+            except edit_runs.Unreadable as error:
+                self.tell(edit, UNREADABLE, [str(error)])
 
     def in_rounds(self, edits):
         """Tries edits of functions in rounds. Returns those that none decides, and those that nothing but an answer refuses,
@@ -298,8 +337,7 @@ class Crate:
                     else:
                         left.append(edit)
             edits = left
-        for edit in edits:
-            self.tell(edit, STALE)
+        self.open |= {edit: [] for edit in edits}
 
     def look_at_right_bodies(self, aside):
         """Finds the goals of functions that are open for the right body when answers are set aside."""
@@ -320,142 +358,127 @@ class Crate:
             same += goals or sorted(answered)
         if all(path in check.proved for path in aside):
             self.tell(edit, THROUGH)
+        elif new:
+            self.tell(edit, REFUSED, new)
         else:
-            self.tell(edit, REFUSED if new else STALE, new or same)
+            self.open[edit] = same
 
     def alone(self, edit):
         """Tries an edit by itself, by all functions of the crate."""
         texts = edit.made_in({}, self.folder)
-        if texts is None:
-            sys.exit("%s: a text that it replaces does not stand in its file once" % edit.name)
         check = self.checked(texts)
         new = [name for path in check.goals for name in check.refusing(path)]
         rows = {file for file, error in check.errors if file.startswith("specs/") and not NAMES.search(error)}
         aside = {path: check.failing(path) for path in check.goals if check.failing(path)}
-        if check.is_proved or not check.has_verdict:
-            self.tell(edit, THROUGH, [] if check.is_proved else ["the check has no verdict"])
+        if not check.has_verdict:
+            self.tell(edit, UNREADABLE, ["the check has no verdict"])
+        elif check.is_proved:
+            self.tell(edit, THROUGH)
         elif new or rows:
             self.tell(edit, REFUSED, new or sorted(rows))
         elif aside:
             self.look_at_right_bodies(aside)
             self.compare(edit, self.checked(texts, aside), aside)
         else:
-            self.tell(edit, STALE, sorted({file for file, _ in check.errors}))
+            self.open[edit] = sorted({file for file, _ in check.errors})
 
 
 def edits_of(crate, kind):
     return [Edit(edit, os.path.join(CRATES, crate)) for edit in edit_files.edits_of(crate, kind)]
 
 
-def below(crate):
-    """The crate, and the repository's crates that it stands on."""
-    lines = [line.split("#")[0].partition(":") for line in read(os.path.join(TOP, "crates.txt")).split("\n")]
-    uses = {name.split()[0]: used.split() for name, _, used in lines if name.strip()}
-    found = [crate]
-    for name in found:
-        found += [other for other in uses[name] if other in uses and other not in found]
-    return found
-
-
-def copy_for(crate, copy):
-    """A copy of the repository, with what checks have kept of this crate and of those below it."""
-    kept = [os.path.join(CRATES, name) for name in below(crate)]
+def copied(top, copy, kept):
+    """A copy of a repository in this folder, with what checks have kept of these crates."""
+    kept = [os.path.join(top, "crates", name) for name in kept]
     ignored = lambda folder, names: {".git"} | ({"out"} if folder not in kept else set())
-    shutil.copytree(TOP, copy, symlinks=True, ignore=ignored)
-    return os.path.join(copy, "crates", crate)
+    shutil.copytree(top, copy, symlinks=True, ignore=ignored)
+    return copy
 
 
 # So many edits are worth a copy more.
 EDITS_OF_A_COPY = 20
 
 
-def try_crate(crate, edits, most):
-    """What came of these edits, by checks of the whole crate in copies, at most so many."""
-    count = min(most, 1 + len(edits) // EDITS_OF_A_COPY)
-    with tempfile.TemporaryDirectory() as work:
-        copies = [copy_for(crate, os.path.join(work, "%s_%d" % (crate, number))) for number in range(count)]
-        return Crate(crate, copies).try_all(edits)
-
-
-def said(*words):
-    return subprocess.run(words, cwd=TOP, capture_output=True, text=True, check=True).stdout.strip()
-
-
-def chosen(kind, names):
-    """The edits of this kind, crate by crate, the largest crates first: all, or those that have one of the names."""
-    found = []
-    for word in names or sorted(os.listdir(CRATES)):
+def chosen(given):
+    """The edits that are asked for, crate by crate, the largest crates first."""
+    kind, found = "must-fail" if given.gate else "edits", []
+    for word in given.names or sorted(os.listdir(CRATES)):
         crate, _, name = word.partition("/")
         edits = [edit for edit in edits_of(crate, kind) if edit.name.startswith(name)]
-        if names and not edits:
+        if given.names and not edits:
             sys.exit("no edit has the name %s" % word)
+        edits = [edit for edit in edits if given.gate or given.anew or given.readable or is_left(crate, edit, given)]
         found += [(crate, edits)] if edits else []
     return sorted(found, key=lambda pair: -len(pair[1]))
 
 
-class Page:
-    """The edits in docs/STATUS.md: a row for each crate, and one for each edit that nothing but a stale answer refuses."""
+def is_left(crate, edit, given):
+    """Whether an edit is to be tried: it was not refused on the code as it is. For runs alone: it is named, or it is recorded
+    as showing nothing."""
+    line = edit_record.lines_of(crate).get(edit.name)
+    line = line if line and line.edit == edit.checksum else None
+    if given.runs:
+        return bool(given.names) or line is not None and line.kind == STALE
+    return not line or line.code != edit_record.checksum_of_code(crate) or line.kind not in (REFUSED, RUN)
 
-    def __init__(self):
-        text = status.read_page()
-        self.rows = {row.group(1): row.group() for row in ROW.finditer(text)}
-        self.commits = {row.group(1): row.group(2) for row in ROW.finditer(text)}
-        self.stale = [row.group() for row in STALE_ROW.finditer(text)]
 
-    def is_current(self, crate):
-        """Whether nothing that a crate's edits depend on has changed since its row was written."""
-        if crate not in self.commits:
-            return False
-        paths = ["crates/%s/edits" % crate]
-        paths += ["crates/%s/%s" % (name, part) for name in below(crate) for part in ("src", "specs", "proofs")]
-        words = ["git", "diff", "--quiet", self.commits[crate], "HEAD", "--", *paths]
-        return subprocess.run(words, cwd=TOP, capture_output=True, check=False).returncode == 0
+class Record:
+    """Takes down what came of edits of the code in a copy, if a commit has this code."""
 
-    def take(self, crate, told, about):
-        """Puts the row of a crate in place of the one that it had, and writes the page."""
-        count = [sum(kind == word for _, kind, _ in told) for word in (REFUSED, STALE, THROUGH)]
-        cells = [crate, about["commit"], about["day"], about["kit"], *count]
-        self.rows[crate] = "| %s |" % " | ".join(str(cell) for cell in cells)
-        stale = ["| %s | %s |" % (name, ", ".join(goals)) for name, kind, goals in told if kind == STALE]
-        self.stale = sorted([row for row in self.stale if not row.startswith("| %s/" % crate)] + stale)
-        table = TABLE.format(rows="\n".join(self.rows[name] for name in sorted(self.rows)))
-        stale = STALE_TABLE.format(rows="\n".join(self.stale)) if self.stale else ""
-        status.write_part("edits", table + stale)
+    def __init__(self, top):
+        command = lambda *words: said(TOP, *words)[0].strip()
+        changes = command("git", "status", "--porcelain", "--", ".", ":!" + status.PAGE, ":!crates/*/edits/tried")
+        self.top, self.is_kept, self.lock = top, not changes, threading.Lock()
+        self.about = command("git", "rev-parse", "--short", "HEAD"), datetime.date.today().isoformat(), command("rt", "version")
+        if changes:
+            print("nothing is recorded, since there are changes that no commit has", flush=True)
+
+    def __call__(self, crate, edit, kind, details):
+        if self.is_kept:
+            code = edit_record.checksum_of_code(crate, os.path.join(self.top, "crates"))
+            with self.lock:
+                edit_record.write_lines(crate, [edit_record.Line(edit.name, kind, details, edit.checksum, code, *self.about)])
+
+
+def try_crate(top, crate, edits, given, runs, record):
+    """What came of these edits of a crate, in copies of a copy of the repository, at most so many as are given."""
+    count = min(given.copies, 1 + len(edits) // EDITS_OF_A_COPY)
+    with tempfile.TemporaryDirectory() as work:
+        kept = [] if given.runs else below(crate)
+        copies = [os.path.join(copied(top, os.path.join(work, str(number)), kept), "crates", crate) for number in range(count)]
+        tried = Crate(crate, copies, runs, record)
+        if given.readable:
+            tried.readable(edits)
+        elif given.runs:
+            lines = edit_record.lines_of(crate)
+            tried.open = {edit: [lines[edit.name].details] if edit.name in lines else [] for edit in edits}
+            list(tried.pool.map(tried.run, edits))
+        else:
+            tried.try_all(edits)
+        return tried.told
 
 
 def main():
     parser = argparse.ArgumentParser(description=__doc__, formatter_class=argparse.RawDescriptionHelpFormatter)
-    parser.add_argument("--gate", action="store_true")
+    for name in ("gate", "anew", "readable", "runs"):
+        parser.add_argument("--" + name, action="store_true")
     parser.add_argument("--jobs", type=int, default=2)
     parser.add_argument("--copies", type=int, default=1)
     parser.add_argument("names", nargs="*")
     given = parser.parse_args()
-    page, head = Page(), said("git", "rev-parse", "--short", "HEAD")
-    crates = chosen("must-fail" if given.gate else "edits", given.names)
-    if not given.gate and not given.names:
-        crates = [(crate, edits) for crate, edits in crates if not page.is_current(crate)]
-    # What a page says is said of a commit.
-    whole = {crate for crate, _ in crates if not given.gate and (not given.names or crate in given.names)}
-    if whole and said("git", "status", "--porcelain", "--", ".", ":!" + status.PAGE):
-        sys.exit("there are changes that no commit has")
-
-    def tried(pair):
-        return pair[0], try_crate(*pair, given.copies)
-
-    all_told = []
-    with concurrent.futures.ThreadPoolExecutor(given.jobs) as pool:
-        for done in concurrent.futures.as_completed([pool.submit(tried, pair) for pair in crates]):
-            crate, told = done.result()
-            all_told += told
-            if crate in whole:
-                # A crate is copied when its turn comes.
-                if said("git", "rev-parse", "--short", "HEAD") != head:
-                    sys.exit("the repository changed meanwhile, so no row is written")
-                about = {"commit": head, "kit": said("rt", "version"), "day": datetime.date.today().isoformat()}
-                page.take(crate, told, about)
-    refused, stale, through = (sum(kind == word for _, kind, _ in all_told) for word in (REFUSED, STALE, THROUGH))
-    print("%d refused by the fact, %d by a stale answer, %d let through" % (refused, stale, through))
-    return 1 if through else 0
+    told, pairs = collections.Counter(), chosen(given)
+    kept = set() if given.runs else {name for crate, _ in pairs for name in below(crate)}
+    with tempfile.TemporaryDirectory() as work, concurrent.futures.ThreadPoolExecutor(given.jobs) as pool:
+        # The repository may change meanwhile.
+        top = copied(TOP, os.path.join(work, "right"), kept)
+        runs = edit_runs.Runs(os.path.join(top, "crates"))
+        record = (lambda *told: None) if given.gate else Record(top)
+        for done in [pool.submit(try_crate, top, *pair, given, runs, record) for pair in pairs]:
+            told.update(done.result())
+    if not given.gate:
+        edit_record.write_page()
+    print(", ".join("%d %s" % (told[kind], kind) for kind in KINDS))
+    return 1 if told[STALE] + told[THROUGH] + told[UNREADABLE] else 0
 
 
 if __name__ == "__main__":

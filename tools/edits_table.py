@@ -25,7 +25,7 @@ BODIES = os.path.join(TOP, "tools", "wrong_bodies.toml")
 
 HEAD = """# Wrong bodies
 
-Which edits change the body of which function, and which public functions no edit changes: their helpers may have edits, or there is hardly another body that the types allow. The gate has the prover refuse those in **bold** (`must-fail/`); `make edits` tries the others (`edits/`), and [STATUS.md](../STATUS.md) has its last run that was recorded. Made by `tools/edits_table.py`.
+Which edits change the body of which function, and which public functions no edit changes: their helpers may have edits, or there is hardly another body that the types allow. The gate has the prover refuse those in **bold** (`must-fail/`); `make edits` tries the others (`edits/`), and [STATUS.md](../STATUS.md) says what came of them, and on which code. Made by `tools/edits_table.py`.
 
 ## By what is wrong
 

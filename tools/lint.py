@@ -14,6 +14,8 @@
   file once.
 - `docs/reference/edits.md` is what `tools/edits_table.py` writes, and each edit that `tools/wrong_bodies.toml` names is
   there.
+- docs/STATUS.md says of each crate how many of its edits were tried on the code as it is, how many on older code, and how
+  many are new (`tools/edit_record.py`).
 - `docs/HEADLINE.md` is what `tools/headline.py` writes, and the headline stands on no more lines of definitions than
   `tools/headline_lines` says, and that number is today's, so it only falls.
 - Each root file begins its code with the tactic that proofs are found by, and no handle is allowed.
@@ -39,6 +41,7 @@ import c_manual
 import definitions
 import definitions_page
 import edit_files
+import edit_record
 import edits_table
 import headline
 import reference
@@ -278,6 +281,7 @@ CHECKS = (
     edits,
     wrong_bodies,
     edits_page,
+    edit_record.faults,
     roots,
     first_lines,
     manual,

@@ -5,7 +5,7 @@
 
 The page names the commit, the day, the kit, the gate's last line, its time and processor time, and the memory of its
 largest process. The status is the gate's. What a tool writes there stands between two comments, `NAME` and
-`end of NAME`: `gate` is this tool's, and `edits` that of `edits.py`.
+`end of NAME`: `gate` is this tool's, and `edits` that of `edit_record.py`.
 """
 
 import datetime
@@ -37,6 +37,11 @@ GATE = """`make test` ran on a clean clone of {commit} ({day}, {kit}).
 def read_page():
     with open(os.path.join(TOP, PAGE), encoding="utf-8") as file:
         return file.read()
+
+
+def read_part(name):
+    """What the page has between the comments of this name."""
+    return read_page().partition("<!-- %s -->\n" % name)[2].partition("\n<!-- end of %s -->" % name)[0]
 
 
 def write_part(name, text):
