@@ -68,6 +68,12 @@ IsFaultOf words (Refused text) =
     (IsRefusedByClap words ⊎ HasMeaninglessValue words) × IsLine (string_bytes text)
 IsFaultOf words OutOfMemory = ⊤
 
+-- two faults are of one kind, and two refusals have one text
+abbrev pub IsSameFault : WordsFault → WordsFault → Type 0
+IsSameFault (Refused text) (Refused other) = string_bytes text ≡ string_bytes other
+IsSameFault OutOfMemory OutOfMemory = ⊤
+IsSameFault _ _ = ⊥
+
 -- if the request is for a run, its limit is at most 2^48 bytes of input
 abbrev pub HasGoodLimit : Request → Type 0
 HasGoodLimit (Run w) = w.limit ≤ 281474976710656

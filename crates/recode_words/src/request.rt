@@ -26,7 +26,7 @@ pub enum Request<'a> {
 }
 
 /// Why the words of the command line ask for nothing. `Display` shows the text, or `out of memory`.
-#[derive(Debug, Drop, Error)]
+#[derive(Debug, Drop, PartialEq, Eq, Error)]
 pub enum WordsFault {
     /// The words are refused, for the reason that this text gives. The text is clap's, ends with a
     /// line feed, and shows the usage.
