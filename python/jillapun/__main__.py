@@ -1,86 +1,275 @@
 """Converts files: python3 -m jillapun --from LABEL --to LABEL --into FOLDER FILES…"""
 
 import argparse
+import contextlib
+import io
 import os
+import signal
 import sys
-from typing import List, Optional
+from typing import Dict, Hashable, List, NoReturn, Optional
 
 import jillapun
 
+from . import _library as c
+from ._files import convert_with
+from ._names import shown
+from ._results import Faults
+
+AFTER_HELP = """\
+Without --into a file is replaced by its conversion if nothing is lost. Otherwise it stays as it
+was, and the status is 1: --lossy replaces it all the same, and so does --backup, which keeps the
+original. A link is followed. Owner (if it may be set), permissions and extended attributes stay,
+the time is that of the change, and other hard links of the file keep what it was.
+
+With --into a file in FOLDER that has the same name is replaced, as cp does, whatever is lost. If it
+is the file that is converted, by whatever path, it is treated as without --into. Files of which one
+would replace another, or its output, are refused, and nothing is written.
+
+Standard output has a line for each loss, NAME: bad OFFSET LENGTH or NAME: lost INDEX SCALAR, with
+the numbers of the log of recode. In a name a control, or what can't be seen, stands as its number,
+as <U+001B>.
+
+Exit status, the greatest of all files:
+  0  all were converted, and nothing was lost
+  1  something was lost, or a file was not replaced, since something would have been
+  2  the command line was refused
+  3  an index is missing or faulty
+  4  reading or writing failed, or with --unmappable stop a character has no bytes; what the output
+     was to replace is as it was
+"""
+
+# The words of a loss, by its kind.
+WORDS = {c.BAD: "bad", c.LOST: "lost"}
+
+
+class Unsaid(Exception):
+    """Standard output takes no more: what is lost can't be told."""
+
+
+def complain(words: str) -> None:
+    """Writes a line to standard error."""
+    print(shown(words), file=sys.stderr)
+
+
+class Parser(argparse.ArgumentParser):
+    """A parser that shows the words it refuses."""
+
+    def error(self, message: str) -> NoReturn:
+        super().error(shown(message))
+
 
 def words_of(arguments: Optional[List[str]]) -> argparse.Namespace:
-    parser = argparse.ArgumentParser(prog="jillapun", description="Converts files from one encoding to another.")
+    parser = Parser(
+        prog="jillapun",
+        description="Converts files from one encoding to another.",
+        epilog=AFTER_HELP,
+        formatter_class=argparse.RawDescriptionHelpFormatter,
+    )
     parser.add_argument("--from", dest="source", metavar="LABEL", required=True, help="the encoding of the files")
     parser.add_argument("--to", dest="target", metavar="LABEL", required=True, help="the encoding that is wanted")
     parser.add_argument("--into", metavar="FOLDER", help="where the files are put; else each takes its own place")
+    parser.add_argument(
+        "--lossy", action="store_true", help="replace a file by its conversion even if something is lost"
+    )
+    parser.add_argument("--backup", metavar="SUFFIX", help="keep each file that is replaced, as its name and SUFFIX")
     parser.add_argument("--mark", choices=("sniff", "remove", "keep"), default="sniff", help="byte order marks")
-    parser.add_argument("--unmappable", choices=("decimal", "hexadecimal", "stop"), default="decimal")
+    policies = "decimal", "hexadecimal", "stop"
+    parser.add_argument("--unmappable", choices=policies, default="decimal", help="characters without bytes")
     parser.add_argument("--indexes", metavar="FOLDER", help="the folder of the index texts")
     parser.add_argument("files", metavar="FILE", nargs="+")
-    return parser.parse_args(arguments)
+    words = parser.parse_args(arguments)
+    if words.into == "":
+        parser.error("argument --into: no folder is named")
+    if words.backup is not None and (not words.backup or os.path.basename(words.backup) != words.backup):
+        parser.error("argument --backup: %r is no suffix of a name" % words.backup)
+    return words
 
 
 class Terminal:
-    """Which file is converted, and how far, in the last line of a terminal; nothing if standard error is none."""
+    """What is told as files are converted: what is lost, on standard output, and, in the last line of a terminal, which
+    file is converted, and how far."""
 
     def __init__(self, count: int):
         self.count, self.done, self.line = count, 0, ""
-        self.is_shown = sys.stderr.isatty()
+        self.is_shown = sys.stderr is not None and sys.stderr.isatty()
 
     def show(self, name: str, part: float = 0) -> None:
         """The file, and which part of it is converted."""
-        line = "%d of %d: %s (%d%%)" % (self.done + 1, self.count, name, 100 * part)
+        line = "%d of %d: %s (%d%%)" % (self.done + 1, self.count, shown(name), 100 * part)
         if self.is_shown and line != self.line:
             sys.stderr.write("\r\x1b[K" + line)
             sys.stderr.flush()
             self.line = line
 
     def clear(self) -> None:
-        if self.is_shown:
+        if self.line:
             sys.stderr.write("\r\x1b[K")
             sys.stderr.flush()
+            self.line = ""
+
+    def tell(self, lines: str) -> None:
+        """Writes lines to standard output at once, so that what is lost is told before a file is replaced."""
+        self.clear()
+        try:
+            sys.stdout.write(lines)
+            sys.stdout.flush()
+        except OSError as fault:
+            raise Unsaid("standard output: %s" % fault.strerror) from fault
 
 
-def one_status(words: argparse.Namespace, path: str, indexes: "jillapun.Indexes", terminal: Terminal) -> int:
-    """Converts a file, and says what was lost: 0 if nothing was, 1 if something was, 3 if an index is missing, and 4 if it
-    failed."""
-    target = os.path.join(words.into, os.path.basename(path)) if words.into else path
-    options = {"mark": words.mark, "unmappable": words.unmappable, "indexes": indexes}
+class Lines(Faults):
+    """The losses of a file, each a line."""
+
+    def __init__(self, name: str, terminal: Terminal):
+        super().__init__()
+        self.name, self.terminal = shown(name), terminal
+
+    def add(self, records: bytes) -> None:
+        super().add(records)
+        name, rows = self.name, c.LOSS.iter_unpack(records)
+        self.terminal.tell("".join([f"{name}: {WORDS[kind]} {place} {number}\n" for place, number, kind in rows]))
+
+
+def identity(path: str) -> Hashable:
+    """What two paths have in common if they lead to one file, or to one place of a file that is to be made."""
+    try:
+        status = os.stat(path)
+        return status.st_dev, status.st_ino
+    except OSError:
+        path = os.path.realpath(path)
+    with contextlib.suppress(OSError):
+        folder = os.stat(os.path.dirname(path))
+        return folder.st_dev, folder.st_ino, os.path.basename(path)
+    return path
+
+
+def target_of(words: argparse.Namespace, path: str) -> str:
+    return os.path.join(words.into, os.path.basename(path)) if words.into else path
+
+
+def clash_of(words: argparse.Namespace) -> Optional[str]:
+    """Why the files can't be converted in one run: the output of one would replace another, or its output."""
+    outputs: Dict[Hashable, str] = {}
+    for path in words.files:
+        target = target_of(words, path)
+        other = outputs.get(identity(target))
+        if other is not None:
+            form = "%s and %s would both become %s" if words.into else "%s and %s are one file"
+            return form % ((other, path, target) if words.into else (other, path))
+        outputs[identity(target)] = path
+    for path in words.files:
+        other = outputs.get(identity(path), path)
+        if other != path:
+            return "%s would replace %s, which is to be converted too" % (other, path)
+    return None
+
+
+def reason_of(fault: Exception, path: str) -> str:
+    """What a failure says, with the name of the file where it is another."""
+    if not isinstance(fault, OSError) or not fault.strerror:
+        return str(fault) or type(fault).__name__
+    name = fault.filename2 or fault.filename
+    return fault.strerror if name in (None, path) else "%s: %s" % (name, fault.strerror)
+
+
+def one_status(
+    words: argparse.Namespace, path: str, indexes: jillapun.Indexes, terminal: Terminal, written: Dict[Hashable, str]
+) -> int:
+    """Converts a file, and says what was lost: 0 if nothing was, 1 if something was, or would have been, 3 if an index
+    is missing, and 4 if it failed."""
+    target = target_of(words, path)
     terminal.show(path)
     try:
+        other = written.get(identity(target))
+        if other is not None:
+            # Only where names are one that were two before: where the case of letters does not matter.
+            raise jillapun.JillapunError("it would replace %s, which %s has become" % (target, other))
         size = os.path.getsize(path) or 1
-        options["progress"] = lambda read: terminal.show(path, read / size)
-        done = jillapun.convert_file(path, target, words.source, words.target, **options)
+        done = convert_with(
+            Lines(path, terminal), path, target, words.source, words.target, mark=words.mark,
+            unmappable=words.unmappable, indexes=indexes, lossy=words.lossy, backup=words.backup,
+            progress=lambda read: terminal.show(path, read / size),
+        )  # fmt: skip
+        written[identity(target)] = path
+    except jillapun.NotReplaced as fault:
+        remedy = "--lossy replaces it all the same, and --backup SUFFIX keeps the original"
+        terminal.clear()
+        complain("%s: left as it was (%s): %s" % (path, fault.done.summary, remedy))
+        return 1
     except (OSError, MemoryError, jillapun.JillapunError) as fault:
         terminal.clear()
-        print("%s: %s" % (path, fault or type(fault).__name__), file=sys.stderr)
+        complain("%s: %s" % (path, reason_of(fault, path)))
         return 3 if isinstance(fault, jillapun.IndexesMissing) else 4
     terminal.clear()
-    for fault in done.faults:
-        print("%s: %s" % (path, fault))
-    if not done.faithful and not done.faults:
-        print("%s: some characters do not read back" % path)
+    if not (done.faithful or done.bad or done.lost):
+        terminal.tell("%s: %s\n" % (shown(path), done.summary))
     return 0 if done.faithful else 1
 
 
+def convert_all(words: argparse.Namespace, indexes: jillapun.Indexes) -> int:
+    """The highest status of a file."""
+    terminal, status, path = Terminal(len(words.files)), 0, ""
+    written: Dict[Hashable, str] = {}
+    try:
+        for path in words.files:
+            status = max(status, one_status(words, path, indexes, terminal, written))
+            terminal.done += 1
+    except Unsaid as fault:
+        complain(str(fault))
+        with contextlib.suppress(OSError):
+            sys.stdout.close()
+        return 4
+    except (KeyboardInterrupt, SystemExit):
+        terminal.clear()
+        complain("interrupted at %s: those after it are as they were" % path)
+        raise
+    finally:
+        terminal.clear()
+    return status
+
+
 def main(arguments: Optional[List[str]] = None) -> int:
-    """The highest status of a file; 2 if a label is unknown, and 3 if the indexes are not there."""
+    """The highest status of a file; 2 if a label is unknown or files would replace one another, 3 if the indexes are
+    not there, and 4 if nothing can be told or written."""
     words = words_of(arguments)
     try:
         jillapun.name(words.source), jillapun.name(words.target)
         indexes = jillapun.Indexes(words.indexes)
     except jillapun.UnknownLabel as fault:
-        print("unknown encoding: %s" % fault, file=sys.stderr)
+        complain("unknown encoding: %s" % fault)
         return 2
     except (OSError, jillapun.JillapunError) as fault:
-        print(fault, file=sys.stderr)
+        complain(str(fault))
         return 3
-    terminal, status = Terminal(len(words.files)), 0
-    for path in words.files:
-        status = max(status, one_status(words, path, indexes, terminal))
-        terminal.done += 1
-    return status
+    clash = clash_of(words)
+    if clash:
+        complain(clash)
+        return 2
+    if words.into and not os.path.isdir(words.into):
+        complain("%s: no such folder" % words.into)
+        return 4
+    if sys.stdout is None:
+        complain("standard output is closed: what is lost could not be told")
+        return 4
+    if isinstance(sys.stdout, io.TextIOWrapper):
+        sys.stdout.reconfigure(errors="backslashreplace")
+    return convert_all(words, indexes)
+
+
+def program() -> int:
+    """`main`, of which an interruption and a request to end leave no part of a file."""
+
+    def end(number: int, _: object) -> NoReturn:
+        sys.exit(128 + number)
+
+    for number in (signal.SIGHUP, signal.SIGTERM):
+        if signal.getsignal(number) == signal.SIG_DFL:
+            signal.signal(number, end)
+    try:
+        return main()
+    except KeyboardInterrupt:
+        return 128 + signal.SIGINT
 
 
 if __name__ == "__main__":
-    sys.exit(main())
+    sys.exit(program())

@@ -1,64 +1,201 @@
 """Whole files, converted by steps: a chunk of the input and of the output is in memory at a time."""
 
-import ctypes
+import contextlib
+import errno
 import os
+import shutil
+import stat
 import tempfile
-from typing import BinaryIO, Callable, List, Optional, cast
+from typing import BinaryIO, Callable, Iterator, List, Optional, Tuple, cast
 
 from . import _library as c
-from ._indexes import Indexes, PathLike, handle_of, number_of
-from ._results import ConvertedFile, Fault, Lost, Stopped, fault_of, refuse
-from ._streams import opened
-
-# How many bytes a file is read by, and the room of one call, in bytes and in records of losses.
-_CHUNK, _ROOM, _RECORDS = 1 << 16, 1 << 16, 1 << 10
+from ._indexes import Indexes, PathLike
+from ._results import ConvertedFile, Fault, Faults, JillapunError, NotReplaced
+from ._steps import Conversion, chunk_of
 
 
-class _Converter:
-    """A conversion by steps, and what was lost so far."""
-
-    def __init__(self, source: str, target: str, mark: str, unmappable: str, limit: int, indexes: Optional[Indexes]):
-        words = number_of(source), number_of(target), c.MARKS[mark], c.POLICIES[unmappable], limit
-        self.faults: List[Fault] = []
-        self.status, self.report = c.GOES_ON, c.Report()
-        self._room, self._losses = ctypes.create_string_buffer(_ROOM), (c.Loss * _RECORDS)()
-        self._handle = opened("jillapun_converter_new", handle_of(indexes), *words)
-
-    def put(self, data: bytes, made: BinaryIO) -> None:
-        """Converts the next bytes, or, if there are none, the end of the input, and writes what they give."""
-        at, start, progress = 0, c.address_of(data), c.ConverterProgress()
-        room = memoryview(self._room)
-        while self.status == c.GOES_ON and (at < len(data) or not data or progress.wants_room):
-            self.status = c.library.jillapun_converter_step(
-                ctypes.byref(self._handle), start + at, len(data) - at, not data, self._room, _ROOM,
-                self._losses, _RECORDS, ctypes.byref(progress), ctypes.byref(self.report),
-            )  # fmt: skip
-            at += progress.read
-            made.write(room[: progress.written])
-            self.faults += map(fault_of, self._losses[: progress.losses])
-
-    def check(self) -> None:
-        """Raises what the status says if not all was converted."""
-        if self.status == c.STOPPED:
-            raise Stopped(Lost(self.report.index, chr(self.report.scalar)), faults=self.faults)
-        if self.status not in (c.OK, c.LOSSY):
-            refuse(self.status)
-
-    def __del__(self) -> None:
-        if hasattr(self, "_handle"):
-            c.library.jillapun_converter_free(ctypes.byref(self._handle))
+def _refused(number: int, path: str, words: Optional[str] = None) -> OSError:
+    return OSError(number, words or os.strerror(number), path)
 
 
-def _put_all(converter: _Converter, given: BinaryIO, made: BinaryIO, progress: Optional[Callable[[int], object]]) -> None:
+def _attributes_of(path: str) -> List[str]:
+    """The names of the extended attributes of a file; none where the system has none."""
+    try:
+        return os.listxattr(path)
+    except (AttributeError, OSError):
+        return []
+
+
+def _dress(descriptor: int, path: str, old: os.stat_result) -> None:
+    """Gives a file the owner, the extended attributes and the permissions of another, as far as it may. Who could not
+    read that one cannot read this one."""
+    mode = stat.S_IMODE(old.st_mode)
+    try:
+        os.fchown(descriptor, old.st_uid, old.st_gid)
+    except OSError:
+        mode &= 0o777
+        try:
+            os.fchown(descriptor, -1, old.st_gid)
+        except OSError:
+            # The group is another: it may do what all may.
+            mode = mode & 0o707 | (mode & 0o007) << 3
+    for name in _attributes_of(path):
+        with contextlib.suppress(OSError):
+            os.setxattr(descriptor, name, os.getxattr(path, name))
+    os.fchmod(descriptor, mode)
+
+
+def _copy(path: str, copy: str) -> None:
+    """Copies a file, with its times, to a name that no file has yet."""
+    with open(path, "rb") as given, open(os.open(copy, os.O_WRONLY | os.O_CREAT | os.O_EXCL, 0o600), "wb") as made:
+        try:
+            shutil.copyfileobj(given, made)
+            made.flush()
+            old = os.fstat(given.fileno())
+            _dress(made.fileno(), path, old)
+            os.utime(made.fileno(), ns=(old.st_atime_ns, old.st_mtime_ns))
+            os.fsync(made.fileno())
+        except BaseException:
+            os.unlink(copy)
+            raise
+
+
+def _sync_folder(folder: str) -> None:
+    """Sees to it that what was moved there stays moved, where the file system can."""
+    with contextlib.suppress(OSError):
+        descriptor = os.open(folder, os.O_RDONLY)
+        try:
+            os.fsync(descriptor)
+        finally:
+            os.close(descriptor)
+
+
+class _Place:
+    """Where an output is put: a new file, or one that is there and is replaced. A link is followed."""
+
+    def __init__(self, path: PathLike, suffix: Optional[str]):
+        if suffix is not None and (not suffix or os.path.basename(suffix) != suffix):
+            raise ValueError("%r is no suffix of a name" % suffix)
+        self.path, self.backup = os.path.realpath(path), ""
+        self.folder = os.path.dirname(self.path)
+        self.old: Optional[os.stat_result] = None
+        with contextlib.suppress(FileNotFoundError):
+            self.old = os.stat(path)
+        if self.old:
+            self.backup = self.path + suffix if suffix else ""
+            self._check(self.old, os.fspath(path))
+
+    def _check(self, old: os.stat_result, path: str) -> None:
+        """Refuses what no output could be written over, as a folder, a device or a file that is protected."""
+        if stat.S_ISDIR(old.st_mode):
+            raise _refused(errno.EISDIR, path)
+        if not stat.S_ISREG(old.st_mode):
+            raise _refused(errno.EINVAL, path, "Not a regular file")
+        os.close(os.open(path, os.O_WRONLY))
+        if self.backup and os.path.lexists(self.backup):
+            raise _refused(errno.EEXIST, self.backup)
+
+    @contextlib.contextmanager
+    def beside(self) -> Iterator[Tuple[str, BinaryIO]]:
+        """A new file in the folder of the place, which no one else can read, and its path. At the end it is removed,
+        unless it was moved."""
+        try:
+            descriptor, path = tempfile.mkstemp(prefix=".jillapun-", dir=self.folder)
+        except OSError as fault:
+            fault.filename = self.folder
+            raise
+        try:
+            with open(descriptor, "wb") as made:
+                yield path, cast(BinaryIO, made)
+        finally:
+            with contextlib.suppress(FileNotFoundError):
+                os.unlink(path)
+
+    def finish(self, made: BinaryIO, mode: int) -> None:
+        """Ends the file beside the place: like the one that it replaces, and safe on the disk, or, if it replaces none,
+        with this mode."""
+        made.flush()
+        if self.old:
+            _dress(made.fileno(), self.path, self.old)
+            os.fsync(made.fileno())
+        else:
+            os.fchmod(made.fileno(), mode)
+        made.close()
+
+    def check_unchanged(self, before: os.stat_result) -> None:
+        """Refuses to replace a file that is not what was read."""
+        now = os.stat(self.path)
+        if not os.path.samestat(now, before) or (now.st_size, now.st_mtime_ns) != (before.st_size, before.st_mtime_ns):
+            raise JillapunError("it changed while it was converted, and is not replaced")
+
+    def put(self, path: str) -> None:
+        """Moves the file from beside to its place. What stood there is kept, if that was asked for."""
+        if self.backup:
+            try:
+                os.link(self.path, self.backup)
+            except FileExistsError:
+                raise
+            except OSError:
+                # Not every file system has links.
+                _copy(self.path, self.backup)
+        try:
+            os.replace(path, self.path)
+        except OSError:
+            # Only then is it sure that the backup is no more than a copy.
+            if self.backup:
+                os.unlink(self.backup)
+            raise
+        if self.old:
+            _sync_folder(self.folder)
+
+
+def _put_all(
+    conversion: Conversion, given: BinaryIO, made: BinaryIO, progress: Optional[Callable[[int], object]]
+) -> None:
     """Converts a file to its end, or as far as it goes."""
     read = 0
-    while converter.status == c.GOES_ON:
-        data = given.read(_CHUNK)
-        converter.put(data, made)
+    while conversion.status == c.GOES_ON:
+        data = chunk_of(given)
+        for output in conversion.put(data, not data):
+            made.write(output)
         read += len(data)
         if progress:
             progress(read)
-    converter.check()
+    conversion.check()
+
+
+def convert_with(
+    faults: Faults,
+    source_path: PathLike,
+    target_path: PathLike,
+    source: str,
+    target: str,
+    *,
+    mark: str = "sniff",
+    unmappable: str = "decimal",
+    limit: Optional[int] = None,
+    indexes: Optional[Indexes] = None,
+    lossy: bool = False,
+    backup: Optional[str] = None,
+    progress: Optional[Callable[[int], object]] = None,
+) -> ConvertedFile:
+    """`convert_file`, with what is lost handed to `faults`."""
+    most = c.NO_LIMIT if limit is None else limit
+    conversion = Conversion(source, target, mark, unmappable, most, indexes, faults)
+    place = _Place(target_path, backup)
+    with open(source_path, "rb") as given, place.beside() as (path, made):
+        before = os.fstat(given.fileno())
+        _put_all(conversion, given, made, progress)
+        report = conversion.report
+        done = ConvertedFile(report.read, report.bad, report.lost, conversion.status == c.OK, faults.kept)
+        is_in_place = place.old is not None and os.path.samestat(place.old, before)
+        if is_in_place and not (done.faithful or lossy or backup):
+            raise NotReplaced(done)
+        place.finish(made, before.st_mode & 0o777)
+        if is_in_place:
+            place.check_unchanged(before)
+        place.put(path)
+    return done
 
 
 def convert_file(
@@ -71,23 +208,28 @@ def convert_file(
     unmappable: str = "decimal",
     limit: Optional[int] = None,
     indexes: Optional[Indexes] = None,
+    lossy: bool = False,
+    backup: Optional[str] = None,
+    on_fault: Optional[Callable[[Fault], object]] = None,
+    keep_faults: int = 0,
     progress: Optional[Callable[[int], object]] = None,
 ) -> ConvertedFile:
     """Converts a file into another, which is there whole or not at all: it is written beside its place, and moved there
-    at the end, with the permissions of the source. The two may be one. However long the file is, only a chunk of it is in memory, and what was lost.
+    at the end. However long the file is, and whatever is lost, only a chunk of it is in memory.
 
-    `progress` is called after each chunk, with how many bytes have been read. Raises what `convert` does, and
-    `OSError`; a `Stopped` has no output then."""
-    converter = _Converter(source, target, mark, unmappable, c.NO_LIMIT if limit is None else limit, indexes)
-    folder = os.path.dirname(os.path.abspath(os.fspath(target_path)))
-    with open(source_path, "rb") as given:
-        descriptor, beside = tempfile.mkstemp(prefix=".jillapun-", dir=folder)
-        try:
-            with open(descriptor, "wb") as made:
-                _put_all(converter, given, cast(BinaryIO, made), progress)
-            os.chmod(beside, os.stat(source_path).st_mode & 0o777)
-            os.replace(beside, target_path)
-        except BaseException:
-            os.unlink(beside)
-            raise
-    return ConvertedFile(converter.report.read, converter.faults, converter.status == c.OK)
+    A new file has the permissions of the source. A file that is there already is replaced: its owner (if this may be
+    set), its permissions and its extended attributes stay. A link is followed. If `backup`, a suffix, is given, what
+    was there is kept as the name with that suffix, which no file may have yet.
+
+    Where both paths lead to one file, it is replaced only if nothing is lost, or with `lossy` or `backup`. Otherwise it
+    stays as it was, and `NotReplaced` is raised, which has the counts. Other hard links of it keep what it was.
+
+    What is lost is counted, and handed to `on_fault` as it comes, a `Bad` or a `Lost`, in the order of the text; the
+    first `keep_faults` of them are kept. `progress` is called after each chunk, with how many bytes have been read.
+
+    Raises what `convert` does, `OSError`, and what `on_fault` or `progress` raise. After an exception the target is as
+    it was; a `Stopped` has no output."""
+    return convert_with(
+        Faults(keep_faults, on_fault), source_path, target_path, source, target, mark=mark, unmappable=unmappable,
+        limit=limit, indexes=indexes, lossy=lossy, backup=backup, progress=progress,
+    )  # fmt: skip

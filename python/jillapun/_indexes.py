@@ -17,7 +17,7 @@ PathLike = Union[str, "os.PathLike[str]"]
 def number_of(label: str) -> int:
     """The number of the encoding that has this label."""
     word = label.encode("utf-8", "replace")
-    number = c.library.jillapun_for_label(word, len(word))
+    number: int = c.library.jillapun_for_label(word, len(word))
     if number == c.NO_ENCODING:
         raise UnknownLabel(label)
     return number

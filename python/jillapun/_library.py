@@ -3,6 +3,7 @@
 import ctypes
 import ctypes.util
 import os
+import struct
 from functools import lru_cache
 from pathlib import Path
 from typing import List, Optional
@@ -14,9 +15,6 @@ Long = ctypes.c_uint64
 # Statuses.
 OK, LOSSY, UNKNOWN, NOT_READY, BAD_INDEX, NO_MEMORY, CLOSED, IN_USE, FINISHED, NOT_UTF8, ROOM = range(11)
 GOES_ON, STOPPED, TOO_LONG = 11, 12, 13
-
-# Outcomes of calls of streams.
-INPUT_EMPTY, OUTPUT_FULL, MALFORMED, UNMAPPABLE = range(4)
 
 # Kinds of losses.
 BAD, LOST = range(2)
@@ -60,6 +58,10 @@ class Loss(ctypes.Structure):
     _fields_ = [("place", Long), ("number", ctypes.c_uint32), ("kind", Byte)]
 
 
+# The same record, as many of them are read at once, and where its kind stands.
+LOSS, KIND = struct.Struct("QIB0Q"), Loss.kind.offset
+
+
 class Report(ctypes.Structure):
     _fields_ = [
         ("read", Long),
@@ -68,27 +70,6 @@ class Report(ctypes.Structure):
         ("written", Long),
         ("losses", Long),
         ("index", Long),
-        ("scalar", ctypes.c_uint32),
-    ]
-
-
-class Progress(ctypes.Structure):
-    _fields_ = [
-        ("read", Size),
-        ("written", Size),
-        ("outcome", Byte),
-        ("malformed_length", Byte),
-        ("malformed_after", Byte),
-        ("had_errors", ctypes.c_bool),
-    ]
-
-
-class EncoderProgress(ctypes.Structure):
-    _fields_ = [
-        ("read", Size),
-        ("written", Size),
-        ("outcome", Byte),
-        ("had_unmappable", ctypes.c_bool),
         ("scalar", ctypes.c_uint32),
     ]
 
@@ -134,22 +115,15 @@ _declare("jillapun_for_label", Byte, *_LENT)
 _declare("jillapun_name", Size, Byte, *_ROOM)
 _declare("jillapun_output_encoding", Byte, Byte)
 _declare("jillapun_tables_new", Byte, ctypes.POINTER(IndexFile), Size, ctypes.POINTER(Tables), ctypes.POINTER(IndexFault))
-_declare("jillapun_convert", Byte, Tables, Byte, Byte, Byte, Byte, Long, *_LENT, *_ROOM, ctypes.POINTER(Loss), Size, _REPORT)
+_declare("jillapun_convert", Byte, Tables, Byte, Byte, Byte, Byte, Long, *_LENT, *_ROOM, *_ROOM, _REPORT)
 
 
 @lru_cache(maxsize=None)
 def streams() -> ctypes.CDLL:
-    """The library, with the calls of streams declared."""
-    call = (_HANDLE, *_ROOM, *_ROOM, ctypes.c_bool)
-    _declare("jillapun_decoder_new", Byte, Tables, Byte, Byte, _HANDLE)
-    _declare("jillapun_decoder_decode_to_utf8_without_replacement", Byte, *call, ctypes.POINTER(Progress))
-    _declare("jillapun_decoder_free", None, _HANDLE)
-    _declare("jillapun_encoder_new", Byte, Tables, Byte, _HANDLE)
-    _declare("jillapun_encoder_encode_from_utf8_without_replacement", Byte, *call, ctypes.POINTER(EncoderProgress))
-    _declare("jillapun_encoder_free", None, _HANDLE)
+    """The library, with the calls of conversions by steps declared."""
     told = (ctypes.POINTER(ConverterProgress), _REPORT)
     _declare("jillapun_converter_new", Byte, Tables, Byte, Byte, Byte, Byte, Long, _HANDLE)
-    _declare("jillapun_converter_step", Byte, _HANDLE, *_ROOM, ctypes.c_bool, *_ROOM, ctypes.POINTER(Loss), Size, *told)
+    _declare("jillapun_converter_step", Byte, _HANDLE, *_ROOM, ctypes.c_bool, *_ROOM, *_ROOM, *told)
     _declare("jillapun_converter_free", None, _HANDLE)
     return library
 

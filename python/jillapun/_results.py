@@ -1,6 +1,6 @@
 """What calls return, and what they raise."""
 
-from typing import List, NamedTuple, Union
+from typing import Any, Callable, List, NamedTuple, Optional, Union
 
 from . import _library as c
 
@@ -20,7 +20,7 @@ class Bad(NamedTuple):
 class Lost(NamedTuple):
     """A character that the output encoding has no bytes for."""
 
-    index: int
+    index: int  # type: ignore[assignment]
     """How many characters of the text stand before it."""
     character: str
     """The character, or U+FFFD where ISO-2022-JP refuses a control."""
@@ -69,10 +69,23 @@ class ConvertedFile(NamedTuple):
 
     read: int
     """How many bytes were read."""
-    faults: List[Fault]
-    """What was malformed, and which characters have no bytes, in their order."""
+    bad: int
+    """How many sequences of the input were malformed."""
+    lost: int
+    """How many characters have no bytes in the output encoding."""
     faithful: bool
-    """Whether nothing was malformed, and the output, read again, is the text of the input."""
+    """Whether nothing was malformed, and the output, read again, is the text of the input. It can be false where both
+    counts are 0: some encodings write a character as bytes that read back as another."""
+    kept_faults: List[Fault]
+    """The first of what was malformed or has no bytes, in their order: as many as the call was asked to keep."""
+
+    @property
+    def summary(self) -> str:
+        """What was lost, in words."""
+        if self.faithful:
+            return "nothing was lost"
+        counts = "malformed sequences: %d, characters without bytes: %d" % (self.bad, self.lost)
+        return counts if self.bad or self.lost else "some characters do not read back"
 
 
 class JillapunError(Exception):
@@ -101,11 +114,49 @@ class Stopped(JillapunError):
         self.output = output
         """What was written before it; empty where a file is converted."""
         self.faults = list(faults)
-        """What was lost up to it, with it."""
+        """What was lost up to it, with it; of a stream or a file, what was kept of that, and it."""
 
 
-def fault_of(loss: c.Loss) -> Fault:
-    return Bad(loss.place, loss.number) if loss.kind == c.BAD else Lost(loss.place, chr(loss.number))
+class NotReplaced(JillapunError):
+    """A file was to be replaced by its own conversion, which would have lost something. It is as it was."""
+
+    def __init__(self, done: ConvertedFile):
+        remedy = "lossy=True replaces it all the same, and backup=SUFFIX keeps the original"
+        super().__init__("left as it was (%s): %s" % (done.summary, remedy))
+        self.done = done
+        """What is told of the conversion."""
+
+
+def faults_in(records: bytes) -> List[Fault]:
+    """The losses that stand in records of the library."""
+    return [
+        Bad(place, number) if kind == c.BAD else Lost(place, chr(number))
+        for place, number, kind in c.LOSS.iter_unpack(records)
+    ]
+
+
+class Faults:
+    """What a stream has lost so far: how much, and the first of it. Each loss is handed on as it comes."""
+
+    def __init__(self, keep: int = 0, on_fault: Optional[Callable[[Any], object]] = None):
+        self.bad = self.lost = 0
+        self.kept: List[Any] = []
+        self._keep, self._on_fault = keep, on_fault
+
+    def add(self, records: bytes) -> None:
+        """Takes the next losses."""
+        kinds = records[c.KIND :: c.LOSS.size]
+        bad = kinds.count(c.BAD)
+        self.bad += bad
+        self.lost += len(kinds) - bad
+        self.kept += faults_in(records[: max(self._keep - len(self.kept), 0) * c.LOSS.size])
+        if self._on_fault:
+            for fault in faults_in(records):
+                self._on_fault(fault)
+
+    def up_to(self, last: Lost) -> List[Fault]:
+        """What was kept, and the last loss, if it was not."""
+        return [*self.kept, *([last] if self.bad + self.lost > len(self.kept) else [])]
 
 
 def refuse(status: int) -> None:

@@ -1,163 +1,161 @@
 """Streams: decoders and encoders, chunk by chunk, and files of text over them."""
 
 import builtins
-import ctypes
 import io
+import sys
 import threading
-from typing import BinaryIO, List, Optional, Union, cast
+from typing import Any, BinaryIO, Callable, Dict, List, Literal, Optional, Union, cast, overload
 
 from . import _library as c
-from ._indexes import Indexes, PathLike, handle_of, number_of
-from ._results import Bad, IndexesMissing, JillapunError, Lost, Stopped
+from ._indexes import Indexes, PathLike
+from ._results import Bad, Faults, Lost, Stopped
+from ._steps import Conversion, chunk_of
 
-# Room for one call, in bytes.
-_ROOM = 1 << 16
-
-# How many bytes or characters a file is read and written by.
-_CHUNK = 1 << 16
+_UTF_8 = "utf-8"
 
 
-def opened(call: str, *words: object) -> c.Handle:
-    """A handle that a call fills."""
-    handle = c.Handle()
-    status = getattr(c.streams(), call)(*words, ctypes.byref(handle))
-    if status == c.NO_MEMORY:
-        raise MemoryError
-    if status == c.NOT_READY:
-        raise IndexesMissing("an index that the encoding needs is not loaded: Indexes() says from where")
-    if status != c.OK:
-        raise JillapunError("status %d" % status)
-    return handle
+class _Stream:
+    """A stream that is converted chunk by chunk. Where an exception cuts a call short, the stream has ended: what the
+    call had made is gone."""
+
+    def __init__(
+        self,
+        source: str,
+        target: str,
+        mark: str,
+        unmappable: str,
+        indexes: Optional[Indexes],
+        on_fault: Optional[Callable[[Any], object]],
+        keep_faults: int,
+    ):
+        self._faults = Faults(keep_faults, on_fault)
+        self._conversion = Conversion(source, target, mark, unmappable, c.NO_LIMIT, indexes, self._faults)
+        # A callback may call again: it is told that the stream has ended.
+        self._is_ended, self._lock = False, threading.RLock()
+
+    def _put(self, data: bytes, last: bool) -> bytes:
+        with self._lock:
+            if self._is_ended:
+                raise ValueError("the stream has ended")
+            self._is_ended = True
+            output = b"".join(self._conversion.put(data, last))
+            self._conversion.check(output)
+            self._is_ended = last
+            return output
 
 
-class Decoder:
-    """Decodes a stream chunk by chunk, wherever it is cut.
+class Decoder(_Stream):
+    """Decodes a stream chunk by chunk, wherever it is cut. Calls of several threads wait for one another.
 
-    `faults` has what was malformed so far, with offsets from the start of the stream. Calls of several threads wait for
-    one another.
+    What is malformed is counted, and handed to `on_fault` as it comes: a `Bad`, with its offset from the start of the
+    stream. The first `keep_faults` of them are kept. What `on_fault` raises, `decode` raises, and the stream has ended.
     """
 
-    def __init__(self, encoding: str, *, mark: str = "remove", indexes: Optional[Indexes] = None):
-        tables = handle_of(indexes)
-        self.faults: List[Bad] = []
-        self._read, self._is_ended, self._lock = 0, False, threading.Lock()
-        self._room = ctypes.create_string_buffer(_ROOM)
-        self._handle = opened("jillapun_decoder_new", tables, number_of(encoding), c.MARKS[mark])
+    def __init__(
+        self,
+        encoding: str,
+        *,
+        mark: str = "remove",
+        indexes: Optional[Indexes] = None,
+        on_fault: Optional[Callable[[Bad], object]] = None,
+        keep_faults: int = 0,
+    ):
+        super().__init__(encoding, _UTF_8, mark, "decimal", indexes, on_fault, keep_faults)
+
+    @property
+    def bad(self) -> int:
+        """How many sequences were malformed so far."""
+        return self._faults.bad
+
+    @property
+    def kept_faults(self) -> List[Bad]:
+        """The first of them."""
+        return list(self._faults.kept)
 
     def decode(self, data: bytes, last: bool = False) -> str:
         """The text that these bytes decide; what is undecided waits for more. `last` ends the stream, and after it no
         more can be decoded."""
-        with self._lock:
-            return self._decoded(bytes(data), last)
-
-    def _decoded(self, data: bytes, last: bool) -> str:
-        if self._is_ended:
-            raise ValueError("the stream has ended")
-        parts, at, progress, start = [], 0, c.Progress(), c.address_of(data)
-        while True:
-            status = c.library.jillapun_decoder_decode_to_utf8_without_replacement(
-                ctypes.byref(self._handle), start + at, len(data) - at, self._room, _ROOM, last, ctypes.byref(progress)
-            )
-            if status != c.OK:
-                raise JillapunError("status %d" % status)
-            at += progress.read
-            self._read += progress.read
-            parts.append(self._room[: progress.written].decode())
-            if progress.outcome == c.INPUT_EMPTY:
-                break
-            if progress.outcome == c.MALFORMED:
-                length = progress.malformed_length
-                self.faults.append(Bad(self._read - progress.malformed_after - length, length))
-                parts.append("\ufffd")
-        self._is_ended = last
-        return "".join(parts)
-
-    def __del__(self) -> None:
-        if hasattr(self, "_handle"):
-            c.library.jillapun_decoder_free(ctypes.byref(self._handle))
+        return self._put(bytes(data), last).decode()
 
 
-class Encoder:
-    """Encodes a text chunk by chunk.
+class Encoder(_Stream):
+    """Encodes a text chunk by chunk. Calls of several threads wait for one another.
 
-    `faults` has the characters so far that have no bytes, with how many characters of the text stand before each. Calls
-    of several threads wait for one another.
+    Characters that have no bytes are counted, and handed to `on_fault` as they come: a `Lost`, with how many characters
+    of the text stand before it. The first `keep_faults` of them are kept. What `on_fault` raises, `encode` raises, and
+    the text has ended.
     """
 
-    def __init__(self, encoding: str, *, unmappable: str = "decimal", indexes: Optional[Indexes] = None):
-        tables = handle_of(indexes)
-        self.faults: List[Lost] = []
-        self._unmappable, self._index, self._is_ended, self._lock = unmappable, 0, False, threading.Lock()
-        c.POLICIES[unmappable]
-        self._room = ctypes.create_string_buffer(_ROOM)
-        self._handle = opened("jillapun_encoder_new", tables, number_of(encoding))
+    def __init__(
+        self,
+        encoding: str,
+        *,
+        unmappable: str = "decimal",
+        indexes: Optional[Indexes] = None,
+        on_fault: Optional[Callable[[Lost], object]] = None,
+        keep_faults: int = 0,
+    ):
+        super().__init__(_UTF_8, encoding, "keep", unmappable, indexes, on_fault, keep_faults)
+
+    @property
+    def lost(self) -> int:
+        """How many characters so far have no bytes."""
+        return self._faults.lost
+
+    @property
+    def kept_faults(self) -> List[Lost]:
+        """The first of them."""
+        return list(self._faults.kept)
+
+    @property
+    def faithful(self) -> Optional[bool]:
+        """Whether the bytes, read again, are the text; `None` before its end is encoded."""
+        return {c.OK: True, c.LOSSY: False}.get(self._conversion.status)
 
     def encode(self, text: str, last: bool = False) -> bytes:
         """The bytes of these characters. `last` ends the text, and after it no more can be encoded. For a character
         without bytes its reference is written, or, with "stop", `Stopped` is raised, which has what was written."""
-        with self._lock:
-            if self._is_ended:
-                raise ValueError("the text has ended")
-            parts: List[bytes] = []
-            self._put(text.encode(), last, parts)
-            self._is_ended = last
-            return b"".join(parts)
-
-    def _put(self, data: bytes, last: bool, parts: List[bytes], is_reference: bool = False) -> None:
-        progress, at, start = c.EncoderProgress(), 0, c.address_of(data)
-        while True:
-            status = c.library.jillapun_encoder_encode_from_utf8_without_replacement(
-                ctypes.byref(self._handle), start + at, len(data) - at, self._room, _ROOM, last, ctypes.byref(progress)
-            )
-            if status != c.OK:
-                raise JillapunError("status %d" % status)
-            if not is_reference:
-                self._index += len(data[at : at + progress.read].decode())
-            at += progress.read
-            parts.append(self._room[: progress.written])
-            if progress.outcome == c.INPUT_EMPTY:
-                return
-            if progress.outcome == c.UNMAPPABLE:
-                self._lose(Lost(self._index - 1, chr(progress.scalar)), parts)
-
-    def _lose(self, lost: Lost, parts: List[bytes]) -> None:
-        self.faults.append(lost)
-        if self._unmappable == "stop":
-            self._is_ended = True
-            raise Stopped(lost, b"".join(parts), list(self.faults))
-        form = "&#x%X;" if self._unmappable == "hexadecimal" else "&#%d;"
-        self._put((form % ord(lost.character)).encode(), False, parts, is_reference=True)
-
-    def __del__(self) -> None:
-        if hasattr(self, "_handle"):
-            c.library.jillapun_encoder_free(ctypes.byref(self._handle))
+        return self._put(text.encode(), last)
 
 
 class Reader(io.TextIOBase):
     """A text that is read from a binary file as it is asked for. Ends of lines stay as they are, and a line ends at a
-    line feed."""
+    line feed. What is malformed is counted, handed on and kept as by `Decoder`, ahead of the text that is asked for."""
 
-    def __init__(self, file: BinaryIO, encoding: str, *, mark: str = "sniff", indexes: Optional[Indexes] = None):
+    def __init__(
+        self,
+        file: BinaryIO,
+        encoding: str,
+        *,
+        mark: str = "sniff",
+        indexes: Optional[Indexes] = None,
+        on_fault: Optional[Callable[[Bad], object]] = None,
+        keep_faults: int = 0,
+    ):
+        self._decoder = Decoder(encoding, mark=mark, indexes=indexes, on_fault=on_fault, keep_faults=keep_faults)
         self._file = file
-        self._decoder = Decoder(encoding, mark=mark, indexes=indexes)
         self._text, self._at, self._is_ended = "", 0, False
 
     @property
-    def faults(self) -> List[Bad]:  # type: ignore[override]
-        """What was malformed in the bytes that were read so far: they are read ahead of the text."""
-        return self._decoder.faults
+    def bad(self) -> int:
+        """How many sequences were malformed in the bytes that were read so far: they are read ahead of the text."""
+        return self._decoder.bad
+
+    @property
+    def kept_faults(self) -> List[Bad]:
+        """The first of them."""
+        return self._decoder.kept_faults
 
     def readable(self) -> bool:
         return True
 
-    def _more(self) -> bool:
-        """Reads on, and returns whether there is more."""
-        if self._is_ended:
-            return False
-        data = self._file.read(_CHUNK)
-        self._is_ended = not data
-        self._text, self._at = self._text[self._at :] + self._decoder.decode(data, not data), 0
-        return True
+    def _is_left(self) -> bool:
+        """Whether there is more, which is then at hand."""
+        while self._at == len(self._text) and not self._is_ended:
+            data = chunk_of(self._file)
+            self._text, self._at = self._decoder.decode(data, not data), 0
+            self._is_ended = not data
+        return self._at < len(self._text)
 
     def _take(self, end: int) -> str:
         text, self._at = self._text[self._at : end], end
@@ -165,22 +163,24 @@ class Reader(io.TextIOBase):
 
     def read(self, size: Optional[int] = -1) -> str:
         """So many characters, or fewer at the end; all that is left, if it is below 0."""
-        wanted = -1 if size is None else size
-        while (wanted < 0 or len(self._text) - self._at < wanted) and self._more():
-            pass
-        return self._take(len(self._text) if wanted < 0 else min(self._at + wanted, len(self._text)))
+        left = sys.maxsize if size is None or size < 0 else size
+        parts: List[str] = []
+        while left and self._is_left():
+            parts.append(self._take(min(self._at + left, len(self._text))))
+            left -= len(parts[-1])
+        return "".join(parts)
 
     def readline(self, size: Optional[int] = -1) -> str:  # type: ignore[override]
         """The next line, with its line feed, or at most so many characters of it; nothing at the end."""
-        limit = -1 if size is None else size
-        seen = 0
-        while True:
-            found = self._text.find("\n", self._at + seen)
-            seen = len(self._text) - self._at
-            if found >= 0 or 0 <= limit <= seen or not self._more():
+        left = sys.maxsize if size is None or size < 0 else size
+        parts: List[str] = []
+        while left and self._is_left():
+            end = self._text.find("\n", self._at) + 1 or len(self._text)
+            parts.append(self._take(min(self._at + left, end)))
+            left -= len(parts[-1])
+            if parts[-1].endswith("\n"):
                 break
-        end = found + 1 if found >= 0 else len(self._text)
-        return self._take(min(end, self._at + limit) if limit >= 0 else end)
+        return "".join(parts)
 
     def close(self) -> None:
         if not self.closed:
@@ -190,32 +190,97 @@ class Reader(io.TextIOBase):
 
 class Writer(io.TextIOBase):
     """A text that is written to a binary file. Ends of lines stay as they are. The text ends where the file is closed:
-    until then an encoding may owe some bytes."""
+    until then an encoding may owe some bytes. Characters without bytes are counted, handed on and kept as by `Encoder`.
+    """
 
-    def __init__(self, file: BinaryIO, encoding: str, *, unmappable: str = "decimal", indexes: Optional[Indexes] = None):
-        self._file = file
-        self._encoder = Encoder(encoding, unmappable=unmappable, indexes=indexes)
+    def __init__(
+        self,
+        file: BinaryIO,
+        encoding: str,
+        *,
+        unmappable: str = "decimal",
+        indexes: Optional[Indexes] = None,
+        on_fault: Optional[Callable[[Lost], object]] = None,
+        keep_faults: int = 0,
+    ):
+        self._encoder = Encoder(
+            encoding, unmappable=unmappable, indexes=indexes, on_fault=on_fault, keep_faults=keep_faults
+        )
+        # A raw file may take less than it is handed.
+        self._file: Any = io.BufferedWriter(cast(Any, file)) if isinstance(file, io.RawIOBase) else file
 
     @property
-    def faults(self) -> List[Lost]:  # type: ignore[override]
-        """The characters so far that have no bytes."""
-        return self._encoder.faults
+    def lost(self) -> int:
+        """How many characters so far have no bytes."""
+        return self._encoder.lost
+
+    @property
+    def kept_faults(self) -> List[Lost]:
+        """The first of them."""
+        return self._encoder.kept_faults
+
+    @property
+    def faithful(self) -> Optional[bool]:
+        """Whether the bytes, read again, are the text; `None` before the file is closed."""
+        return self._encoder.faithful
 
     def writable(self) -> bool:
         return True
 
     def write(self, text: str) -> int:
-        """Writes the text, and returns how many characters it has."""
-        self._file.write(self._encoder.encode(text))
+        """Writes the text, and returns how many characters it has. Where `Stopped` is raised, what stands before its
+        character is written."""
+        try:
+            self._file.write(self._encoder.encode(text))
+        except Stopped as stop:
+            self._file.write(stop.output)
+            raise
         return len(text)
 
+    def flush(self) -> None:
+        if not self._file.closed:
+            self._file.flush()
+
     def close(self) -> None:
-        if not self.closed:
-            try:
+        """Ends the text, unless an exception did, and closes the file."""
+        if self.closed:
+            return
+        try:
+            if not self._encoder._is_ended:
                 self._file.write(self._encoder.encode("", last=True))
-            finally:
-                self._file.close()
-                super().close()
+        finally:
+            self._file.close()
+            super().close()
+
+
+@overload
+def open(
+    path: PathLike,
+    mode: Literal["r"] = "r",
+    *,
+    encoding: str,
+    mark: str = "sniff",
+    unmappable: str = "decimal",
+    indexes: Optional[Indexes] = None,
+    on_fault: Optional[Callable[[Bad], object]] = None,
+    keep_faults: int = 0,
+) -> Reader:
+    ...
+
+
+@overload
+def open(
+    path: PathLike,
+    mode: Literal["w", "a", "x"],
+    *,
+    encoding: str,
+    mark: str = "sniff",
+    unmappable: str = "decimal",
+    indexes: Optional[Indexes] = None,
+    on_fault: Optional[Callable[[Lost], object]] = None,
+    keep_faults: int = 0,
+) -> Writer:
+    ...
 
 
 def open(
@@ -226,15 +291,21 @@ def open(
     mark: str = "sniff",
     unmappable: str = "decimal",
     indexes: Optional[Indexes] = None,
+    on_fault: Optional[Callable[[Any], object]] = None,
+    keep_faults: int = 0,
 ) -> Union[Reader, Writer]:
     """A file of text in an encoding, to read (`"r"`) as a `Reader` or to write (`"w"`, `"a"`, `"x"`) as a `Writer`."""
     if mode not in ("r", "w", "a", "x"):
         raise ValueError("mode %r is none of r, w, a and x" % mode)
+    if mode != "r":
+        # Words that are refused leave a file as it was.
+        Encoder(encoding, unmappable=unmappable, indexes=indexes)
     file = cast(BinaryIO, builtins.open(path, mode + "b"))
+    told: Dict[str, Any] = {"indexes": indexes, "on_fault": on_fault, "keep_faults": keep_faults}
     try:
         if mode == "r":
-            return Reader(file, encoding, mark=mark, indexes=indexes)
-        return Writer(file, encoding, unmappable=unmappable, indexes=indexes)
+            return Reader(file, encoding, mark=mark, **told)
+        return Writer(file, encoding, unmappable=unmappable, **told)
     except BaseException:
         file.close()
         raise

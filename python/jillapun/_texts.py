@@ -1,38 +1,16 @@
 """Whole texts and inputs in memory."""
 
-import ctypes
-import threading
 from typing import List, Optional, Tuple
 
 from . import _library as c
 from ._indexes import Indexes, handle_of, number_of
-from ._results import Converted, Decoded, Encoded, Fault, Lost, Stopped, fault_of, refuse
+from ._results import Converted, Decoded, Encoded, Fault, Lost, Stopped, faults_in, refuse
+from ._rooms import Kept, Room
 
 _UTF_8 = "utf-8"
 
-
-class _Room:
-    """Room for a conversion: its output, its records of losses and its report."""
-
-    def __init__(self, size: int, count: int):
-        self.size, self.count = size, count
-        self.bytes, self.losses, self.report = (ctypes.c_char * size)(), (c.Loss * count)(), c.Report()
-        self.words = (self.bytes, size, self.losses, count, ctypes.byref(self.report))
-
-
-class _Kept(threading.local):
-    """A room of each thread for short inputs, which most are: to make one takes longer than to convert them."""
-
-    room: Optional[_Room] = None
-
-
-_kept = _Kept()
-
-
-def _short_room() -> _Room:
-    """The thread's room, or another, where a signal's handler converts while it is in use."""
-    room, _kept.room = _kept.room, None
-    return room or _Room(4096, 16)
+# Room for short inputs, which most are, and how long these are.
+_short, _SHORT = Kept(4096, 16), 1024
 
 
 def _run(
@@ -41,22 +19,21 @@ def _run(
     """Whether nothing was lost, the output and the faults. The conversion is made twice where room was too small."""
     words = number_of(source), number_of(target), c.MARKS[mark], c.POLICIES[unmappable], limit, data, len(data)
     handle = handle_of(indexes)
-    # A power of two, since ctypes makes a type for each size.
-    short = _short_room() if len(data) <= 1024 else None
-    room = short or _Room(1 << (len(data) * 3 // 2).bit_length(), 16)
-    status = c.library.jillapun_convert(handle, *words, *room.words)
+    short = _short.take() if len(data) <= _SHORT else None
+    room = short or Room(len(data) * 3 // 2, 16)
+    status = c.library.jillapun_convert(handle, *words, *room.words, room.told)
     while status == c.ROOM:
-        room = _Room(max(room.report.written, 1), max(room.report.losses, 1))
-        status = c.library.jillapun_convert(handle, *words, *room.words)
+        room = Room(room.report.written, room.report.losses)
+        status = c.library.jillapun_convert(handle, *words, *room.words, room.told)
     report = room.report
-    output, losses = room.bytes[: report.written], room.losses[: report.losses] if report.losses else ()
-    faults = [fault_of(loss) for loss in losses]
+    output = room.bytes[: report.written]
+    faults = faults_in(room.losses[: report.losses * c.LOSS.size]) if report.losses else []
     if status == c.STOPPED:
         raise Stopped(Lost(report.index, chr(report.scalar)), output, faults)
     if status not in (c.OK, c.LOSSY):
         refuse(status)
     if short:
-        _kept.room = short
+        _short.give(short)
     return status == c.OK, output, faults
 
 

@@ -1,10 +1,9 @@
-"""What no case says: errors, files, streams over files, threads, and the program."""
+"""What no case says: errors, files, streams over files, and threads."""
 
-import contextlib
+import ctypes
 import doctest
 import io
 import os
-import subprocess
 import sys
 import tempfile
 import threading
@@ -13,7 +12,6 @@ from pathlib import Path
 
 import cases
 import jillapun
-from jillapun.__main__ import main
 
 TEXT = "日本語のテキスト、\nカナと ASCII\n" * 3000
 
@@ -65,7 +63,7 @@ class Files(unittest.TestCase):
             self.assertEqual(Path(self.path).read_bytes(), TEXT.encode(codec))
             with jillapun.open(self.path, encoding=label) as file:
                 self.assertEqual(list(file), TEXT.splitlines(keepends=True))
-                self.assertEqual(file.faults, [])
+                self.assertEqual(file.bad, 0)
             with jillapun.open(self.path, encoding=label) as file:
                 parts = [file.read(1000), file.readline(), file.readline(3), file.read()]
             self.assertEqual("".join(parts), TEXT)
@@ -73,13 +71,18 @@ class Files(unittest.TestCase):
 
     def test_faults_of_streams(self) -> None:
         Path(self.path).write_bytes(b"a\xff\nb\x83")
-        with jillapun.open(self.path, encoding="shift_jis") as file:
+        told = []
+        with jillapun.open(self.path, encoding="shift_jis", on_fault=told.append, keep_faults=1) as file:
             self.assertEqual(file.read(), "a\ufffd\nb\ufffd")
-            self.assertEqual(file.faults, [(1, 1), (4, 1)])
-        with jillapun.open(self.path, "w", encoding="windows-1252", unmappable="hexadecimal") as file:
-            file.write("é日")
-            self.assertEqual(file.faults, [(1, "日")])
-        self.assertEqual(Path(self.path).read_bytes(), b"\xe9&#x65E5;")
+            self.assertEqual((file.bad, file.kept_faults, told), (2, [(1, 1)], [(1, 1), (4, 1)]))
+        told = []
+        words = {"encoding": "windows-1252", "unmappable": "hexadecimal", "on_fault": told.append, "keep_faults": 1}
+        with jillapun.open(self.path, "w", **words) as file:
+            file.write("é日本")
+            self.assertEqual((file.lost, file.kept_faults, told), (2, [(1, "日")], [(1, "日"), (2, "本")]))
+            self.assertEqual(file.faithful, None)
+        self.assertEqual(file.faithful, False)
+        self.assertEqual(Path(self.path).read_bytes(), b"\xe9&#x65E5;&#x672C;")
         encoder = jillapun.Encoder("iso-2022-jp", unmappable="stop")
         with self.assertRaises(jillapun.Stopped) as stop:
             encoder.encode("日💩")
@@ -87,34 +90,153 @@ class Files(unittest.TestCase):
 
     def test_convert_file(self) -> None:
         Path(self.path).write_bytes(TEXT.encode("cp932") + b"\xff")
-        done = jillapun.convert_file(self.path, self.path, "shift_jis", "utf-8")
+        done = jillapun.convert_file(self.path, self.path, "shift_jis", "utf-8", lossy=True, keep_faults=9)
         self.assertEqual(Path(self.path).read_text(encoding="utf-8"), TEXT + "\ufffd")
         size = len(TEXT.encode("cp932"))
-        self.assertEqual(done, (size + 1, [(size, 1)], False))
+        self.assertEqual(done, (size + 1, 1, 0, False, [(size, 1)]))
 
     def test_convert_file_by_chunks(self) -> None:
         """A file of some chunks, with more faults in each than a call has records for."""
-        data, told = "é日".encode() * 70000, []
+        data, told, faults = "é日".encode() * 70000, [], []
         Path(self.path).write_bytes(data)
-        done = jillapun.convert_file(self.path, self.path, "utf-8", "windows-1252", progress=told.append)
+        words = {"progress": told.append, "on_fault": faults.append, "keep_faults": 20000, "lossy": True}
+        done = jillapun.convert_file(self.path, self.path, "utf-8", "windows-1252", **words)
         wanted = jillapun.convert(data, "utf-8", "windows-1252")
         self.assertEqual(Path(self.path).read_bytes(), wanted.output)
-        self.assertEqual(done, (len(data), wanted.faults, False))
+        self.assertEqual(faults, wanted.faults)
+        self.assertEqual(done, (len(data), 0, 70000, False, wanted.faults[:20000]))
         self.assertEqual((told[0], told[-1], len(told)), (1 << 16, len(data), 7))
 
     def test_limit_of_file(self) -> None:
         Path(self.path).write_bytes(b"abcd")
-        self.assertEqual(jillapun.convert_file(self.path, self.path, "utf-8", "utf-8", limit=4), (4, [], True))
+        self.assertEqual(jillapun.convert_file(self.path, self.path, "utf-8", "utf-8", limit=4), (4, 0, 0, True, []))
         with self.assertRaises(jillapun.TooLong):
             jillapun.convert_file(self.path, self.path, "utf-8", "utf-8", limit=3)
         self.assertEqual(os.listdir(self.folder.name), ["a.txt"])
 
-    def test_failed_file_is_left(self) -> None:
-        Path(self.path).write_bytes("日".encode())
+    def test_stop_in_a_file(self) -> None:
+        """What stands before the character is written, and the file is closed without a word more."""
         with self.assertRaises(jillapun.Stopped):
-            jillapun.convert_file(self.path, self.path, "utf-8", "windows-1252", unmappable="stop")
-        self.assertEqual(Path(self.path).read_bytes(), "日".encode())
-        self.assertEqual(os.listdir(self.folder.name), ["a.txt"])
+            with jillapun.open(self.path, "w", encoding="iso-2022-jp", unmappable="stop") as file:
+                file.write("日")
+                file.write("本💩日")
+        self.assertTrue(file.closed)
+        self.assertEqual(Path(self.path).read_bytes(), b"\x1b$BF|K\\\x1b(B")
+        self.assertRaises(ValueError, file.write, "日")
+
+    def test_unknown_words_empty_no_file(self) -> None:
+        Path(self.path).write_bytes(b"abc")
+        self.assertRaises(LookupError, jillapun.open, self.path, "w", encoding="none")
+        self.assertRaises(KeyError, jillapun.open, self.path, "w", encoding="utf-8", unmappable="none")
+        none = jillapun.Indexes(texts={})
+        self.assertRaises(jillapun.IndexesMissing, jillapun.open, self.path, "w", encoding="big5", indexes=none)
+        self.assertRaises(ValueError, jillapun.open, self.path, "wb", encoding="utf-8")
+        self.assertEqual(Path(self.path).read_bytes(), b"abc")
+
+    def test_files_that_take_or_give_a_part(self) -> None:
+        """A raw file takes less than it is handed; one that does not wait has nothing yet, which is not its end."""
+
+        class Raw(io.RawIOBase):
+            def __init__(self) -> None:
+                self.data = b""
+
+            def writable(self) -> bool:
+                return True
+
+            def write(self, data: bytes) -> int:
+                self.data += bytes(data[:7])
+                return min(7, len(data))
+
+        raw = Raw()
+        writer = jillapun.Writer(raw, "utf-8")
+        writer.write(TEXT)
+        writer.flush()
+        self.assertEqual(raw.data, TEXT.encode())
+        reading, writing = os.pipe()
+        os.set_blocking(reading, False)
+        with open(reading, "rb", buffering=0) as file, open(writing, "wb", buffering=0) as end:
+            end.write(b"abc")
+            reader = jillapun.Reader(file, "utf-8")
+            self.assertEqual(reader.read(3), "abc")
+            self.assertRaises(BlockingIOError, reader.read)
+            end.write(b"def\n")
+            self.assertEqual(reader.readline(), "def\n")
+
+    def test_long_lines(self) -> None:
+        """Lines and parts of them over many chunks."""
+        lines = ["x" * 200000 + "\n", "\n", "é" * 100000]
+        Path(self.path).write_text("".join(lines), encoding="utf-8", newline="")
+        with jillapun.open(self.path, encoding="utf-8") as file:
+            self.assertEqual(file.readlines(), lines)
+        with jillapun.open(self.path, encoding="utf-8") as file:
+            parts = [file.readline(150000), file.readline(0), file.readline(), file.read(0), file.read(2), file.read()]
+        self.assertEqual(parts, [lines[0][:150000], "", lines[0][150000:], "", "\né", lines[2][1:]])
+
+
+class Streams(unittest.TestCase):
+    def test_faults_as_they_come(self) -> None:
+        """Each is handed on once, by the call that reads it."""
+        told = []
+        decoder = jillapun.Decoder("shift_jis", on_fault=told.append, keep_faults=2)
+        counts = []
+        for data in (b"a\xff", b"\x83", b"\xff\xffa"):
+            decoder.decode(data)
+            counts.append((decoder.bad, len(told)))
+        self.assertEqual(counts, [(1, 1), (1, 1), (3, 3)])
+        self.assertEqual((told, decoder.kept_faults), ([(1, 1), (2, 2), (4, 1)], [(1, 1), (2, 2)]))
+
+    def test_a_callback_that_raises(self) -> None:
+        """The stream has ended: it does not go on with a part missing."""
+
+        def refuse(fault: jillapun.Bad) -> None:
+            raise UnicodeError("%s" % (fault,))
+
+        decoder = jillapun.Decoder("utf-8", on_fault=refuse)
+        self.assertEqual(decoder.decode(b"abc"), "abc")
+        self.assertRaisesRegex(UnicodeError, "bad 4 1", decoder.decode, b"d\xffe")
+        self.assertRaisesRegex(ValueError, "ended", decoder.decode, b"f")
+        with tempfile.TemporaryDirectory() as folder:
+            path = os.path.join(folder, "a")
+            Path(path).write_bytes(b"d\xffe" * 40000)
+            with jillapun.open(path, encoding="utf-8", on_fault=refuse) as file:
+                self.assertRaises(UnicodeError, file.read, 1)
+                self.assertRaisesRegex(ValueError, "ended", file.read, 1)
+
+    def test_a_callback_that_calls(self) -> None:
+        """Other streams go on, and this one says that it cannot."""
+        other, told = jillapun.Decoder("utf-8"), []
+
+        def call(fault: jillapun.Bad) -> None:
+            told.append(other.decode(b"\xff\xe3\x81"))
+            told.append(jillapun.decode(b"\xff", "utf-8").text)
+            self.assertRaisesRegex(ValueError, "ended", decoder.decode, b"x")
+
+        decoder = jillapun.Decoder("utf-8", on_fault=call)
+        self.assertEqual(decoder.decode(b"a\xffb\xffc", last=True), "a\ufffdb\ufffdc")
+        self.assertEqual(told, ["\ufffd", "\ufffd", "\ufffd\ufffd", "\ufffd"])
+
+    def test_text_that_is_none(self) -> None:
+        """A lone surrogate is refused before anything is taken."""
+        encoder = jillapun.Encoder("utf-8")
+        self.assertRaises(UnicodeEncodeError, encoder.encode, "a\ud800")
+        self.assertEqual(encoder.encode("b", last=True), b"b")
+        self.assertRaisesRegex(ValueError, "ended", encoder.encode, "c")
+
+    def test_verdict(self) -> None:
+        """A character that does not read back is lost without a fault."""
+        for text, verdict in (("a", True), ("¥", False)):
+            encoder = jillapun.Encoder("shift_jis")
+            encoder.encode(text)
+            self.assertEqual(encoder.faithful, None)
+            encoder.encode("", last=True)
+            self.assertEqual((encoder.faithful, encoder.lost), (verdict, 0))
+
+    def test_records(self) -> None:
+        """The form by which records are read is that of the structure."""
+        library = jillapun._library
+        self.assertEqual(library.LOSS.size, ctypes.sizeof(library.Loss))
+        loss = library.Loss(1 << 40, 0x10FFFF, library.LOST)
+        self.assertEqual(library.LOSS.unpack(bytes(loss)), (1 << 40, 0x10FFFF, library.LOST))
 
 
 class Threads(unittest.TestCase):
@@ -143,48 +265,6 @@ class Documents(unittest.TestCase):
         ran.append(doctest.testfile(os.path.join(cases.TOP, "docs/PYTHON.md"), module_relative=False, encoding="utf-8"))
         self.assertEqual([result.failed for result in ran], [0, 0, 0])
         self.assertTrue(all(result.attempted >= 3 for result in ran))
-
-
-class Program(unittest.TestCase):
-    def test_files(self) -> None:
-        with tempfile.TemporaryDirectory() as folder:
-            good, bad, into = (os.path.join(folder, name) for name in ("good", "bad", "into"))
-            os.mkdir(into)
-            Path(good).write_bytes("日".encode("cp932"))
-            Path(bad).write_bytes(b"a\xffb")
-            out = io.StringIO()
-            words = ["--from", "sjis", "--to", "utf-8", "--into", into, good, bad]
-            with contextlib.redirect_stdout(out):
-                self.assertEqual(main(words), 1)
-            self.assertEqual(out.getvalue(), "%s: bad 1 1\n" % bad)
-            self.assertEqual(Path(into, "good").read_bytes(), "日".encode())
-            self.assertEqual(Path(into, "bad").read_bytes(), "a\ufffdb".encode())
-            with contextlib.redirect_stderr(io.StringIO()):
-                self.assertEqual(main(["--from", "none", "--to", "utf-8", good]), 2)
-                self.assertEqual(main(["--from", "utf-8", "--to", "utf-8", os.path.join(folder, "none")]), 4)
-                self.assertEqual(main(["--from", "sjis", "--to", "utf-8", "--indexes", folder, good]), 3)
-
-    def test_examples(self) -> None:
-        examples = os.path.join(cases.TOP, "docs/examples/python")
-        environment = {**os.environ, "PYTHONPATH": os.path.join(cases.TOP, "python")}
-        with tempfile.TemporaryDirectory() as folder:
-            given, into = os.path.join(folder, "given"), os.path.join(folder, "into")
-            os.mkdir(given)
-            for number in range(4):
-                Path(given, str(number)).write_bytes("日".encode("cp932") + b"\xff" * (number == 3))
-
-            def ran(*words: str) -> str:
-                command = [sys.executable, *words]
-                return subprocess.run(command, env=environment, capture_output=True, text=True, check=False).stdout
-
-            said = ran(os.path.join(examples, "convert_folder.py"), "sjis", "utf-8", given, into)
-            self.assertEqual(
-                said.splitlines(), ["%d: nothing was lost" % n for n in range(3)] + ["3: something was lost", "  bad 2 1"]
-            )
-            made = os.path.join(folder, "made")
-            said = ran(os.path.join(examples, "verdict.py"), "sjis", "utf-8", os.path.join(given, "3"), made)
-            self.assertEqual(said, "something was lost: bad 2 1\n")
-            self.assertEqual(Path(made).read_bytes(), "日\ufffd".encode())
 
 
 if __name__ == "__main__":

@@ -42,9 +42,10 @@ class Streams(unittest.TestCase):
                 done = jillapun.decode(case.data, case.encoding, mark=case.mark, indexes=indexes)
                 self.assertEqual((done.text, done.faults), (case.text, faults))
                 for cut in range(len(case.data) + 1):
-                    decoder = jillapun.Decoder(case.encoding, mark=case.mark, indexes=indexes)
+                    told = []
+                    decoder = jillapun.Decoder(case.encoding, mark=case.mark, indexes=indexes, on_fault=told.append)
                     text = decoder.decode(case.data[:cut]) + decoder.decode(case.data[cut:], last=True)
-                    self.assertEqual((text, decoder.faults), (case.text, faults), "cut at %d" % cut)
+                    self.assertEqual((text, told, decoder.bad), (case.text, faults, len(faults)), "cut at %d" % cut)
         self.assertGreater(count, 90)
 
     def test_texts(self) -> None:
@@ -60,9 +61,11 @@ class Streams(unittest.TestCase):
                 done = jillapun.encode(case.text, case.encoding, indexes=indexes)
                 self.assertEqual((done.data, done.faults), (case.data, faults))
                 for cut in range(len(case.text) + 1):
-                    encoder = jillapun.Encoder(case.encoding, indexes=indexes)
+                    told = []
+                    encoder = jillapun.Encoder(case.encoding, indexes=indexes, on_fault=told.append)
                     data = encoder.encode(case.text[:cut]) + encoder.encode(case.text[cut:], last=True)
-                    self.assertEqual((data, encoder.faults), (case.data, faults), "cut at %d" % cut)
+                    self.assertEqual((data, told, encoder.lost), (case.data, faults, len(faults)), "cut at %d" % cut)
+                    self.assertEqual(encoder.faithful, done.faithful)
         self.assertGreater(count, 40)
 
     def test_labels(self) -> None:
@@ -120,16 +123,19 @@ class Conversions(unittest.TestCase):
         given, made = os.path.join(folder, "given"), os.path.join(folder, "made")
         with open(given, "wb") as file:
             file.write(case.data)
-        words = {"mark": mark, "unmappable": case.policy, "indexes": indexes}
+        told = []
+        words = {"mark": mark, "unmappable": case.policy, "indexes": indexes, "on_fault": told.append}
         try:
             done = jillapun.convert_file(given, made, case.source, case.target, **words)
             verdict = "faithful" if done.faithful else "lossy"
         except jillapun.Stopped as stop:
-            done, verdict = stop, "stopped %d %d" % (stop.lost.index, ord(stop.lost.character))
+            verdict = "stopped %d %d" % (stop.lost.index, ord(stop.lost.character))
         else:
             with open(made, "rb") as file:
                 self.assertEqual(file.read(), case.output)
-        self.assertEqual((list(map(str, done.faults)), verdict), (case.log, case.verdict))
+            counts = [sum(isinstance(fault, kind) for fault in told) for kind in (Bad, Lost)]
+            self.assertEqual([done.read, done.bad, done.lost], [len(case.data), *counts])
+        self.assertEqual((list(map(str, told)), verdict), (case.log, case.verdict))
 
 
 if __name__ == "__main__":

@@ -2,7 +2,7 @@
 
     python3 convert_folder.py shift_jis utf-8 FOLDER INTO
 
-The threads work at once: a call of the library lets Python's lock go.
+The threads work at once: a call of the library lets Python's lock go. Of each file the first ten losses are shown.
 """
 
 import os
@@ -19,13 +19,13 @@ def main() -> int:
     os.makedirs(into, exist_ok=True)
 
     def converted(path: Path) -> jillapun.ConvertedFile:
-        return jillapun.convert_file(path, Path(into) / path.name, source, target)
+        return jillapun.convert_file(path, Path(into) / path.name, source, target, keep_faults=10)
 
     with ThreadPoolExecutor(os.cpu_count()) as pool:
         results = list(pool.map(converted, paths))
     for path, result in zip(paths, results):
-        print("%s: %s" % (path.name, "nothing was lost" if result.faithful else "something was lost"))
-        for fault in result.faults:
+        print("%s: %s" % (path.name, result.summary))
+        for fault in result.kept_faults:
             print("  %s" % (fault,))
     return 0 if all(result.faithful for result in results) else 1
 

@@ -1,0 +1,427 @@
+"""Files that are converted into others or in their own place: after whatever happens no original is lost unsaid."""
+
+import contextlib
+import errno
+import os
+import stat
+import subprocess
+import sys
+import tempfile
+import unittest
+from pathlib import Path
+from typing import Iterator
+from unittest import mock
+
+import cases
+import jillapun
+
+# Bytes of UTF-8, and the same text in windows-1252; and bytes that are no UTF-8, and what they become there.
+GOOD, GOOD_MADE = "déjà vu\n".encode(), "déjà vu\n".encode("cp1252")
+BAD, BAD_MADE = b"caf\xe9\n", b"caf&#65533;\n"
+
+# A user whom permissions bind.
+NOBODY = 65534
+
+
+@contextlib.contextmanager
+def somebody() -> Iterator[None]:
+    """Not as root."""
+    if os.geteuid():
+        yield
+        return
+    os.seteuid(NOBODY)
+    try:
+        yield
+    finally:
+        os.seteuid(0)
+
+
+class Folder(unittest.TestCase):
+    """Tests in a folder of their own."""
+
+    def setUp(self) -> None:
+        folder = tempfile.TemporaryDirectory()
+        self.addCleanup(folder.cleanup)
+        self.folder = os.path.realpath(folder.name)
+        os.chmod(self.folder, 0o777)
+        self.path = self.at("a")
+
+    def at(self, name: str) -> str:
+        return os.path.join(self.folder, name)
+
+    def put(self, name: str, data: bytes) -> str:
+        Path(self.at(name)).write_bytes(data)
+        return self.at(name)
+
+    def holds(self, **files: bytes) -> None:
+        """These files are there, with what they hold, and no others."""
+        found = {name: Path(self.at(name)).read_bytes() for name in os.listdir(self.folder)}
+        self.assertEqual(found, files)
+
+    def convert(self, *paths: str, **options: object) -> jillapun.ConvertedFile:
+        """From UTF-8 to windows-1252, in its own place if there is one path."""
+        return jillapun.convert_file(paths[0], paths[-1], "utf-8", "windows-1252", **options)
+
+
+class InPlace(Folder):
+    def test_nothing_is_lost(self) -> None:
+        self.put("a", GOOD)
+        self.assertEqual(self.convert(self.path), (len(GOOD), 0, 0, True, []))
+        self.holds(a=GOOD_MADE)
+
+    def test_something_would_be_lost(self) -> None:
+        """The file stays, and what is lost was told."""
+        self.put("a", BAD + GOOD)
+        told = []
+        with self.assertRaisesRegex(jillapun.NotReplaced, "malformed sequences: 1, characters without bytes: 1") as it:
+            self.convert(self.path, on_fault=told.append)
+        self.assertEqual(it.exception.done, (len(BAD + GOOD), 1, 1, False, []))
+        self.assertEqual(told, [jillapun.Bad(3, 1), jillapun.Lost(3, "\ufffd")])
+        self.holds(a=BAD + GOOD)
+
+    def test_characters_that_do_not_read_back(self) -> None:
+        """No loss is told of them, and still the file stays."""
+        self.put("a", "1¥".encode())
+        with self.assertRaisesRegex(jillapun.NotReplaced, "some characters do not read back"):
+            jillapun.convert_file(self.path, self.path, "utf-8", "shift_jis")
+        self.holds(a="1¥".encode())
+        self.assertEqual(
+            jillapun.convert_file(self.path, self.path, "utf-8", "shift_jis", lossy=True)[1:4], (0, 0, False)
+        )
+        self.holds(a=b"1\\")
+
+    def test_lossy(self) -> None:
+        self.put("a", BAD)
+        self.assertEqual(self.convert(self.path, lossy=True, keep_faults=1), (len(BAD), 1, 1, False, [(3, 1)]))
+        self.holds(a=BAD_MADE)
+
+    def test_backup(self) -> None:
+        """Nothing is lost where the original is kept."""
+        for data, made in ((GOOD, GOOD_MADE), (BAD, BAD_MADE)):
+            self.put("a", data)
+            os.utime(self.path, ns=(1, 2))
+            os.chmod(self.path, 0o640)
+            self.convert(self.path, backup="~")
+            self.holds(**{"a": made, "a~": data})
+            status = os.stat(self.at("a~"))
+            self.assertEqual((status.st_mtime_ns, stat.S_IMODE(status.st_mode)), (2, 0o640))
+            os.unlink(self.at("a~"))
+
+    def test_backup_that_is_there(self) -> None:
+        self.put("a", BAD), self.put("a.old", GOOD)
+        for lossy in (False, True):
+            with self.assertRaises(FileExistsError) as it:
+                self.convert(self.path, backup=".old", lossy=lossy)
+            self.assertEqual(it.exception.filename, self.at("a.old"))
+        self.holds(**{"a": BAD, "a.old": GOOD})
+
+    def test_backup_that_comes_to_be(self) -> None:
+        """Another program makes a file of its name in the meantime."""
+        self.put("a", BAD)
+        self.assertRaises(
+            FileExistsError, self.convert, self.path, backup="~", progress=lambda _: self.put("a~", b"theirs")
+        )
+        self.holds(**{"a": BAD, "a~": b"theirs"})
+
+    def test_backup_without_links(self) -> None:
+        """Where the file system has no hard links, the original is copied, with its times and permissions."""
+        self.put("a", BAD)
+        os.utime(self.path, ns=(1, 2))
+        os.chmod(self.path, 0o640)
+        with mock.patch("os.link", side_effect=OSError(errno.EPERM, "no links")):
+            self.convert(self.path, backup="~")
+            self.holds(**{"a": BAD_MADE, "a~": BAD})
+            status = os.stat(self.at("a~"))
+            self.assertEqual((status.st_mtime_ns, stat.S_IMODE(status.st_mode)), (2, 0o640))
+            self.put("a", GOOD)
+            self.assertRaises(FileExistsError, self.convert, self.path, backup="~")
+        self.holds(**{"a": GOOD, "a~": BAD})
+
+    def test_backup_of_what_is_not_replaced(self) -> None:
+        """Where the last move fails, the file is as it was, and there is no backup."""
+        self.put("a", BAD)
+        with mock.patch("os.replace", side_effect=OSError(errno.EBUSY, "busy")):
+            self.assertRaises(OSError, self.convert, self.path, backup="~")
+        self.holds(a=BAD)
+
+    def test_suffix(self) -> None:
+        self.put("a", BAD)
+        for suffix in ("", "/", "x/y", "/etc/passwd"):
+            self.assertRaises(ValueError, self.convert, self.path, backup=suffix)
+        self.assertRaises(OSError, self.convert, self.path, backup="x" * 300)
+        self.holds(a=BAD)
+
+    def test_other_paths_to_the_file(self) -> None:
+        """By a link, a hard link or another spelling it is the same file."""
+        self.put("a", BAD)
+        os.symlink("a", self.at("link"))
+        os.symlink("link", self.at("far"))
+        os.link(self.path, self.at("hard"))
+        names = ("a", "link", "far", "hard", "../%s/a" % os.path.basename(self.folder))
+        for one in names:
+            for other in names:
+                self.assertRaises(jillapun.NotReplaced, self.convert, self.at(one), self.at(other))
+        self.holds(a=BAD, link=BAD, far=BAD, hard=BAD)
+        self.assertTrue(os.path.samefile(self.path, self.at("hard")))
+
+    def test_a_link_is_followed(self) -> None:
+        """What it leads to is replaced beside itself, and other hard links keep what it was."""
+        os.mkdir(self.at("in"))
+        self.put("in/a", GOOD)
+        os.symlink("in/a", self.path)
+        os.link(self.at("in/a"), self.at("hard"))
+        self.convert(self.path, backup="~")
+        self.assertEqual(os.readlink(self.path), "in/a")
+        self.assertEqual(sorted(os.listdir(self.at("in"))), ["a", "a~"])
+        found = [Path(self.at(name)).read_bytes() for name in ("in/a", "in/a~", "hard")]
+        self.assertEqual(found, [GOOD_MADE, GOOD, GOOD])
+
+    def test_attributes(self) -> None:
+        """Permissions and extended attributes stay, and the time is that of the change."""
+        self.put("a", GOOD)
+        os.utime(self.path, ns=(1, 2))
+        for mode in (0o600, 0o644, 0o4751, 0o2664):
+            self.put("a", GOOD)
+            os.chmod(self.path, mode)
+            has_attributes = True
+            try:
+                os.setxattr(self.path, "user.test", b"kept")
+            except OSError:
+                has_attributes = False
+            before = os.stat(self.path)
+            os.utime(self.path, ns=(1, 2))
+            self.convert(self.path)
+            after = os.stat(self.path)
+            self.assertEqual(
+                (after.st_mode, after.st_uid, after.st_gid), (before.st_mode, before.st_uid, before.st_gid)
+            )
+            self.assertGreaterEqual(after.st_mtime_ns, before.st_mtime_ns)
+            if has_attributes:
+                self.assertEqual(os.getxattr(self.path, "user.test"), b"kept")
+
+    @unittest.skipIf(os.geteuid(), "only root may give files away")
+    def test_owner(self) -> None:
+        self.put("a", GOOD)
+        os.chown(self.path, NOBODY, 12345)
+        os.chmod(self.path, 0o4660)
+        self.convert(self.path)
+        status = os.stat(self.path)
+        self.assertEqual((status.st_uid, status.st_gid, stat.S_IMODE(status.st_mode)), (NOBODY, 12345, 0o4660))
+
+    @unittest.skipIf(os.geteuid(), "only root may give files away")
+    def test_owner_that_cannot_be_kept(self) -> None:
+        """The file of another: the group may then do what all may, and no program runs as the wrong user."""
+        for mode, kept in ((0o660, 0o600), (0o6664, 0o644), (0o642, 0o622)):
+            self.put("a", GOOD)
+            os.chown(self.path, 12345, 12345)
+            os.chmod(self.path, mode | 0o006)
+            with somebody():
+                self.convert(self.path)
+            status = os.stat(self.path)
+            self.assertEqual((status.st_uid, oct(stat.S_IMODE(status.st_mode))), (NOBODY, oct(kept | 0o066)))
+            os.unlink(self.path)
+
+    def test_no_one_else_reads_what_is_not_done(self) -> None:
+        self.put("a", GOOD)
+        modes = []
+
+        def look(_: int) -> None:
+            modes.extend(
+                stat.S_IMODE(os.stat(self.at(name)).st_mode) for name in os.listdir(self.folder) if name != "a"
+            )
+
+        self.convert(self.path, progress=look)
+        self.assertEqual(set(modes), {0o600})
+
+    def test_what_is_moved_is_on_the_disk(self) -> None:
+        """It is synced before it is moved, and the folder after."""
+        self.put("a", GOOD)
+        calls = mock.Mock()
+        with mock.patch("os.fsync", calls.fsync), mock.patch("os.replace", side_effect=os.replace) as replace:
+            calls.attach_mock(replace, "replace")
+            self.convert(self.path)
+        self.assertEqual([call[0] for call in calls.mock_calls], ["fsync", "replace", "fsync"])
+        self.holds(a=GOOD_MADE)
+
+    def test_no_file(self) -> None:
+        """A folder, a pipe, a device, a loop of links, and nothing."""
+        os.mkdir(self.at("in"))
+        os.mkfifo(self.at("pipe"))
+        os.symlink("loop", self.at("loop"))
+        os.symlink("none", self.at("dangling"))
+        for name in ("in", "in/", ".", "pipe", "loop", "dangling", "none", ""):
+            with self.subTest(name=name):
+                self.assertRaises(OSError, self.convert, self.at(name))
+        for device in ("/dev/null", "/dev/full", "/dev/tty"):
+            self.assertRaises(OSError, self.convert, device)
+        self.assertEqual(sorted(os.listdir(self.folder)), ["dangling", "in", "loop", "pipe"])
+
+    def test_a_protected_file(self) -> None:
+        self.put("a", GOOD)
+        os.chmod(self.path, 0o444)
+        with somebody():
+            self.assertRaises(PermissionError, self.convert, self.path, lossy=True)
+        self.holds(a=GOOD)
+
+    def test_a_protected_folder(self) -> None:
+        os.mkdir(self.at("in"))
+        self.put("in/a", GOOD)
+        os.chmod(self.at("in/a"), 0o666)
+        os.chmod(self.at("in"), 0o555)
+        with somebody(), self.assertRaises(PermissionError) as it:
+            self.convert(self.at("in/a"))
+        self.assertEqual(it.exception.filename, self.at("in"))
+        self.assertEqual(Path(self.at("in/a")).read_bytes(), GOOD)
+
+    def test_a_file_that_changes(self) -> None:
+        """What another program writes in the meantime is not thrown away."""
+        for moment in (1, 2):
+            self.put("a", GOOD)
+            calls = []
+
+            def add(read: int) -> None:
+                calls.append(read)
+                if len(calls) == moment:
+                    with open(self.path, "ab") as file:
+                        file.write(b"more")
+
+            self.assertRaisesRegex(jillapun.JillapunError, "changed", self.convert, self.path, progress=add)
+            self.holds(a=GOOD + b"more")
+        self.assertRaisesRegex(
+            jillapun.JillapunError,
+            "changed",
+            lambda: self.convert(self.path, progress=lambda _: os.replace(self.put("b", BAD), self.path)),
+        )
+        self.holds(a=BAD)
+
+    def test_a_file_that_vanishes(self) -> None:
+        self.put("a", GOOD)
+        with self.assertRaises(FileNotFoundError):
+            self.convert(self.path, progress=lambda _: Path(self.path).unlink(missing_ok=True))
+        self.holds()
+
+    def test_what_callbacks_raise(self) -> None:
+        """It ends the conversion, be it an interruption."""
+        self.put("a", BAD)
+        for fault in (KeyboardInterrupt, SystemExit, RuntimeError):
+            for name in ("progress", "on_fault"):
+                with self.assertRaises(fault):
+                    self.convert(self.path, lossy=True, **{name: mock.Mock(side_effect=fault)})
+        self.holds(a=BAD)
+
+    def test_stop(self) -> None:
+        self.put("a", "é日".encode())
+        for options in ({}, {"lossy": True}, {"backup": "~"}):
+            with self.assertRaises(jillapun.Stopped) as it:
+                self.convert(self.path, unmappable="stop", **options)
+            self.assertEqual((it.exception.lost, it.exception.faults), ((1, "日"), [(1, "日")]))
+        self.holds(a="é日".encode())
+
+    def test_a_disk_that_is_full(self) -> None:
+        """The output is longer than a file may be."""
+        self.put("a", "日".encode() * 30000)
+        code = (
+            "import jillapun, resource, sys; resource.setrlimit(resource.RLIMIT_FSIZE, (100000, 100000)); "
+            "jillapun.convert_file(sys.argv[1], sys.argv[1], 'utf-8', 'windows-1252', lossy=True)"
+        )
+        environment = {**os.environ, "PYTHONPATH": os.path.join(cases.TOP, "python")}
+        command = [sys.executable, "-c", code, self.path]
+        ran = subprocess.run(command, env=environment, capture_output=True, text=True, check=False)
+        self.assertIn("File too large", ran.stderr)
+        self.holds(a="日".encode() * 30000)
+
+    def test_sizes(self) -> None:
+        """Files that end beside, at and after the end of a chunk or of a step, also within a character."""
+        for size in (0, 1, 16383, 16384, 16385, 65535, 65536, 65537, 131072):
+            for head in ("", "é", "日"):
+                text = head + "é" * ((size - len(head.encode())) // 2)
+                data = text.encode() + b"x" * (size - len(text.encode()))
+                self.put("a", data)
+                done = self.convert(self.path, lossy=True)
+                self.assertEqual((done.read, done.lost), (len(data), text.count("日")))
+                made = data.decode().encode("cp1252", "xmlcharrefreplace")
+                self.holds(a=made)
+                self.put("a", data[:-1])
+                is_whole = data[:-1].decode("utf-8", "ignore").encode() == data[:-1] and "日" not in text
+                if is_whole:
+                    self.convert(self.path)
+                else:
+                    self.assertRaises(jillapun.NotReplaced, self.convert, self.path)
+                    self.holds(a=data[:-1])
+
+
+class Into(Folder):
+    """Another file as the output."""
+
+    def test_a_new_file(self) -> None:
+        """With losses too; with the permissions of the source."""
+        self.put("a", BAD)
+        os.chmod(self.path, 0o604)
+        self.assertFalse(self.convert(self.path, self.at("b"), backup="~").faithful)
+        self.holds(a=BAD, b=BAD_MADE)
+        self.assertEqual(stat.S_IMODE(os.stat(self.at("b")).st_mode), 0o604)
+
+    def test_a_file_that_is_there(self) -> None:
+        """It is replaced, keeps its permissions, and is kept if that is asked for."""
+        self.put("a", BAD), self.put("b", b"old")
+        os.chmod(self.at("b"), 0o640)
+        self.convert(self.path, self.at("b"))
+        self.holds(a=BAD, b=BAD_MADE)
+        self.put("b", b"old")
+        self.convert(self.path, self.at("b"), backup="~")
+        self.holds(**{"a": BAD, "b": BAD_MADE, "b~": b"old"})
+        self.assertEqual([stat.S_IMODE(os.stat(self.at(name)).st_mode) for name in ("b", "b~")], [0o640, 0o640])
+
+    def test_a_link_is_followed(self) -> None:
+        self.put("a", GOOD)
+        os.symlink("real", self.at("b"))
+        for _ in range(2):
+            self.convert(self.path, self.at("b"))
+            self.assertEqual(os.readlink(self.at("b")), "real")
+            self.holds(a=GOOD, b=GOOD_MADE, real=GOOD_MADE)
+
+    def test_no_file(self) -> None:
+        """A folder, a device, a pipe, a loop and a folder that is not there stay as they are."""
+        self.put("a", GOOD)
+        os.mkdir(self.at("in"))
+        os.mkfifo(self.at("pipe"))
+        os.symlink("loop", self.at("loop"))
+        for name in ("in", "in/", "pipe", "loop", "none/b", "a/b", "/dev/null", "/dev/full", "/dev/stdin"):
+            with self.subTest(name=name):
+                self.assertRaises(OSError, self.convert, self.path, self.at(name))
+        self.assertEqual(sorted(os.listdir(self.folder)), ["a", "in", "loop", "pipe"])
+        self.assertTrue(stat.S_ISCHR(os.stat("/dev/null").st_mode))
+
+    def test_a_pipe_as_the_source(self) -> None:
+        os.mkfifo(self.at("pipe"))
+        writer = subprocess.Popen(["sh", "-c", 'printf "caf\\303\\251" > "$0"', self.at("pipe")])
+        self.convert(self.at("pipe"), self.at("b"))
+        writer.wait()
+        self.assertEqual(Path(self.at("b")).read_bytes(), b"caf\xe9")
+
+    @unittest.skipUnless(os.path.isdir("/dev/shm"), "there is no other file system")
+    def test_another_file_system(self) -> None:
+        self.put("a", GOOD)
+        with tempfile.TemporaryDirectory(dir="/dev/shm") as folder:
+            there = os.path.join(folder, "a")
+            self.convert(self.path, there)
+            self.assertEqual(Path(there).read_bytes(), GOOD_MADE)
+            os.symlink(there, self.at("link"))
+            Path(there).write_bytes(GOOD)
+            self.convert(self.at("link"))
+            self.assertEqual(Path(there).read_bytes(), GOOD_MADE)
+            self.assertEqual(os.listdir(folder), ["a"])
+        self.assertEqual(sorted(os.listdir(self.folder)), ["a", "link"])
+
+    def test_unknown_words(self) -> None:
+        """Nothing is made, and nothing is emptied."""
+        self.put("a", GOOD), self.put("b", b"old")
+        with self.assertRaises(jillapun.UnknownLabel):
+            jillapun.convert_file(self.path, self.at("b"), "none", "utf-8")
+        self.assertRaises(KeyError, self.convert, self.path, self.at("b"), mark="none")
+        self.assertRaises(jillapun.TooLong, self.convert, self.path, self.at("b"), limit=3)
+        self.holds(a=GOOD, b=b"old")
+
+
+if __name__ == "__main__":
+    unittest.main()

@@ -1,0 +1,397 @@
+"""The program: what it does with files, what it says, and what it leaves when it is cut short."""
+
+import contextlib
+import io
+import os
+import resource
+import signal
+import subprocess
+import sys
+import tempfile
+import time
+import unittest
+from pathlib import Path
+from typing import Tuple
+from unittest import mock
+
+import cases
+import jillapun
+from jillapun import __main__ as program
+from jillapun._names import shown
+from test_files import BAD, BAD_MADE, GOOD, GOOD_MADE, Folder
+
+sys.path.insert(0, os.path.join(cases.TOP, "tools"))
+
+import places  # noqa: E402
+
+WORDS = ["--from", "utf-8", "--to", "windows-1252"]
+ENVIRONMENT = {**os.environ, "PYTHONPATH": os.path.join(cases.TOP, "python")}
+COMMAND = [sys.executable, "-m", "jillapun", *WORDS]
+
+# No wait for the program takes longer, in seconds.
+PATIENCE = 60
+
+
+class Programs(Folder):
+    def run_it(self, *words: str) -> Tuple[int, str, str]:
+        """Status, standard output and standard error."""
+        out, error = io.StringIO(), io.StringIO()
+        with contextlib.redirect_stdout(out), contextlib.redirect_stderr(error):
+            try:
+                status = program.main([*WORDS, *words])
+            except SystemExit as end:
+                status = end.code
+        return status, out.getvalue(), error.getvalue()
+
+    def refused(self, status: int, *words: str) -> str:
+        """What is said of files that are refused, with nothing written."""
+        before = self.all_files()
+        found, out, error = self.run_it(*words)
+        self.assertEqual((found, out, self.all_files()), (status, "", before))
+        return error
+
+    def all_files(self) -> dict:
+        """What is there, with the contents of files."""
+        paths = sorted(Path(self.folder).rglob("*"))
+        return {str(path): path.read_bytes() if path.is_file() else os.path.islink(path) for path in paths}
+
+    def folders(self, *names: str) -> None:
+        for name in names:
+            os.mkdir(self.at(name))
+
+
+class Outputs(Programs):
+    """Which files may be written."""
+
+    def test_two_inputs_for_one_output(self) -> None:
+        self.folders("a", "b", "o")
+        one, other, into = self.put("a/x.txt", GOOD), self.put("b/x.txt", GOOD), self.at("o")
+        for target in (into, into + "/", os.path.join(self.folder, "a/../o")):
+            error = self.refused(2, "--into", target, one, self.put("a/y.txt", GOOD), other)
+            self.assertIn("%s and %s would both become %s" % (one, other, os.path.join(target, "x.txt")), error)
+        for again in (one, self.at("a/../a/x.txt"), self.at("a//x.txt")):
+            self.refused(2, "--into", into, one, again)
+        os.symlink(one, self.at("b/link"))
+        self.assertEqual(self.run_it("--into", into, one, self.at("b/link"))[0], 0)
+        self.assertEqual(sorted(os.listdir(into)), ["link", "x.txt"])
+
+    def test_outputs_that_are_one_file(self) -> None:
+        """Links in the folder of the outputs, to a file that is there and to one that is not."""
+        self.folders("a", "o")
+        one, other = self.put("a/x", GOOD), self.put("a/y", GOOD)
+        os.symlink("x", self.at("o/y"))
+        self.refused(2, "--into", self.at("o"), one, other)
+        self.put("o/x", b"old")
+        self.refused(2, "--into", self.at("o"), one, other)
+
+    def test_one_file_twice(self) -> None:
+        """In its own place, by any path: it would be converted twice."""
+        self.put("a", GOOD)
+        os.symlink("a", self.at("link"))
+        os.link(self.path, self.at("hard"))
+        for name in ("a", "link", "hard", "./a"):
+            error = self.refused(2, self.path, self.at(name))
+            self.assertEqual(error, "%s and %s are one file\n" % (self.path, self.at(name)))
+
+    def test_an_output_that_is_an_input(self) -> None:
+        self.folders("a", "b")
+        one, other = self.put("a/x", GOOD), self.put("b/x", BAD)
+        os.symlink(one, self.at("b/link"))
+        for files in ((other, self.at("b/link")), (self.at("b/link"), other)):
+            error = self.refused(2, "--into", self.at("a"), *files)
+            said = "%s would replace %s, which is to be converted too\n"
+            self.assertEqual(error, said % (other, self.at("b/link")))
+
+    def test_the_folder_of_the_inputs(self) -> None:
+        """It is as without --into."""
+        self.put("a", BAD)
+        os.symlink(self.folder, self.folder + "-link")
+        self.addCleanup(os.unlink, self.folder + "-link")
+        for into in (self.folder, self.folder + "-link"):
+            self.assertEqual(self.run_it("--into", into, self.path)[0], 1)
+            self.holds(a=BAD)
+        self.assertEqual(self.run_it("--into", self.folder, "--backup", "~", self.path)[0], 1)
+        self.holds(**{"a": BAD_MADE, "a~": BAD})
+
+    def test_where_case_does_not_matter(self) -> None:
+        """Two names become one when the first is there. (The names are taken for one here, as some file systems do.)"""
+        self.folders("a", "b", "o")
+        one, other = self.put("a/x", GOOD), self.put("b/X", BAD)
+        identity = program.identity
+
+        def folded(path: str) -> object:
+            low = os.path.join(os.path.dirname(path), "x")
+            return identity(low if path.endswith("o/X") and os.path.exists(low) else path)
+
+        with mock.patch.object(program, "identity", folded):
+            status, _, error = self.run_it("--into", self.at("o"), one, other)
+        self.assertEqual(status, 4)
+        self.assertEqual(error, "%s: it would replace %s, which %s has become\n" % (other, self.at("o/X"), one))
+        self.assertEqual(os.listdir(self.at("o")), ["x"])
+        self.assertEqual(Path(self.at("o/x")).read_bytes(), GOOD_MADE)
+
+    def test_no_folder(self) -> None:
+        self.put("a", GOOD)
+        for into in ("none", "a", "a/b"):
+            self.assertEqual(
+                self.refused(4, "--into", self.at(into), self.path), "%s: no such folder\n" % self.at(into)
+            )
+
+    def test_empty_words(self) -> None:
+        """A variable of the shell that is not set: else the file would be replaced."""
+        self.put("a", GOOD)
+        self.assertIn("--into: no folder is named", self.refused(2, "--into", "", self.path))
+        for suffix in ("", "/", "a/b", "/etc/x"):
+            self.assertIn("is no suffix of a name", self.refused(2, "--backup", suffix, self.path))
+
+    def test_outputs_that_are_there(self) -> None:
+        """A file is replaced, and a folder or a device is not."""
+        self.folders("a", "o", "o/y")
+        one, other = self.put("a/x", BAD), self.put("a/y", GOOD)
+        self.put("o/x", b"old")
+        status, _, error = self.run_it("--into", self.at("o"), "--backup", ".old", one, other)
+        self.assertEqual((status, error), (4, "%s: %s: Is a directory\n" % (other, self.at("o/y"))))
+        self.assertEqual(Path(self.at("o/x")).read_bytes(), BAD_MADE)
+        self.assertEqual(Path(self.at("o/x.old")).read_bytes(), b"old")
+        os.symlink("/dev/null", self.at("o/z"))
+        self.assertEqual(self.run_it("--into", self.at("o"), self.put("a/z", GOOD))[0], 4)
+        self.assertFalse(os.path.isfile("/dev/null"))
+
+
+class InPlace(Programs):
+    def test_something_would_be_lost(self) -> None:
+        """Of two files one is replaced, and the message says what to do with the other."""
+        good, bad = self.put("good", GOOD), self.put("bad", BAD)
+        status, out, error = self.run_it(bad, good)
+        self.assertEqual((status, out), (1, "%s: bad 3 1\n%s: lost 3 65533\n" % (bad, bad)))
+        counts = "malformed sequences: 1, characters without bytes: 1"
+        remedy = "--lossy replaces it all the same, and --backup SUFFIX keeps the original"
+        self.assertEqual(error, "%s: left as it was (%s): %s\n" % (bad, counts, remedy))
+        self.holds(good=GOOD_MADE, bad=BAD)
+        self.assertEqual(self.run_it("--lossy", bad)[::2], (1, ""))
+        self.holds(good=GOOD_MADE, bad=BAD_MADE)
+
+    def test_backup(self) -> None:
+        self.put("a", BAD)
+        self.assertEqual(self.run_it("--backup", ".orig", self.path)[::2], (1, ""))
+        self.holds(**{"a": BAD_MADE, "a.orig": BAD})
+        status, _, error = self.run_it("--backup", ".orig", "--lossy", self.path)
+        self.assertEqual((status, error), (4, "%s: %s.orig: File exists\n" % (self.path, self.path)))
+        self.holds(**{"a": BAD_MADE, "a.orig": BAD})
+
+    def test_characters_that_do_not_read_back(self) -> None:
+        self.put("a", "¥".encode())
+        words = ["--to", "shift_jis", self.path]
+        status, out, error = self.run_it(*words)
+        self.assertEqual((status, out), (1, ""))
+        self.assertIn("left as it was (some characters do not read back)", error)
+        self.holds(a="¥".encode())
+        self.assertEqual(self.run_it("--lossy", *words), (1, "%s: some characters do not read back\n" % self.path, ""))
+        self.holds(a=b"\\")
+
+    def test_stop(self) -> None:
+        self.put("a", "日".encode())
+        for words in ([], ["--lossy"], ["--backup", "~"]):
+            status, out, error = self.run_it("--unmappable", "stop", *words, self.path)
+            self.assertEqual((status, out), (4, "%s: lost 0 26085\n" % self.path))
+            self.assertIn("no bytes for U+65E5", error)
+        self.holds(a="日".encode())
+
+    def test_no_file(self) -> None:
+        self.folders("in")
+        os.mkfifo(self.at("pipe"))
+        os.symlink("loop", self.at("loop"))
+        for name, said in (
+            ("in", "Is a directory"),
+            ("pipe", "Not a regular file"),
+            ("none", "No such file"),
+            ("loop", "Too"),
+        ):
+            self.assertIn("%s: %s" % (self.at(name), said), self.refused(4, self.at(name)))
+        self.assertIn("Not a regular file", self.refused(4, "/dev/null"))
+
+
+class Names(Programs):
+    def test_shown(self) -> None:
+        """Each character as `recode-places` shows it, by the plain program that the gate compares it with."""
+        for point in (*range(0xD800), *range(0xE000, 0x110000)):
+            if shown(chr(point)) != places.shown(point):
+                self.fail("U+%04X is shown as %r" % (point, shown(chr(point))))
+        self.assertEqual(shown(os.fsdecode(b"a\xff\xe6\x97")), "a<FF><E6><97>")
+        self.assertEqual(shown("\ud800"), "<U+D800>")
+
+    def test_names(self) -> None:
+        """Of losses, refusals and failures, also where a name is not UTF-8."""
+        names = {"a\x1b[2J\n\tb": "a<U+001B>[2J<U+000A> b", "\u202ec": "<U+202E>c", os.fsdecode(b"d\xff"): "d<FF>"}
+        for name, told in names.items():
+            path, told = self.put(name, BAD), self.at(told)
+            status, out, error = self.run_it(path)
+            self.assertEqual((status, out), (1, "%s: bad 3 1\n%s: lost 3 65533\n" % (told, told)))
+            self.assertTrue(error.startswith("%s: left as it was" % told), error)
+            self.assertEqual(self.run_it(path + "0")[2], "%s0: No such file or directory\n" % told)
+            self.assertEqual(self.refused(2, path, path), "%s and %s are one file\n" % (told, told))
+            for words in (["--into", path, path], ["--from", name, path], ["--mark", name, path], ["--\x1b", path]):
+                error = self.run_it(*words)[2]
+                self.assertFalse(set("\x1b\t\u202e\udcff") & set(error), error)
+
+    def test_names_of_options(self) -> None:
+        """Files whose names begin as options do."""
+        self.addCleanup(os.chdir, os.getcwd())
+        os.chdir(self.folder)
+        self.put("-x", GOOD), self.put("--lossy", BAD), self.put("-", GOOD)
+        self.assertEqual(self.run_it("--", "-x", "--lossy", "-")[0], 1)
+        self.holds(**{"-x": GOOD_MADE, "--lossy": BAD, "-": GOOD_MADE})
+
+    def test_a_terminal(self) -> None:
+        """The line of progress shows names as well."""
+        with mock.patch.object(sys, "stderr", io.StringIO()) as error, mock.patch.object(error, "isatty", lambda: True):
+            terminal = program.Terminal(1)
+            terminal.show("\x1b]0;x\x07", 0.5)
+            terminal.clear()
+        self.assertEqual(error.getvalue(), "\r\x1b[K1 of 1: <U+001B>]0;x<U+0007> (50%)\r\x1b[K")
+
+
+class Streams(Programs):
+    """Standard output and standard error, as the system hands them to a process."""
+
+    def test_standard_output_fails(self) -> None:
+        """What cannot be told is not lost."""
+        self.put("a", BAD), self.put("b", GOOD)
+        command = [*COMMAND, "--lossy", self.path, self.at("b")]
+        with open("/dev/full", "wb") as full:
+            ran = subprocess.run(command, env=ENVIRONMENT, stdout=full, stderr=subprocess.PIPE, check=False)
+        self.assertEqual((ran.returncode, ran.stderr), (4, b"standard output: No space left on device\n"))
+        self.holds(a=BAD, b=GOOD)
+        reading, writing = os.pipe()
+        os.close(reading)
+        with open(writing, "wb") as closed:
+            ran = subprocess.run(command, env=ENVIRONMENT, stdout=closed, stderr=subprocess.PIPE, check=False)
+        self.assertEqual((ran.returncode, ran.stderr), (4, b"standard output: Broken pipe\n"))
+        self.holds(a=BAD, b=GOOD)
+        ran = subprocess.run(
+            ["sh", "-c", 'exec "$@" >&-', "sh", *command], env=ENVIRONMENT, stderr=subprocess.PIPE, check=False
+        )
+        self.assertEqual(ran.returncode, 4)
+        self.assertIn(b"standard output is closed", ran.stderr)
+        self.holds(a=BAD, b=GOOD)
+
+    def test_names_beyond_the_locale(self) -> None:
+        """A terminal that has not all characters."""
+        path = self.put("日", BAD)
+        environment = {**ENVIRONMENT, "PYTHONIOENCODING": "ascii"}
+        ran = subprocess.run([*COMMAND, "--lossy", path], env=environment, capture_output=True, check=False)
+        self.assertEqual((ran.returncode, ran.stderr), (1, b""))
+        self.assertTrue(ran.stdout.endswith(b"/\\u65e5: lost 3 65533\n"), ran.stdout)
+
+    def test_standard_input(self) -> None:
+        """A pipe is read by its name; it has no place of its own."""
+        command = [*COMMAND, "--into", self.folder, "/dev/stdin"]
+        ran = subprocess.run(command, env=ENVIRONMENT, input=GOOD, capture_output=True, check=False)
+        self.assertEqual((ran.returncode, ran.stderr), (0, b""))
+        self.holds(stdin=GOOD_MADE)
+        command = [*COMMAND, "/dev/stdin"]
+        ran = subprocess.run(command, env=ENVIRONMENT, input=GOOD, capture_output=True, check=False)
+        self.assertEqual((ran.returncode, ran.stderr), (4, b"/dev/stdin: Not a regular file\n"))
+
+    def in_the_middle(self, number: int) -> Tuple[int, bytes]:
+        """The status of the program that a signal meets while it waits to tell more, and what it leaves to standard
+        error."""
+        pipes = {"stdout": subprocess.PIPE, "stderr": subprocess.PIPE}
+        with subprocess.Popen([*COMMAND, "--lossy", self.path], env=ENVIRONMENT, **pipes) as process:
+            end = time.monotonic() + PATIENCE
+            while len(os.listdir(self.folder)) < 2 and time.monotonic() < end:
+                time.sleep(0.01)
+            time.sleep(0.2)
+            self.assertEqual(Path(self.path).read_bytes(), b"\xff" * 100000)
+            process.send_signal(number)
+            error = process.communicate(timeout=PATIENCE)[1]
+        return process.returncode, error
+
+    def test_signals(self) -> None:
+        """The file is as it was, and nothing stands beside it."""
+        self.put("a", b"\xff" * 100000)
+        for number in (signal.SIGINT, signal.SIGTERM, signal.SIGHUP):
+            said = "interrupted at %s: those after it are as they were\n" % self.path
+            self.assertEqual(self.in_the_middle(number), (128 + number, said.encode()))
+            self.holds(a=b"\xff" * 100000)
+        self.assertEqual(self.in_the_middle(signal.SIGKILL), (-signal.SIGKILL, b""))
+        self.assertEqual(Path(self.path).read_bytes(), b"\xff" * 100000)
+
+    def test_a_disk_that_is_full(self) -> None:
+        self.put("a", "日".encode() * 30000)
+
+        def limit() -> None:
+            resource.setrlimit(resource.RLIMIT_FSIZE, (100000, 100000))
+
+        command = [*COMMAND, "--lossy", self.path]
+        ran = subprocess.run(command, env=ENVIRONMENT, preexec_fn=limit, capture_output=True, check=False)
+        self.assertEqual((ran.returncode, ran.stderr), (4, b"%s: File too large\n" % os.fsencode(self.path)))
+        self.holds(a="日".encode() * 30000)
+
+
+class Memory(Folder):
+    """Whatever is lost takes no memory that stays."""
+
+    PARTS = {
+        "the program": "program.main(['--from', 'utf-8', '--to', 'utf-8', '--lossy', path])",
+        "a file": "jillapun.convert_file(path, path + '.made', 'shift_jis', 'utf-8', on_fault=id, keep_faults=9)",
+        "a reader": "file = jillapun.open(path, encoding='utf-8', on_fault=id)\nwhile file.read(1 << 16): pass",
+        "a decoder": "code = jillapun.Decoder('utf-8')\nfor _ in range(size >> 10): code.decode(b'\\xff' * 1024)",
+        "an encoder": "code = jillapun.Encoder('big5')\nfor _ in range(size >> 10): code.encode('é' * 1024)",
+    }
+
+    def test_memory(self) -> None:
+        """The greatest use after a million losses is that after some thousands."""
+        for name, code in self.PARTS.items():
+            lines = ["import jillapun, resource, sys", "from jillapun import __main__ as program", "path = sys.argv[1]"]
+            for size in (1 << 16, 1 << 20):
+                lines += ["size = %d" % size, "with open(path, 'wb') as file: file.write(b'\\xff' * size)", code]
+                lines.append("print(resource.getrusage(resource.RUSAGE_SELF).ru_maxrss, file=sys.stderr)")
+            command = [sys.executable, "-c", "\n".join(lines), self.path]
+            pipes = {"stdout": subprocess.DEVNULL, "stderr": subprocess.PIPE}
+            ran = subprocess.run(command, env=ENVIRONMENT, text=True, check=True, **pipes)
+            before, after = map(int, ran.stderr.split())
+            # In KiB: the file itself is 1 MiB, and objects of a million losses are 100.
+            self.assertLess(after - before, 8192, name)
+
+
+class Documents(unittest.TestCase):
+    def test_examples(self) -> None:
+        examples = os.path.join(cases.TOP, "docs/examples/python")
+        environment = {**os.environ, "PYTHONPATH": os.path.join(cases.TOP, "python")}
+        with tempfile.TemporaryDirectory() as folder:
+            given, into = os.path.join(folder, "given"), os.path.join(folder, "into")
+            os.mkdir(given)
+            for number in range(4):
+                Path(given, str(number)).write_bytes("日".encode("cp932") + b"\xff" * (number == 3))
+
+            def ran(*words: str) -> str:
+                command = [sys.executable, *words]
+                return subprocess.run(command, env=environment, capture_output=True, text=True, check=False).stdout
+
+            counts = "malformed sequences: 1, characters without bytes: 0"
+            said = ran(os.path.join(examples, "convert_folder.py"), "sjis", "utf-8", given, into)
+            self.assertEqual(
+                said.splitlines(), ["%d: nothing was lost" % n for n in range(3)] + ["3: " + counts, "  bad 2 1"]
+            )
+            made = os.path.join(folder, "made")
+            said = ran(os.path.join(examples, "verdict.py"), "sjis", "utf-8", os.path.join(given, "3"), made)
+            self.assertEqual(said, counts + "\n")
+            self.assertEqual(Path(made).read_bytes(), "日\ufffd".encode())
+
+
+class Files(Programs):
+    def test_files(self) -> None:
+        self.folders("into")
+        good, bad, into = self.put("good", "日".encode("cp932")), self.put("bad", b"a\xffb"), self.at("into")
+        words = ["--from", "sjis", "--to", "utf-8"]
+        self.assertEqual(self.run_it(*words, "--into", into, good, bad), (1, "%s: bad 1 1\n" % bad, ""))
+        self.assertEqual(Path(into, "good").read_bytes(), "日".encode())
+        self.assertEqual(Path(into, "bad").read_bytes(), "a\ufffdb".encode())
+        self.assertEqual(self.run_it("--from", "none", good)[0], 2)
+        self.assertEqual(self.run_it(self.at("none"))[0], 4)
+        self.assertEqual(self.run_it(*words, "--indexes", self.folder, good)[0], 3)
+
+
+if __name__ == "__main__":
+    unittest.main()
