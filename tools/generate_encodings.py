@@ -405,7 +405,17 @@ def listing():
     ]
 
 
-# Of each file what is written: the whole, or the parts between lines that say so, in their order.
+def labels_for_python():
+    return [
+        '"""The labels of the encodings, each with the name of its encoding (the Encoding Standard, section 4.2)."""',
+        "",
+        "LABELS = {",
+        *('    "%s": "%s",' % (label, row["name"]) for row in STANDARD for label in row["labels"].split(" ")),
+        "}",
+    ]
+
+
+# Of each file what is written: the whole, or the parts between lines that say so, in their order. Paths begin in `crates`.
 WHOLE = {
     "encoding_labels/src/places.rt": places,
     "encoding_labels/src/table.rt": table,
@@ -415,6 +425,7 @@ WHOLE = {
     "jillapun_c/src/lists.rt": lists_for_c,
     "recode/src/listing.rt": listing,
     "test_recode_cases/data/nothing.txt": empty_conversions,
+    "../python/jillapun/_labels.py": labels_for_python,
 }
 PARTS = {
     "encoding_labels/specs/Labels.antt": [constants_of_places, places_rise],
@@ -438,7 +449,7 @@ LINES = {"test_recode_cases/stdout": ("nothing.txt: ", counted_conversions)}
 
 
 def comment(path):
-    return {".rt": "//", ".txt": "#"}.get(os.path.splitext(path)[1], "--")
+    return {".rt": "//", ".txt": "#", ".py": "#"}.get(os.path.splitext(path)[1], "--")
 
 
 def with_parts(path, text, parts):
@@ -500,7 +511,7 @@ def main(words):
         if text == read(path):
             continue
         if words == ["--check"]:
-            print("crates/%s is not what `make generate` writes" % path)
+            print("%s is not what `make generate` writes" % os.path.normpath("crates/" + path))
             status = 1
         else:
             with open(os.path.join(TOP, "crates", path), "w", encoding="utf-8") as file:

@@ -12,6 +12,7 @@ is done by a library that is proved, `libjillapun.so`; this package needs nothin
 - `decode`, `encode`, `convert`: whole texts and inputs in memory.
 - `convert_file`: a file into another.
 - `open`, `Reader`, `Writer`: files of text. `Decoder`, `Encoder`: streams, chunk by chunk.
+- `register`: codecs for Python's own `open`, `bytes.decode` and all else that is handed a name of an encoding.
 - `Indexes`: the indexes of encodings, from another folder than that of the installation. `name`, `output_name`: labels.
 
 A label that no encoding has raises `UnknownLabel`, which is a `LookupError`. Calls from several threads at once are
@@ -36,6 +37,14 @@ from ._results import (
 )
 from ._streams import Decoder, Encoder, Reader, Writer, open
 from ._texts import convert, decode, encode
+
+
+
+def register() -> None:
+    """Gives the encodings to Python as codecs, under names that begin with `web-`: `open(path, encoding="web-shift_jis")`.
+    See `jillapun.codecs`."""
+    from . import codecs  # noqa: F401
+
 
 __all__ = [
     "Bad",
@@ -63,4 +72,5 @@ __all__ = [
     "name",
     "open",
     "output_name",
+    "register",
 ]
