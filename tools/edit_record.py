@@ -102,6 +102,12 @@ def write_lines(crate, new):
         file.write(text)
 
 
+def case_of(crate, name):
+    """The case that refuted an edit when it was tried last, or none."""
+    line = lines_of(crate).get(name)
+    return line.details if line and line.kind == RUN else ""
+
+
 def of_today(crate):
     """Each edit of a crate with its line, or none if it is new."""
     lines = lines_of(crate)

@@ -88,6 +88,12 @@ class Run:
             raise Unreadable(errors[0])
 
 
+def has_case(run, case):
+    """Whether a case, by its name, may be one of a run."""
+    crate, _, place = case.partition(", ")
+    return crate == run[0] and (run[1] in (TESTS, (), None) or place.partition(":")[0] in run[1])
+
+
 class Runs:
     """The runs of copies of one commit; those of right bodies are made once."""
 
@@ -103,12 +109,11 @@ class Runs:
                 self.right[crate, files] = run.lines
             return self.right[crate, files]
 
-    def refuting(self, crates, edited):
-        """The case that refutes what an edit has made of a crate in this copy, or none."""
+    def refuting(self, crates, edited, last=""):
+        """The case that refutes what an edit has made of a crate in this copy, or none. First comes the program of the case
+        that refuted the edit last."""
         found = [run for run in RUNS if edited in below(run[0])]
-        if edited in FIRST:
-            found = [FIRST[edited]] + [run for run in found if run != FIRST[edited]]
-        for crate, files in found:
+        for crate, files in sorted(found, key=lambda run: (not has_case(run, last), run != FIRST.get(edited))):
             case = self.differing(crates, crate, files)
             if case:
                 return case

@@ -2,13 +2,14 @@
 """Tries edits, each a wrong body, which the prover has to refuse: those of `edits/` in each crate, which the merge gate
 leaves out, or with `--gate` those of `must-fail/`, which `rt ci` tries.
 
-    python3 tools/edits.py [--gate] [--anew] [--jobs N] [--copies N] [CRATE[/NAME]..]
+    python3 tools/edits.py [--gate] [--anew] [--jobs N] [CRATE[/NAME]..]
     python3 tools/edits.py --readable | --runs [--jobs N] [CRATE[/NAME]..]
 
 With a name, those of the crate whose names begin with it. An edit that was refused on the code as it is, by the record of
 tools/edit_record.py, is not tried again, unless `--anew` says so. What came of an edit is recorded as soon as it is known,
-so a run that was cut off goes on with the edits that are left; docs/STATUS.md is written from the record. `--jobs` crates are
-tried at a time, by default two. A crate with many edits is tried in as many copies as `--copies` says, by default one.
+so a run that was cut off goes on with the edits that are left; docs/STATUS.md is written from the record. `--jobs` checks or
+runs are made at a time, by default two, in at most as many copies of a crate. All crates take about 6 hours of processor
+time from nothing.
 
 In copies of the repository, with what checks have kept in `out/`, edits are made in rounds: of each function at most one
 edit in a round. First a pass over the sources finds edits that cannot be compiled. A check then says of each function
@@ -232,8 +233,8 @@ def said(folder, *words):
 class Crate:
     """A crate's copies, in which its edits are tried, and what came of each."""
 
-    def __init__(self, name, folders, runs, record):
-        self.name, self.folder, self.runs, self.record = name, folders[0], runs, record
+    def __init__(self, name, folders, slots, runs, record):
+        self.name, self.folder, self.slots, self.runs, self.record = name, folders[0], slots, runs, record
         self.told, self.right, self.open = [], {}, {}
         self.free, self.pool = queue.SimpleQueue(), concurrent.futures.ThreadPoolExecutor(len(folders))
         for folder in folders:
@@ -244,7 +245,7 @@ class Crate:
         """A copy that is free, with these texts."""
         folder = self.free.get()
         try:
-            with made(folder, texts, aside):
+            with made(folder, texts, aside), self.slots:
                 yield folder
         finally:
             self.free.put(folder)
@@ -292,7 +293,7 @@ class Crate:
         """Tells whether a run refutes an edit."""
         with self.copy(edit.made_in({}, self.folder)) as folder:
             try:
-                case = self.runs.refuting(os.path.dirname(folder), self.name)
+                case = self.runs.refuting(os.path.dirname(folder), self.name, edit_record.case_of(self.name, edit.name))
                 self.tell(edit, RUN if case else STALE, [case] if case else self.open[edit])
             except edit_runs.Unreadable as error:
                 self.tell(edit, UNREADABLE, [str(error)])
@@ -440,13 +441,12 @@ class Record:
                 edit_record.write_lines(crate, [edit_record.Line(edit.name, kind, details, edit.checksum, code, *self.about)])
 
 
-def try_crate(top, crate, edits, given, runs, record):
-    """What came of these edits of a crate, in copies of a copy of the repository, at most so many as are given."""
-    count = min(given.copies, 1 + len(edits) // EDITS_OF_A_COPY)
+def try_crate(top, crate, edits, given, *how):
+    """What came of these edits of a crate, in copies of a copy of the repository."""
+    count, kept = min(given.jobs, 1 + len(edits) // EDITS_OF_A_COPY), [] if given.runs else below(crate)
     with tempfile.TemporaryDirectory() as work:
-        kept = [] if given.runs else below(crate)
         copies = [os.path.join(copied(top, os.path.join(work, str(number)), kept), "crates", crate) for number in range(count)]
-        tried = Crate(crate, copies, runs, record)
+        tried = Crate(crate, copies, *how)
         if given.readable:
             tried.readable(edits)
         elif given.runs:
@@ -463,7 +463,6 @@ def main():
     for name in ("gate", "anew", "readable", "runs"):
         parser.add_argument("--" + name, action="store_true")
     parser.add_argument("--jobs", type=int, default=2)
-    parser.add_argument("--copies", type=int, default=1)
     parser.add_argument("names", nargs="*")
     given = parser.parse_args()
     told, pairs = collections.Counter(), chosen(given)
@@ -473,7 +472,8 @@ def main():
         top = copied(TOP, os.path.join(work, "right"), kept)
         runs = edit_runs.Runs(os.path.join(top, "crates"))
         record = (lambda *told: None) if given.gate else Record(top)
-        for done in [pool.submit(try_crate, top, *pair, given, runs, record) for pair in pairs]:
+        how = threading.Semaphore(given.jobs), runs, record
+        for done in [pool.submit(try_crate, top, *pair, given, *how) for pair in pairs]:
             told.update(done.result())
     if not given.gate:
         edit_record.write_page()
