@@ -122,7 +122,13 @@ verdicts:
 install: build c
 	@python3 tools/install.py --prefix $(PREFIX) --destdir "$(DESTDIR)"
 
-# An archive of these, the Python module and the licences, for machines without `rt`, in out.
+# The Python package with the library and the index texts, for `pip install`, in out. It needs Python's setuptools and wheel.
+.PHONY: wheel
+wheel: c
+	@python3 tools/python_wheel.py
+
+# An archive of what `make install` installs, the Python module, a wheel if there is one, and the licences, for machines
+# without `rt`, in out.
 .PHONY: dist
 dist: build c
 	@python3 tools/install.py --archive

@@ -5,12 +5,13 @@
     python3 tools/install.py --archive
 
 Both have the programs, the library for C with its header, its file for pkg-config and its man page, the programs' man pages,
-and the index texts. The archive, `out/jillapun-VERSION-x86_64-linux.tar.gz`, has the Python module and the licences too: it
-is for machines without `rt`. Its file for pkg-config finds the others by its own place, so it can be unpacked anywhere. It is
+and the index texts. The archive, `out/jillapun-VERSION-x86_64-linux.tar.gz`, has the Python module and the licences too, and
+the wheel if `make wheel` has made one: it is for machines without `rt`. Its file for pkg-config finds the others by its own place, so it can be unpacked anywhere. It is
 the same, byte by byte, for the same files.
 """
 
 import argparse
+import glob
 import gzip
 import io
 import os
@@ -59,6 +60,7 @@ README = """Jillapun {version}, for Linux on x86-64: text encodings, by the Enco
     lib, include                     the library for C, static and shared; share/man/man3/jillapun.3 is its page
     lib/pkgconfig                    PKG_CONFIG_PATH for `pkg-config --cflags --libs jillapun`
     python                           the module for Python, if it is here: PYTHONPATH, over lib/libjillapun.so
+    jillapun-*.whl                   the module with library and indexes for `pip install`, if it is here
     share/recode/indexes             the indexes of the standard: `recode --indexes`, `jillapun_tables_new`
     COPYRIGHT, LICENSE-*             the licences
 
@@ -111,9 +113,14 @@ def python_module(folder):
         copied(path, os.path.join(folder, path), 0o644)
 
 
+def commit_time():
+    """When the last commit was made, in seconds since 1970."""
+    return int(subprocess.run(["git", "log", "-1", "--format=%ct"], cwd=TOP, capture_output=True, text=True, check=True).stdout)
+
+
 def packed(folder, name, path):
     """An archive of a folder, in which all belongs to root and is as old as the last commit."""
-    time = int(subprocess.run(["git", "log", "-1", "--format=%ct"], cwd=TOP, capture_output=True, text=True, check=True).stdout)
+    time = commit_time()
 
     def plain(info):
         info.uid = info.gid = 0
@@ -138,6 +145,8 @@ def archive():
     with tempfile.TemporaryDirectory() as folder:
         install(folder, "${pcfiledir}/../..")
         python_module(folder)
+        for wheel in glob.glob(os.path.join(TOP, "out", "jillapun-%s-*.whl" % version)):
+            copied(wheel, os.path.join(folder, os.path.basename(wheel)), 0o644)
         for licence in LICENCES:
             copied(licence, os.path.join(folder, licence), 0o644)
         written(README.format(version=version), os.path.join(folder, "README"))
