@@ -11,7 +11,7 @@ NAME.c of docs/examples/c is compiled, linked with the archive and with the shar
 sanitizers if the compiler has them. Run in the top folder on NAME.in with the words of NAME.args, if these are there, it must
 write NAME.out, and NAME.err to standard error, and end with the status of NAME.status, 0 if there is none. Then all is packed
 as `make dist` does, unpacked, and a program is built from what pkg-config says of it. The wheel for Python is packed and
-installed (`python_wheel.py`).
+installed (`python_wheel.py`), and what `make install` puts in place is run and removed (`installed.py`).
 What was left out is said. The status is 1 if something was wrong.
 """
 
@@ -29,6 +29,7 @@ import c_mem
 import c_python
 import c_streams
 import install
+import installed
 import python_wheel
 
 TOP = os.path.abspath(os.path.join(os.path.dirname(os.path.abspath(__file__)), ".."))
@@ -173,6 +174,7 @@ def faults():
         wrong += examples(archive, shared, folder)
         wrong += unpacked(folder)
         wrong += python_wheel.faults(shared)
+        wrong += installed.faults()
     return wrong
 
 
