@@ -128,9 +128,19 @@ verdicts:
 # The programs, the library for C with its header and its file for pkg-config, their man pages, and the index texts, below
 # PREFIX.
 install: build c
-	@python3 tools/install.py --prefix $(PREFIX) --destdir "$(DESTDIR)"
+	@python3 tools/install.py --prefix "$(PREFIX)" --destdir "$(DESTDIR)"
 
-# An archive of these, the Python module and the licences, for machines without `rt`, in out.
+# Takes away what `make install` has put there.
+.PHONY: uninstall
+uninstall:
+	@python3 tools/install.py --remove --prefix "$(PREFIX)" --destdir "$(DESTDIR)"
+
+# The Python package with the library and the index texts, for `pip install`, in out. It needs Python's setuptools and wheel.
+.PHONY: wheel
+wheel: c
+	@python3 tools/python_wheel.py
+
+# An archive of these, the Python module, a wheel if there is one, and the licences, for machines without `rt`, in out.
 .PHONY: dist
 dist: build c
 	@python3 tools/install.py --archive

@@ -10,7 +10,8 @@ If there is a C compiler (`CC`, or cc), it and a C++ compiler (`CXX`, or c++) re
 NAME.c of docs/examples/c is compiled, linked with the archive and with the shared library, and once more with the
 sanitizers if the compiler has them. Run in the top folder on NAME.in with the words of NAME.args, if these are there, it must
 write NAME.out, and NAME.err to standard error, and end with the status of NAME.status, 0 if there is none. Then all is packed
-as `make dist` does, unpacked, and a program is built from what pkg-config says of it.
+as `make dist` does, unpacked, and a program is built from what pkg-config says of it. The wheel for Python is packed and
+installed (`python_wheel.py`), and what `make install` puts in place is run and removed (`installed.py`).
 What was left out is said. The status is 1 if something was wrong.
 """
 
@@ -28,6 +29,8 @@ import c_mem
 import c_python
 import c_streams
 import install
+import installed
+import python_wheel
 
 TOP = os.path.abspath(os.path.join(os.path.dirname(os.path.abspath(__file__)), ".."))
 EXAMPLES = os.path.join(TOP, "docs", "examples", "c")
@@ -170,6 +173,8 @@ def faults():
         wrong += headers(folder)
         wrong += examples(archive, shared, folder)
         wrong += unpacked(folder)
+        wrong += python_wheel.faults(shared)
+        wrong += installed.faults()
     return wrong
 
 

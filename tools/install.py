@@ -1,16 +1,18 @@
 #!/usr/bin/env python3
-"""Installs what `make build` and `make c` have built, or packs it: `make install`, `make dist`.
+"""Installs what `make build` and `make c` have built, removes it or packs it: `make install`, `uninstall` and `dist`.
 
-    python3 tools/install.py --prefix PREFIX [--destdir DIR]
+    python3 tools/install.py --prefix PREFIX [--destdir DIR] [--remove]
     python3 tools/install.py --archive
 
-Both have the programs, the library for C with its header, its file for pkg-config and its man page, the programs' man pages,
-and the index texts. The archive, `out/jillapun-VERSION-x86_64-linux.tar.gz`, has the Python module and the licences too: it
-is for machines without `rt`. Its file for pkg-config finds the others by its own place, so it can be unpacked anywhere. It is
-the same, byte by byte, for the same files.
+It is the programs, the library for C with its header, its file for pkg-config and its man page, the programs' man pages and
+their completion in bash, and the index texts. What is called as `recode` and `recode-places` are commands that hand the folder of these to the programs.
+The archive, `out/jillapun-VERSION-x86_64-linux.tar.gz`, has the Python module and the licences too, and the wheel if `make
+wheel` has made one: it is for machines without `rt`. All finds the others by its own place, so it can be unpacked anywhere.
+It is the same, byte by byte, for the same files.
 """
 
 import argparse
+import glob
 import gzip
 import io
 import os
@@ -28,8 +30,8 @@ SHARED = os.path.join("out", "c", c_library.SHARED)
 
 # What is installed: where it stands here, and there below the prefix.
 PROGRAMS = [
-    ("crates/recode_cli/out/recode_cli", "bin/recode"),
-    ("crates/recode_places_cli/out/recode_places_cli", "bin/recode-places"),
+    ("crates/recode_cli/out/recode_cli", "libexec/jillapun/recode"),
+    ("crates/recode_places_cli/out/recode_places_cli", "libexec/jillapun/recode-places"),
 ]
 FILES = [
     ("out/c/libjillapun.a", "lib/libjillapun.a"),
@@ -37,10 +39,28 @@ FILES = [
     ("man/recode.1", "share/man/man1/recode.1"),
     ("man/recode-places.1", "share/man/man1/recode-places.1"),
     ("man/jillapun.3", "share/man/man3/jillapun.3"),
+    # bash-completion looks for the name of a command.
+    ("completions/recode.bash", "share/bash-completion/completions/recode"),
+    ("completions/recode.bash", "share/bash-completion/completions/recode-places"),
 ]
 # What the archive has besides.
 LICENCES = ["COPYRIGHT", "LICENSE-APACHE", "LICENSE-MIT", "LICENSE-WHATWG"]
 INDEXES = "share/recode/indexes"
+PKG_CONFIG_FILE = "lib/pkgconfig/jillapun.pc"
+# The folders that nothing else is installed in.
+OWN = ["libexec/jillapun", "share/recode/indexes", "share/recode"]
+
+# A program's command, `bin/NAME`. It finds the others by its own place, so all can be moved.
+COMMAND = """#!/bin/sh
+# Runs {name} with the index texts that are installed with it, unless a word names another folder.
+self=$0
+[ -h "$self" ] && self=$(readlink -f -- "$self")
+case $self in */*) top=${{self%/*}}/.. ;; *) top=.. ;; esac
+for word; do
+    case $word in --indexes | --indexes=*) exec "$top/{program}" "$@" ;; esac
+done
+exec "$top/{program}" --indexes "$top/{indexes}" "$@"
+"""
 
 PKG_CONFIG = """prefix={prefix}
 libdir=${{prefix}}/lib
@@ -55,11 +75,13 @@ Cflags: -I${{includedir}}
 
 README = """Jillapun {version}, for Linux on x86-64: text encodings, by the Encoding Standard, with proofs.
 
-    bin/recode, bin/recode-places    programs; man/man1 below share has their pages
+    bin/recode, bin/recode-places    programs, which find the index texts here; man/man1 below share has their pages
+    share/bash-completion            completion of their words in bash
     lib, include                     the library for C, static and shared; share/man/man3/jillapun.3 is its page
     lib/pkgconfig                    PKG_CONFIG_PATH for `pkg-config --cflags --libs jillapun`
     python                           the module for Python, if it is here: PYTHONPATH, over lib/libjillapun.so
-    share/recode/indexes             the indexes of the standard: `recode --indexes`, `jillapun_tables_new`
+    jillapun-*.whl                   the module with library and indexes for `pip install`, if it is here
+    share/recode/indexes             the indexes of the standard: `jillapun_tables_new` loads them
     COPYRIGHT, LICENSE-*             the licences
 
 The folder can stand anywhere.
@@ -74,34 +96,70 @@ def copied(source, target, mode):
     os.chmod(target, mode)
 
 
-def written(text, target):
+def written(text, target, mode=0o644):
     os.makedirs(os.path.dirname(target), exist_ok=True)
     with open(target, "w", encoding="utf-8") as file:
         file.write(text)
-    os.chmod(target, 0o644)
+    os.chmod(target, mode)
 
 
-def links(name, target):
-    """The shared library, and the two links to it."""
-    copied(SHARED + "." + name, os.path.join(target, c_library.SHARED + "." + name), 0o755)
-    for link in (c_library.soname(), c_library.SHARED):
+def index_names():
+    return sorted(os.listdir(os.path.join(TOP, "indexes")))
+
+
+def library_names():
+    """The shared library's file, and the two links to it."""
+    return c_library.SHARED + "." + c_library.version(), c_library.soname(), c_library.SHARED
+
+
+def links(target):
+    """The shared library, and the links to it."""
+    name, *others = library_names()
+    copied(SHARED + "." + c_library.version(), os.path.join(target, name), 0o755)
+    for link in others:
         path = os.path.join(target, link)
         if os.path.lexists(path):
             os.remove(path)
-        os.symlink(c_library.SHARED + "." + name, path)
+        os.symlink(name, path)
+
+
+def command(program):
+    """Where the command of a program stands."""
+    return "bin/" + os.path.basename(program)
 
 
 def install(folder, prefix):
     """Puts all into a folder, which will stand at a prefix."""
     for source, target in PROGRAMS:
         copied(source, os.path.join(folder, target), 0o755)
+        text = COMMAND.format(name=os.path.basename(target), program=target, indexes=INDEXES)
+        written(text, os.path.join(folder, command(target)), 0o755)
     for source, target in FILES:
         copied(source, os.path.join(folder, target), 0o644)
-    links(c_library.version(), os.path.join(folder, "lib"))
-    for name in sorted(os.listdir(os.path.join(TOP, "indexes"))):
+    links(os.path.join(folder, "lib"))
+    for name in index_names():
         copied(os.path.join("indexes", name), os.path.join(folder, INDEXES, name), 0o644)
     text = PKG_CONFIG.format(prefix=prefix, version=c_library.version())
-    written(text, os.path.join(folder, "lib", "pkgconfig", "jillapun.pc"))
+    written(text, os.path.join(folder, PKG_CONFIG_FILE))
+
+
+def targets():
+    """All that `install` puts below a prefix."""
+    paths = [target for _, target in [*PROGRAMS, *FILES]] + [command(target) for _, target in PROGRAMS]
+    paths += ["lib/" + name for name in library_names()] + [INDEXES + "/" + name for name in index_names()]
+    return [*paths, PKG_CONFIG_FILE]
+
+
+def remove(folder):
+    """Takes away what `install` has put into a folder, and the folders that are its own, if nothing else is in them."""
+    for target in targets():
+        path = os.path.join(folder, target)
+        if os.path.lexists(path):
+            os.remove(path)
+    for own in OWN:
+        path = os.path.join(folder, own)
+        if os.path.isdir(path) and not os.listdir(path):
+            os.rmdir(path)
 
 
 def python_module(folder):
@@ -111,9 +169,14 @@ def python_module(folder):
         copied(path, os.path.join(folder, path), 0o644)
 
 
+def commit_time():
+    """When the last commit was made, in seconds since 1970."""
+    return int(subprocess.run(["git", "log", "-1", "--format=%ct"], cwd=TOP, capture_output=True, text=True, check=True).stdout)
+
+
 def packed(folder, name, path):
     """An archive of a folder, in which all belongs to root and is as old as the last commit."""
-    time = int(subprocess.run(["git", "log", "-1", "--format=%ct"], cwd=TOP, capture_output=True, text=True, check=True).stdout)
+    time = commit_time()
 
     def plain(info):
         info.uid = info.gid = 0
@@ -138,6 +201,8 @@ def archive():
     with tempfile.TemporaryDirectory() as folder:
         install(folder, "${pcfiledir}/../..")
         python_module(folder)
+        for wheel in glob.glob(os.path.join(TOP, "out", "jillapun-%s-*.whl" % version)):
+            copied(wheel, os.path.join(folder, os.path.basename(wheel)), 0o644)
         for licence in LICENCES:
             copied(licence, os.path.join(folder, licence), 0o644)
         written(README.format(version=version), os.path.join(folder, "README"))
@@ -149,12 +214,17 @@ def main():
     parser = argparse.ArgumentParser()
     parser.add_argument("--prefix")
     parser.add_argument("--destdir", default="")
+    parser.add_argument("--remove", action="store_true")
     parser.add_argument("--archive", action="store_true")
     words = parser.parse_args()
     if words.archive:
         print("packed", os.path.relpath(archive(), TOP))
     elif words.prefix:
-        install(words.destdir + os.path.abspath(words.prefix), os.path.abspath(words.prefix))
+        prefix = os.path.abspath(words.prefix)
+        if words.remove:
+            remove(words.destdir + prefix)
+        else:
+            install(words.destdir + prefix, prefix)
     else:
         parser.error("--prefix or --archive")
     return 0

@@ -1,0 +1,34 @@
+# Completion in bash for recode and recode-places: options by their help, labels by `recode --list`, and files.
+
+_jillapun_recode() {
+    local word=${COMP_WORDS[COMP_CWORD]} option=${COMP_WORDS[COMP_CWORD - 1]} words=
+    # `--from=LABEL` is three words.
+    [[ $word == = ]] && word=''
+    [[ $option == = ]] && option=${COMP_WORDS[COMP_CWORD - 2]}
+    COMPREPLY=()
+    case $option in
+    --from | --to)
+        # A label with a colon, at which bash ends a word, is another name of an encoding that has one without.
+        words=$("${1%-places}" --list | sed 's/^[^:]*: //' | tr ' ' '\n' | grep -v :)
+        word=${word,,} ;;
+    --mark) words="sniff remove keep" ;;
+    --unmappable) words="decimal hexadecimal stop" ;;
+    --pivot) words="utf8 utf16" ;;
+    --limit | --most) return ;;
+    --indexes)
+        compopt -o filenames 2> /dev/null
+        mapfile -t COMPREPLY < <(compgen -d -- "$word")
+        return ;;
+    *)
+        if [[ $word == -* ]]; then
+            words=$("$1" --help | grep -oE -- '--[a-z]+(-[a-z]+)*' | sort -u)
+        elif [[ $1 == *recode-places ]]; then
+            compopt -o filenames 2> /dev/null
+            mapfile -t COMPREPLY < <(compgen -f -- "$word")
+            return
+        fi ;;
+    esac
+    mapfile -t COMPREPLY < <(compgen -W "$words" -- "$word")
+}
+
+complete -F _jillapun_recode recode recode-places
