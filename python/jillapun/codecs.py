@@ -28,7 +28,7 @@ from . import _library as c
 from ._indexes import handle_of, number_of
 from ._labels import LABELS
 from ._results import refuse
-from ._streams import opened
+from ._steps import opened
 
 __all__ = ["search"]
 
