@@ -1,5 +1,5 @@
-//! Rows in order, with a directory that says where the rows of each block of first numbers begin, so
-//! that a search is handed the rows of one block.
+//! Pairs of an entry and its pointer in order, with a directory that says where the pairs of each
+//! block of entries begin, so that a search is handed the pairs of one block.
 
 ghost use Rattle.std.specs.Prelude.{◌≡◌, ◌<◌, ◌^◌, List, ℕ, IfOk, length, slice_range};
 ghost use Rattle.encoding_tables.specs.calls.SortedRows.{AreRising, HasBlocks, IsDirectory, IsSpan};
