@@ -10,3 +10,4 @@ mod KindLemmas
 pub mod RowLemmas
 mod RowFaultLemmas
 pub mod CountLemmas
+pub mod RowNumberLemmas

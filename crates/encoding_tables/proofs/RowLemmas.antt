@@ -566,6 +566,16 @@ last_found size rows pairs part c from to n flat packed of rank some own low vie
     let pair : row_at pairs (of.0 + n - 1) ≡ (c, (row_at part (n - 1)).1) = ap (λ k. row_at pairs k) place ∙ pair_at pairs part c (n - 1) of (omega (arith, size_is, some, rank.within)) ∙ ap (λ e. (e, (row_at part (n - 1)).1)) entry in
     subst (λ list. Some (row_at (take n part) (length (take n part) - 1)).1 ≡ last_pointer list c from to) view (sym (rw here (last_here size rows pairs c from to (row_at part (n - 1)).1 (of.0 + n) packed (rank_among pairs part c to n of rank) (omega (arith, size_is, some)) pair (omega (arith, here, low)))))
 
+-- the last of the part below a key, if it has the key's entry, has a pointer below the key's
+pub last_is_before : (part : List (ℕ × ℕ)) (c to n : ℕ) (row : ℕ × ℕ) → IsRank part (c, to) n → 1 ≤ length (take n part) → row ≡ row_at (take n part) (length (take n part) - 1) → row.0 ≡ c → row.1 < to
+last_is_before part c to n row rank some is own =
+    let size_is : length (take n part) ≡ n = length-take-le n part rank.within in
+    let same : row ≡ row_at part (n - 1) = is ∙ ap (λ k. row_at (take n part) (k - 1)) size_is ∙ get_or-take n part (n - 1) (0, 0) (omega (arith, size_is, some)) in
+    elim (below_cases (row_at part (n - 1)) (c, to) (rank.below (n - 1) (omega (arith, size_is, some)))) [
+      | inl less ↦ absurd (omega (arith, less, own, ap (λ (r : ℕ × ℕ). r.0) same))
+      | inr equal ↦ omega (arith, equal.1, ap (λ (r : ℕ × ℕ). r.1) same)
+    ]
+
 pub last_missed : (size : ℕ) (rows pairs part : List (ℕ × ℕ)) (c from to n : ℕ) (flat : List ℕ) → IsPacked size rows pairs → HasPairsOf pairs c part → IsRank part (c, to) n
     → (1 ≤ length (take n part) → (row_at (take n part) (length (take n part) - 1)).0 ≡ c → (row_at (take n part) (length (take n part) - 1)).1 < from) → flat_list size rows ≡ flat → None ≡ last_pointer flat c from to
 last_missed size rows pairs part c from to n flat packed of rank low view =

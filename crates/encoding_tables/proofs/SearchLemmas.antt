@@ -2,13 +2,13 @@
 -- a search to a row, or to the rows of a block of first numbers. Rows whose first numbers rise, and the last of them at or below a
 -- number.
 use Rattle.std.proofs.Common.{◌≡◌, ℕ, ◌+◌, ◌-◌, ◌*◌, ◌/◌, ◌<◌, ◌≤◌, ◌^◌, ◌⊎◌, inl, inr, zero, suc, List, length, arith, refl, pow-suc, pow_pos, pow_mono, subst, sym, ◌%◌, nat_lt, ◌==◌, ◌≢◌, [], ◌∷◌, ◌++◌, ◌∙◌, ap, drop, length-drop, length-take, length-append, None, Some}
-use Rattle.std.specs.Prelude.{◌&&◌, slice_range, slice_index, min}
+use Rattle.std.specs.Prelude.{◌&&◌, slice_range, slice_index, slice_index_or, min, map}
 use Rattle.encoding_tables.specs.calls.PackedLists.{IsSecond}
 use Rattle.encoding_tables.specs.PackedRows.{PointersAreBelow}
 use Rattle.std.proofs.lemmas.Bool.{cases_eq, or_cases, and_parts, ltb-true, eqb-true, lt-ltb, le-ltb, eq-eqb, cases_lt}
 use Rattle.encoding_tables.specs.calls.SortedRows.{row_at, IsBelow, AreRising, IsRank, IsDirectory, HasBlocks, IsSpan}
 use Rattle.std.proofs.lemmas.List.Edits.{get_or-between}
-use Rattle.std.proofs.lemmas.List.{get_or_append_left}
+use Rattle.std.proofs.lemmas.List.{get_or-map, get_or_append_left}
 use Rattle.std.proofs.Math.Seq.{get_or-append_right}
 use Rattle.std.proofs.Math.Nat.{sub_self, mod-lt, mod-eq_of_lt, div-lt_iff_lt-mul}
 use Rattle.std.proofs.Math.Pow.{shr_mono}
@@ -53,6 +53,10 @@ rises rows rise i j less within =
     rw (← same) (far rows rise i (j - i - 1) (omega arith))
 
 -- ---- a search
+
+-- the two numbers of a row, by the row as it is kept
+pub kept_row : {A : Type 0} (numbers : A → ℕ × ℕ) (rows : List A) (k : ℕ) (row : A) → k < length rows → row ≡ slice_index_or rows k row → row_at (map numbers rows) k ≡ numbers row
+kept_row numbers rows k row within is = get_or-map numbers rows k row (0, 0) within ∙ ap numbers (sym is)
 
 pub record IsNarrowed (rows : List (ℕ × ℕ)) (key : ℕ × ℕ) (low high compared : ℕ) : Type 0 where
   pub small : length rows < 2 ^ 64
@@ -254,28 +258,21 @@ blocks_done width rows begins number blocks dir past so_far = record {
 
 -- ---- the row with a first number
 
--- the row at a place, in the part that has it alone
-row_alone : (rows : List (ℕ × ℕ)) (place : ℕ) → row_at (slice_range rows place (place + 1)) 0 ≡ row_at rows place
-row_alone rows place =
-    let here : place + 0 ≡ place = omega arith in
-    row_of_part rows place (place + 1) 0 (omega arith) ∙ ap (λ q. row_at rows q) here
-
 -- if the row at the place of a number is below the next number, it has the number
-pub second_at_place : (rows : List (ℕ × ℕ)) (first place n : ℕ) → IsRank rows (first, 0) place → place < length rows → IsRank (slice_range rows place (place + 1)) (first + 1, 0) n → n ≡ 1
-    → IsSecond rows first (Some (row_at rows place).1)
-second_at_place rows first place n rank within next one =
-    let low = below_start (row_at (slice_range rows place (place + 1)) 0) (first + 1) (next.below 0 (omega (arith, one))) in
+pub second_at_place : (rows : List (ℕ × ℕ)) (first place n : ℕ) (row : ℕ × ℕ) → IsRank rows (first, 0) place → place < length rows → row ≡ row_at rows place → IsRank (row ∷ []) (first + 1, 0) n → n ≡ 1
+    → IsSecond rows first (Some row.1)
+second_at_place rows first place n row rank within same next one =
+    let low = below_start row (first + 1) (next.below 0 (omega (arith, one))) in
     let from = from_start (row_at rows place) first (rank.others place (omega arith) within) in
-    let is : (row_at rows place).0 ≡ first = omega (arith, low, from, ap (λ (r : ℕ × ℕ). r.0) (row_alone rows place)) in
-    (place, within, ap (λ q. (q, (row_at rows place).1)) is)
+    let is : row.0 ≡ first = omega (arith, low, from, ap (λ (r : ℕ × ℕ). r.0) same) in
+    (place, within, sym same ∙ ap (λ q. (q, row.1)) is)
 
 -- and if it is not, no row has it
-pub none_at_place : (rows : List (ℕ × ℕ)) (first place n : ℕ) → AreRising rows → IsRank rows (first, 0) place → place < length rows → IsRank (slice_range rows place (place + 1)) (first + 1, 0) n → n ≢ 1
-    → IsSecond rows first None
-none_at_place rows first place n rise rank within next other k inside is =
-    let size : length (slice_range rows place (place + 1)) ≡ 1 = part_length rows place (place + 1) ∙ omega (arith, within) in
-    let from = from_start (row_at (slice_range rows place (place + 1)) 0) (first + 1) (next.others 0 (omega (arith, next.within, size, other)) (omega (arith, size))) in
-    let above : first + 1 ≤ (row_at rows place).0 = omega (arith, from, ap (λ (r : ℕ × ℕ). r.0) (row_alone rows place)) in
+pub none_at_place : (rows : List (ℕ × ℕ)) (first place n : ℕ) (row : ℕ × ℕ) → AreRising rows → IsRank rows (first, 0) place → place < length rows → row ≡ row_at rows place → IsRank (row ∷ []) (first + 1, 0) n
+    → n ≢ 1 → IsSecond rows first None
+none_at_place rows first place n row rise rank within same next other k inside is =
+    let from = from_start row (first + 1) (next.others 0 (omega (arith, next.within, other)) (omega arith)) in
+    let above : first + 1 ≤ (row_at rows place).0 = omega (arith, from, ap (λ (r : ℕ × ℕ). r.0) same) in
     elim (cases_lt k place) [
       | inl early ↦ let low = below_start (row_at rows k) first (rank.below k early) in omega (arith, low, is)
       | inr late ↦ elim (cases_eq k place) [

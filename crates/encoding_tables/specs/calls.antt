@@ -2,3 +2,4 @@
 pub mod PackedLists
 pub mod SortedRows
 pub mod EntryCounts
+pub mod RowNumbers

@@ -9,6 +9,7 @@ pub mod PackedRows
 pub mod RangeFaults
 pub mod Ranges
 pub mod Replacement
+pub mod RowNumbers
 pub mod SingleByte
 pub mod SortedRows
 pub mod TableFaults

@@ -137,7 +137,7 @@ impl IndexKind {
         match self {
             IndexKind::Gb18030 | IndexKind::Jis0208 => 0,
             IndexKind::EucKr => 2,
-            IndexKind::Big5 => 3,
+            IndexKind::Big5 => 4,
             IndexKind::Jis0212 => 6,
             _ => 3,
         }

@@ -31,6 +31,7 @@ pub mod index_kind;
 pub mod laws;
 mod packed_index;
 mod packed_ranges;
+mod packed_row;
 mod pointer_rows;
 pub mod ranges;
 pub mod replacement_decoder;

@@ -7,6 +7,7 @@ ghost use Rattle.encoding_tables.specs.Lookups.{AreEntries};
 ghost use Rattle.encoding_tables.specs.PackedRows.{flat_list, mapped_rows, listed_rows};
 ghost use Rattle.encoding_tables.specs.PackedRows.{PointersRise, PointersAreBelow};
 ghost use Rattle.encoding_tables.specs.calls.PackedLists.{AreIndexRows, IsPacked, IsReversed};
+ghost use Rattle.encoding_tables.specs.calls.RowNumbers.{AreOfTwoPlanes, ArePackable};
 ghost use Rattle.encoding_tables.specs.calls.EntryCounts.{AreCounts, AreEnds, HaveEntriesBelow};
 
 use crate::flat::Flat;
@@ -37,7 +38,8 @@ impl Model for PackedIndex {
 impl PackedIndex {
     /// The index of a list, whose directory by entry has a number for each 2^width scalars.
     pub(crate) fn from_list(alloc: Global, list: &[u32], width: u32) -> Result<Self, AllocError>
-        requires small { length list.now < 2 ^ 16 }
+        requires small { length list.now < 2 ^ 15 }
+        requires planes { AreOfTwoPlanes list.now }
         requires narrow { width < 16 }
         ensures { IfOk result (λ index. index ≡ list.now) }
     {
@@ -54,7 +56,8 @@ impl PackedIndex {
     ) -> Result<Self, AllocError>
         requires rise { PointersRise rows.now }
         requires below { PointersAreBelow size rows.now }
-        requires small { size < 2 ^ 16 }
+        requires small { size < 2 ^ 15 }
+        requires planes { AreOfTwoPlanes (flat_list size rows.now) }
         requires narrow { width < 16 }
         ensures { IfOk result (λ index. index ≡ flat_list size rows.now) }
     {
@@ -68,7 +71,8 @@ impl PackedIndex {
     // The index of mapped rows.
     fn new(alloc: Global, size: usize, rows: &[(u32, u32)], width: u32) -> Result<Self, AllocError>
         requires rows { AreIndexRows size rows.now }
-        requires small { size < 2 ^ 16 }
+        requires small { size < 2 ^ 15 }
+        requires planes { AreOfTwoPlanes (flat_list size rows.now) }
         requires narrow { width < 16 }
         ensures { IfOk result (λ index. index ≡ flat_list size rows.now) }
     {
@@ -168,6 +172,7 @@ fn ends(alloc: Global, rows: &[(u32, u32)]) -> Result<Vec<u16>, AllocError>
 // compared, and no branch depends on what a row has.
 fn reversed(alloc: Global, rows: &[(u32, u32)], width: u32) -> Result<SortedRows, AllocError>
     requires rise { PointersRise rows.now }
+    requires packable { ArePackable rows.now }
     requires few { length rows.now < 2 ^ 16 }
     requires narrow { width < 16 }
     ensures { IfOk result (λ pairs. IsReversed rows.now pairs) }
@@ -182,5 +187,5 @@ fn reversed(alloc: Global, rows: &[(u32, u32)], width: u32) -> Result<SortedRows
         begins[entry as usize] = place;
         pairs[place as usize] = (entry, pointer);
     }
-    SortedRows::new(alloc, pairs, &begins, width)
+    SortedRows::new(alloc, &pairs, &begins, width)
 }

@@ -1,16 +1,18 @@
-//! Rows in order, with a directory that says where the rows of each block of first numbers begin, so
-//! that a search is handed the rows of one block.
+//! Pairs of an entry and its pointer in order, with a directory that says where the pairs of each
+//! block of entries begin, so that a search is handed the pairs of one block.
 
 ghost use Rattle.std.specs.Prelude.{◌≡◌, ◌<◌, ◌^◌, List, ℕ, IfOk, length, slice_range};
 ghost use Rattle.encoding_tables.specs.calls.SortedRows.{AreRising, HasBlocks, IsDirectory, IsSpan};
+ghost use Rattle.encoding_tables.specs.calls.RowNumbers.{ArePackablePairs};
 
+use crate::packed_row::{PackedPair, packed_pairs};
 use std::alloc::{AllocError, Global};
 use std::marker::Model;
 
-/// Rows in order, fewer than 2^16.
+/// Pairs of an entry and its pointer in order, fewer than 2^16.
 #[derive(Drop)]
 pub(crate) struct SortedRows {
-    rows: Vec<(u32, u32)>,
+    rows: Vec<PackedPair>,
     // A block is of 2^width first numbers.
     width: u32,
     // How many rows stand before each block, and at last how many there are.
@@ -31,19 +33,20 @@ impl SortedRows {
     /// directory by blocks of 2^width first numbers.
     pub(crate) fn new(
         alloc: Global,
-        rows: Vec<(u32, u32)>,
+        rows: &[(u32, u32)],
         begins: &[u16],
         width: u32,
     ) -> Result<Self, AllocError>
-        requires few { length rows.items < 2 ^ 16 }
+        requires few { length rows.now < 2 ^ 16 }
         requires narrow { width < 16 }
-        requires rising { AreRising rows.items }
-        requires directory { IsDirectory rows.items begins.now }
-        ensures { IfOk result (λ sorted. sorted ≡ rows.items) }
+        requires rising { AreRising rows.now }
+        requires packable { ArePackablePairs rows.now }
+        requires directory { IsDirectory rows.now begins.now }
+        ensures { IfOk result (λ sorted. sorted ≡ rows.now) }
     {
-        let begins = blocks(alloc, &rows, begins, width)?;
+        let begins = blocks(alloc, rows, begins, width)?;
         Ok(SortedRows {
-            rows,
+            rows: packed_pairs(alloc, rows)?,
             width,
             begins,
         })
@@ -52,7 +55,7 @@ impl SortedRows {
     /// The rows of the block of a first number: all that have it, and those whose first number is
     /// in the block as well.
     #[inline(always)]
-    pub(crate) fn block_of(&self, first: u32) -> &[(u32, u32)]
+    pub(crate) fn block_of(&self, first: u32) -> &[PackedPair]
         ensures { (from : ℕ) × (to : ℕ) × IsSpan self.now first from to
             × (result.now ≡ slice_range self.now from to) }
     {
@@ -64,7 +67,7 @@ impl SortedRows {
 
 // Where the rows of the block of a first number begin and end, by their directory.
 #[inline(always)]
-fn span_in(rows: &[(u32, u32)], begins: &[u16], width: u32, first: u32) -> (usize, usize)
+fn span_in(rows: &[PackedPair], begins: &[u16], width: u32, first: u32) -> (usize, usize)
     requires narrow { width < 16 }
     requires directory { HasBlocks (2 ^ width) rows.now begins.now }
     ensures { IsSpan rows.now first result.0 result.1 }
