@@ -140,7 +140,13 @@ uninstall:
 wheel: c
 	@python3 tools/python_wheel.py
 
-# An archive of these, the Python module, a wheel if there is one, and the licences, for machines without `rt`, in out.
+# Packages for Debian, in out/debian, by its `dpkg-deb`.
+.PHONY: deb
+deb: build c
+	@python3 tools/debian.py
+
+# An archive of what `make install` installs, the Python module, a wheel if there is one, and the licences, for machines
+# without `rt`, in out.
 .PHONY: dist
 dist: build c
 	@python3 tools/install.py --archive

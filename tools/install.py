@@ -16,6 +16,7 @@ import glob
 import gzip
 import io
 import os
+import re
 import shutil
 import stat
 import subprocess
@@ -101,6 +102,12 @@ def written(text, target, mode=0o644):
     with open(target, "w", encoding="utf-8") as file:
         file.write(text)
     os.chmod(target, mode)
+
+
+def glibc(path):
+    """The oldest glibc that a program or a library runs on, as the N of 2.N: the newest that it takes symbols from."""
+    with open(path, "rb") as file:
+        return max(int(minor) for minor in re.findall(rb"\0GLIBC_2\.(\d+)", file.read()))
 
 
 def index_names():

@@ -11,7 +11,6 @@ The gate installs the wheel in an empty virtual environment without a network, a
 """
 
 import os
-import re
 import subprocess
 import sys
 import tempfile
@@ -45,10 +44,8 @@ class NotPacked(Exception):
 
 
 def tag(shared):
-    """The tag of the systems that a shared library runs on: those with as new a glibc as it takes symbols from."""
-    with open(shared, "rb") as file:
-        versions = re.findall(rb"\0GLIBC_2\.(\d+)", file.read())
-    return "manylinux_2_%d_x86_64" % max([OLDEST, *map(int, versions)])
+    """The tag of the systems that a shared library runs on."""
+    return "manylinux_2_%d_x86_64" % max(OLDEST, install.glibc(shared))
 
 
 def builder():

@@ -118,6 +118,7 @@ class Coding:
 
     def __init__(self, name: str, number: int):
         self.name, self.number = name, number
+        self._has_encoder = c.library.jillapun_output_encoding(number) == number
 
     def mark(self, state: int) -> int:
         """What becomes of a byte order mark at the start of a part."""
@@ -153,7 +154,7 @@ class Coding:
 
     def encode_part(self, text: str, errors: str, state: int = 0, final: bool = True) -> Tuple[bytes, int]:
         """The bytes of a text, and the state after them. Raises `LookupError` if the encoding has no encoder."""
-        if text and c.library.jillapun_output_encoding(self.number) != self.number:
+        if text and not self._has_encoder:
             raise LookupError("the Encoding Standard has no encoder of %s" % self.name)
         if len(text) <= _SHORT and (not self.has_modes or final and not state):
             data = self._short_data(text, errors)
