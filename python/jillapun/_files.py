@@ -188,10 +188,10 @@ def convert_with(
     place = _Place(target_path, backup)
     with open(source_path, "rb") as given, place.beside() as (path, made):
         before = os.fstat(given.fileno())
+        is_in_place = place.old is not None and os.path.samestat(os.stat(place.path), before)
         _put_all(conversion, given, made, progress)
         report = conversion.report
         done = ConvertedFile(report.read, report.bad, report.lost, conversion.status == c.OK, faults.kept)
-        is_in_place = place.old is not None and os.path.samestat(place.old, before)
         if is_in_place and not (done.faithful or lossy or backup):
             raise NotReplaced(done)
         place.finish(made, before.st_mode & 0o777)
