@@ -76,6 +76,8 @@ class _Place:
     def __init__(self, path: PathLike, suffix: Optional[str]):
         if suffix is not None and (not suffix or os.path.basename(suffix) != suffix):
             raise ValueError("%r is no suffix of a name" % suffix)
+        if os.path.basename(path) in ("", os.curdir, os.pardir):
+            raise _refused(errno.EISDIR, os.fspath(path))
         self.path, self.backup = os.path.realpath(path), ""
         self.folder = os.path.dirname(self.path)
         self.old: Optional[os.stat_result] = None
@@ -143,7 +145,8 @@ class _Place:
         except OSError:
             # Only then is it sure that the backup is no more than a copy.
             if self.backup:
-                os.unlink(self.backup)
+                with contextlib.suppress(OSError):
+                    os.unlink(self.backup)
             raise
         if self.old:
             _sync_folder(self.folder)
@@ -185,10 +188,10 @@ def convert_with(
     place = _Place(target_path, backup)
     with open(source_path, "rb") as given, place.beside() as (path, made):
         before = os.fstat(given.fileno())
+        is_in_place = place.old is not None and os.path.samestat(os.stat(place.path), before)
         _put_all(conversion, given, made, progress)
         report = conversion.report
         done = ConvertedFile(report.read, report.bad, report.lost, conversion.status == c.OK, faults.kept)
-        is_in_place = place.old is not None and os.path.samestat(place.old, before)
         if is_in_place and not (done.faithful or lossy or backup):
             raise NotReplaced(done)
         place.finish(made, before.st_mode & 0o777)

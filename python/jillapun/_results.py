@@ -1,6 +1,6 @@
 """What calls return, and what they raise."""
 
-from typing import Any, Callable, List, NamedTuple, Optional, Union
+from typing import Any, Callable, Iterator, List, NamedTuple, Optional, Union
 
 from . import _library as c
 
@@ -127,12 +127,10 @@ class NotReplaced(JillapunError):
         """What is told of the conversion."""
 
 
-def faults_in(records: bytes) -> List[Fault]:
-    """The losses that stand in records of the library."""
-    return [
-        Bad(place, number) if kind == c.BAD else Lost(place, chr(number))
-        for place, number, kind in c.LOSS.iter_unpack(records)
-    ]
+def faults_in(records: bytes) -> Iterator[Fault]:
+    """The losses that stand in records of the library, made one by one: most are forgotten at once."""
+    for place, number, kind in c.LOSS.iter_unpack(records):
+        yield Bad(place, number) if kind == c.BAD else Lost(place, chr(number))
 
 
 class Faults:

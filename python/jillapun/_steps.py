@@ -43,15 +43,15 @@ class Conversion:
         status = c.streams().jillapun_converter_new(handle_of(indexes), *words, ctypes.byref(handle))
         if status != c.OK:
             refuse(status)
-        self._handle = handle
+        self._handle, self._progress = handle, c.ConverterProgress()
+        self._told = ctypes.byref(self._progress), ctypes.byref(self.report)
 
     def put(self, data: bytes, last: bool) -> Iterator[bytes]:
         """Converts the next bytes, and the end of the input if they are the last: what each step gives."""
-        room, at, start, progress = _rooms.take(), 0, c.address_of(data), c.ConverterProgress()
-        handle, told = ctypes.byref(self._handle), (ctypes.byref(progress), ctypes.byref(self.report))
+        room, at, start, progress = _rooms.take(), 0, c.address_of(data), self._progress
         while self.status == c.GOES_ON and (at < len(data) or last or progress.wants_room):
             self.status = c.library.jillapun_converter_step(
-                handle, start + at, len(data) - at, last, *room.words, *told
+                ctypes.byref(self._handle), start + at, len(data) - at, last, *room.words, *self._told
             )
             at += progress.read
             if progress.losses:

@@ -27,7 +27,7 @@ def _run(
         status = c.library.jillapun_convert(handle, *words, *room.words, room.told)
     report = room.report
     output = room.bytes[: report.written]
-    faults = faults_in(room.losses[: report.losses * c.LOSS.size]) if report.losses else []
+    faults = list(faults_in(room.losses[: report.losses * c.LOSS.size])) if report.losses else []
     if status == c.STOPPED:
         raise Stopped(Lost(report.index, chr(report.scalar)), output, faults)
     if status not in (c.OK, c.LOSSY):

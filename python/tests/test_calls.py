@@ -165,7 +165,7 @@ class Files(unittest.TestCase):
     def test_long_lines(self) -> None:
         """Lines and parts of them over many chunks."""
         lines = ["x" * 200000 + "\n", "\n", "é" * 100000]
-        Path(self.path).write_text("".join(lines), encoding="utf-8", newline="")
+        Path(self.path).write_bytes("".join(lines).encode())
         with jillapun.open(self.path, encoding="utf-8") as file:
             self.assertEqual(file.readlines(), lines)
         with jillapun.open(self.path, encoding="utf-8") as file:

@@ -249,7 +249,7 @@ class InPlace(Folder):
         os.mkfifo(self.at("pipe"))
         os.symlink("loop", self.at("loop"))
         os.symlink("none", self.at("dangling"))
-        for name in ("in", "in/", ".", "pipe", "loop", "dangling", "none", ""):
+        for name in ("in", "in/", ".", "..", "in/..", "pipe", "loop", "dangling", "none", "none/", "none/.", ""):
             with self.subTest(name=name):
                 self.assertRaises(OSError, self.convert, self.at(name))
         for device in ("/dev/null", "/dev/full", "/dev/tty"):
@@ -299,6 +299,28 @@ class InPlace(Folder):
         with self.assertRaises(FileNotFoundError):
             self.convert(self.path, progress=lambda _: Path(self.path).unlink(missing_ok=True))
         self.holds()
+
+    def test_a_disk_that_fails(self) -> None:
+        """What is not known to be on the disk, or what may not be made like the file, does not replace it."""
+        self.put("a", GOOD)
+        for call in ("os.fsync", "os.fchmod", "os.replace", "tempfile.mkstemp"):
+            with mock.patch(call, side_effect=OSError(errno.EIO, "the disk fails")), self.assertRaises(OSError) as it:
+                self.convert(self.path, backup="~")
+            self.assertEqual(it.exception.errno, errno.EIO)
+            self.holds(a=GOOD)
+
+    def test_the_folder_of_another(self) -> None:
+        """Who may write a file, and may not take its name away, as in /tmp."""
+        os.mkdir(self.at("in"))
+        os.chmod(self.at("in"), 0o1777)
+        os.chmod(self.put("in/a", GOOD), 0o666)
+        with somebody():
+            if not os.geteuid() or os.stat(self.at("in/a")).st_uid == os.geteuid():
+                self.skipTest("there is no other user")
+            for backup in (None, "~"):
+                self.assertRaises(PermissionError, self.convert, self.at("in/a"), backup=backup)
+        self.assertEqual(Path(self.at("in/a")).read_bytes(), GOOD)
+        self.assertLessEqual(set(os.listdir(self.at("in"))), {"a", "a~"})
 
     def test_what_callbacks_raise(self) -> None:
         """It ends the conversion, be it an interruption."""
@@ -386,9 +408,12 @@ class Into(Folder):
         os.mkdir(self.at("in"))
         os.mkfifo(self.at("pipe"))
         os.symlink("loop", self.at("loop"))
-        for name in ("in", "in/", "pipe", "loop", "none/b", "a/b", "/dev/null", "/dev/full", "/dev/stdin"):
+        names = "in", "in/", "in/.", "pipe", "loop", "none/b", "none/", "none/.", "none/..", "a/b", "a/", "", ".", ".."
+        for name in (*names, "/dev/null", "/dev/full", "/dev/stdin"):
             with self.subTest(name=name):
                 self.assertRaises(OSError, self.convert, self.path, self.at(name))
+        for name in ("", ".", ".."):
+            self.assertRaises(OSError, self.convert, self.path, name)
         self.assertEqual(sorted(os.listdir(self.folder)), ["a", "in", "loop", "pipe"])
         self.assertTrue(stat.S_ISCHR(os.stat("/dev/null").st_mode))
 
