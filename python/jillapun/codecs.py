@@ -3,10 +3,8 @@
     >>> import jillapun.codecs
     >>> b"A\\x83\\x6e".decode("web-shift_jis")
     'Aハ'
-    >>> b"A\\xff".decode("web-shift_jis")
-    Traceback (most recent call last):
-        ...
-    UnicodeDecodeError: 'web-shift_jis' codec can't decode byte 0xff in position 1: malformed sequence
+    >>> b"A\\xff".decode("web-shift_jis", "backslashreplace")
+    'A\\\\xff'
 
 To import this module registers them, as `jillapun.register()` does. After it `open(path, encoding="web-gb18030")`, `csv`,
 `pandas` and all else that hands a name of an encoding to Python has them, with Python's handlers of errors.
