@@ -16,9 +16,6 @@ Long = ctypes.c_uint64
 OK, LOSSY, UNKNOWN, NOT_READY, BAD_INDEX, NO_MEMORY, CLOSED, IN_USE, FINISHED, NOT_UTF8, ROOM = range(11)
 GOES_ON, STOPPED, TOO_LONG = 11, 12, 13
 
-# Outcomes of calls of decoders and encoders.
-INPUT_EMPTY, OUTPUT_FULL, MALFORMED, UNMAPPABLE = range(4)
-
 # Kinds of losses.
 BAD, LOST = range(2)
 
@@ -77,27 +74,6 @@ class Report(ctypes.Structure):
     ]
 
 
-class Progress(ctypes.Structure):
-    _fields_ = [
-        ("read", Size),
-        ("written", Size),
-        ("outcome", Byte),
-        ("malformed_length", Byte),
-        ("malformed_after", Byte),
-        ("had_errors", ctypes.c_bool),
-    ]
-
-
-class EncoderProgress(ctypes.Structure):
-    _fields_ = [
-        ("read", Size),
-        ("written", Size),
-        ("outcome", Byte),
-        ("had_unmappable", ctypes.c_bool),
-        ("scalar", ctypes.c_uint32),
-    ]
-
-
 class ConverterProgress(ctypes.Structure):
     _fields_ = [("read", Size), ("written", Size), ("losses", Size), ("wants_room", ctypes.c_bool)]
 
@@ -144,11 +120,7 @@ _declare("jillapun_convert", Byte, Tables, Byte, Byte, Byte, Byte, Long, *_LENT,
 
 @lru_cache(maxsize=None)
 def streams() -> ctypes.CDLL:
-    """The library, with the calls that make, step and free what stands behind a handle declared."""
-    _declare("jillapun_decoder_new", Byte, Tables, Byte, Byte, _HANDLE)
-    _declare("jillapun_decoder_free", None, _HANDLE)
-    _declare("jillapun_encoder_new", Byte, Tables, Byte, _HANDLE)
-    _declare("jillapun_encoder_free", None, _HANDLE)
+    """The library, with the calls of conversions by steps declared."""
     told = (ctypes.POINTER(ConverterProgress), _REPORT)
     _declare("jillapun_converter_new", Byte, Tables, Byte, Byte, Byte, Byte, Long, _HANDLE)
     _declare("jillapun_converter_step", Byte, _HANDLE, *_ROOM, ctypes.c_bool, *_ROOM, *_ROOM, *told)

@@ -15,15 +15,6 @@ CHUNK = 1 << 16
 _rooms = Kept(1 << 16, 1 << 14)
 
 
-def opened(call: str, *words: object) -> c.Handle:
-    """A handle that a call fills."""
-    handle = c.Handle()
-    status = getattr(c.streams(), call)(*words, ctypes.byref(handle))
-    if status != c.OK:
-        refuse(status)
-    return handle
-
-
 class Conversion:
     """A conversion by steps. What it loses goes to `faults`, before the output that follows it is given."""
 

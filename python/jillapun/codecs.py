@@ -3,10 +3,8 @@
     >>> import jillapun.codecs
     >>> b"A\\x83\\x6e".decode("web-shift_jis")
     'Aハ'
-    >>> b"A\\xff".decode("web-shift_jis")
-    Traceback (most recent call last):
-        ...
-    UnicodeDecodeError: 'web-shift_jis' codec can't decode byte 0xff in position 1: malformed sequence
+    >>> b"A\\xff".decode("web-shift_jis", "backslashreplace")
+    'A\\\\xff'
 
 To import this module registers them, as `jillapun.register()` does. After it `open(path, encoding="web-gb18030")`, `csv`,
 `pandas` and all else that hands a name of an encoding to Python has them, with Python's handlers of errors.
@@ -24,11 +22,10 @@ import re
 from functools import lru_cache
 from typing import Any, Dict, List, Optional, Tuple, Type, Union
 
+from . import _coders as coders
 from . import _library as c
 from ._indexes import handle_of, number_of
 from ._labels import LABELS
-from ._results import refuse
-from ._steps import opened
 
 __all__ = ["search"]
 
@@ -40,26 +37,6 @@ _SHORT = 1 << 10
 
 # So many characters of a text are handed in at a time, and so many after a fault, since each call looks whether all are UTF-8.
 _BLOCK, _SMALL = 1 << 14, 1 << 8
-
-
-def _declared(name: str, *parameters: Any) -> Any:
-    """An export that returns a status, declared for this module alone."""
-    call = c.library[name]
-    call.restype, call.argtypes = c.Byte, parameters
-    return call
-
-
-_WRITTEN = ctypes.POINTER(c.Size)
-_LENT, _FREE = (ctypes.c_char_p, c.Size), (ctypes.c_void_p, c.Size)
-_STEP = (ctypes.POINTER(c.Handle), ctypes.c_void_p, c.Size, *_FREE, ctypes.c_bool)
-_DECODER, _ENCODER = (*_STEP, ctypes.POINTER(c.Progress)), (*_STEP, ctypes.POINTER(c.EncoderProgress))
-
-_decode_whole = _declared("jillapun_decode", c.Tables, c.Byte, c.Byte, *_LENT, *_FREE, _WRITTEN)
-_encode_whole = _declared("jillapun_encode", c.Tables, c.Byte, *_LENT, *_FREE, _WRITTEN)
-_decode_replacing = _declared("jillapun_decoder_decode_to_utf8", *_DECODER)
-_decode_stopping = _declared("jillapun_decoder_decode_to_utf8_without_replacement", *_DECODER)
-_encode_replacing = _declared("jillapun_encoder_encode_from_utf8", *_ENCODER)
-_encode_stopping = _declared("jillapun_encoder_encode_from_utf8_without_replacement", *_ENCODER)
 
 
 class _Room:
@@ -146,7 +123,7 @@ class Coding:
         """The text, or nothing if there is a malformed sequence, or an undecided one, that the caller has to see."""
         room = _room()
         words = self.number, self.mark(state), data, len(data), room.at, _ROOM, room.written
-        status = _decode_whole(handle_of(None), *words)
+        status = coders.decode_whole(handle_of(None), *words)
         is_enough = status == c.OK or (status == c.LOSSY and final and errors == "replace")
         text = room.text(room.written.value) if is_enough else None
         _rooms.append(room)
@@ -169,7 +146,7 @@ class Coding:
         except UnicodeEncodeError:
             return None
         room = _room()
-        status = _encode_whole(handle_of(None), self.number, given, len(given), room.at, _ROOM, room.written)
+        status = coders.encode_whole(handle_of(None), self.number, given, len(given), room.at, _ROOM, room.written)
         is_enough = status == c.OK or (status == c.LOSSY and errors == "xmlcharrefreplace" and not self.has_modes)
         data = room.data(room.written.value) if is_enough else None
         _rooms.append(room)
@@ -226,25 +203,22 @@ class _Decoding:
         # The decoder began at `_base`, and has read what stands before `_at`.
         self._start, self._base, self._at = c.address_of(data), 0, 0
         self._parts: List[str] = []
-        self._room, self._progress = _room(), c.Progress()
+        self._room, self._progress = _room(), coders.Progress()
         self._open()
 
     def _open(self) -> None:
         """A decoder in the state, which reads on from where this is."""
-        self._handle = opened(
-            "jillapun_decoder_new", handle_of(None), self._coding.number, self._coding.mark(self._state)
-        )
-        begin = self._coding.begins[self._state]
+        coding = self._coding
+        self._handle = coders.new_decoder(handle_of(None), coding.number, coding.mark(self._state))
+        begin = coding.begins[self._state]
         if begin:
-            self._call(_decode_stopping, c.address_of(begin), len(begin), False)
+            self._call(coders.decode_stopping, c.address_of(begin), len(begin), False)
 
     def _close(self) -> None:
-        c.library.jillapun_decoder_free(ctypes.byref(self._handle))
+        coders.free_decoder(self._handle)
 
     def _call(self, call: Any, at: int, size: int, last: bool) -> int:
-        status = call(self._handle, at, size, self._room.at, _ROOM, last, self._progress)
-        if status != c.OK:
-            refuse(status)
+        coders.checked(call(self._handle, at, size, self._room.at, _ROOM, last, self._progress))
         return int(self._progress.outcome)
 
     def _step(self, call: Any, last: bool) -> int:
@@ -256,10 +230,10 @@ class _Decoding:
 
     def run(self, final: bool) -> Tuple[str, int, int]:
         try:
-            call = _decode_replacing if self._errors == "replace" else _decode_stopping
+            call = coders.decode_replacing if self._errors == "replace" else coders.decode_stopping
             outcome = self._step(call, final)
-            while outcome != c.INPUT_EMPTY:
-                if outcome == c.MALFORMED:
+            while outcome != coders.INPUT_EMPTY:
+                if outcome == coders.MALFORMED:
                     self._replace()
                 outcome = self._step(call, final)
             end = len(self._data) - (0 if final else self._undecided())
@@ -288,7 +262,7 @@ class _Decoding:
     def _undecided(self) -> int:
         """How many bytes at the end are not decided: so many are malformed if the input ends here."""
         size = 0
-        if self._step(_decode_stopping, True) == c.MALFORMED:
+        if self._step(coders.decode_stopping, True) == coders.MALFORMED:
             size = self._progress.malformed_length + self._progress.malformed_after
         return size + self._coding.held(self._data[self._base : len(self._data) - size])
 
@@ -300,10 +274,10 @@ class _Encoding:
         self._coding, self._text, self._errors, self._state = coding, text, errors, state
         # The library writes the references of `xmlcharrefreplace` itself, but for controls that ISO-2022-JP refuses.
         is_replacing = errors == "xmlcharrefreplace" and not coding.has_modes
-        self._call = _encode_replacing if is_replacing else _encode_stopping
+        self._call = coders.encode_replacing if is_replacing else coders.encode_stopping
         self._parts: List[bytes] = []
-        self._room, self._progress = _room(), c.EncoderProgress()
-        self._handle = opened("jillapun_encoder_new", handle_of(None), coding.number)
+        self._room, self._progress = _room(), coders.EncoderProgress()
+        self._handle = coders.new_encoder(handle_of(None), coding.number)
         begin = coding.begin_texts[state]
         if begin:
             self._put(begin.encode())
@@ -318,7 +292,7 @@ class _Encoding:
                 at, size = (self._replace(fault), _SMALL) if fault else (at + len(block), min(2 * size, _BLOCK))
             self._put(b"", final)
         finally:
-            c.library.jillapun_encoder_free(ctypes.byref(self._handle))
+            coders.free_encoder(self._handle)
             _rooms.append(self._room)
         return b"".join(self._parts), self._state
 
@@ -340,16 +314,15 @@ class _Encoding:
         """Encodes a text in UTF-8 up to the first character without bytes. Returns how many bytes were read, and whether
         the last character of these is one."""
         start, at, room, progress = c.address_of(data), 0, self._room, self._progress
-        outcome = c.OUTPUT_FULL
-        while outcome == c.OUTPUT_FULL:
-            status = self._call(self._handle, start + at, len(data) - at, room.at, _ROOM, last, progress)
-            if status != c.OK:
-                refuse(status)
+        outcome = coders.OUTPUT_FULL
+        while outcome == coders.OUTPUT_FULL:
+            words = self._handle, start + at, len(data) - at, room.at, _ROOM, last, progress
+            coders.checked(self._call(*words))
             at, outcome = at + progress.read, progress.outcome
             self._parts.append(room.data(progress.written))
             if self._coding.has_modes:
                 self._state = self._coding.state_after(self._state, self._parts[-1])
-        return at, outcome == c.UNMAPPABLE
+        return at, outcome == coders.UNMAPPABLE
 
     def _fault(self, start: int, end: int, reason: str) -> UnicodeEncodeError:
         return UnicodeEncodeError(self._coding.name, self._text, start, end, reason)
