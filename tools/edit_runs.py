@@ -5,6 +5,7 @@ test that fails, or a fault such as an overflow where the right body has none. T
 by its module and name.
 """
 
+import itertools
 import os
 import re
 import subprocess
@@ -80,7 +81,8 @@ class Run:
             if os.path.isfile(os.path.join(folder, "args")):
                 words += ["--", *read(os.path.join(folder, "args")).split()]
             output, said = self.ran(words, folder)
-        self.lines = [line[2:] for line in said.split("\n") if line.startswith("| ")] + output.split("\n")
+        # What a program printed before it was stopped stands in standard error.
+        self.lines = output.splitlines() or [line[2:] for line in said.split("\n") if line.startswith("| ")]
         self.end = ENDED.findall(said)[-1] if ENDED.search(said) else ("none", "")
         self.fault = FAULT.search(said)
         self.failed = [name for name in FAILED.findall(output) if files == TESTS]
@@ -136,10 +138,11 @@ class Runs:
         if run.failed:
             return "%s, %s" % (crate, run.failed[0])
         if files != TESTS:
-            for line in run.lines:
-                if line not in right.lines:
-                    place = DIFFERENCE.match(line)
-                    return "%s, %s" % (crate, place[1] if place else line[:60])
+            is_whole = run.end[0] == "ended"
+            for line, wanted in (itertools.zip_longest if is_whole else zip)(run.lines, right.lines):
+                if line != wanted:
+                    place = DIFFERENCE.match(line or "")
+                    return "%s, %s" % (crate, place[1] if place else (wanted or line)[:60])
         if run.fault:
             return "%s, %s in `%s`" % (crate, run.fault[1], run.fault[2])
         if run.end[0] == "no-answer":
