@@ -5,6 +5,7 @@ test that fails, or a fault such as an overflow where the right body has none. T
 by its module and name.
 """
 
+import itertools
 import os
 import re
 import subprocess
@@ -48,8 +49,10 @@ FIRST = {
     "recode_system": ("test_examples", ()),
 }
 
-# A run has so many seconds, and a longer one only refutes a body if the right one took a quarter of this at most.
+# A run has so many seconds. One that does not end in them refutes a body if it took so many seconds of processor time more
+# than the right one; otherwise the machine was busy, and nothing is known.
 SECONDS = 400
+MORE_SECONDS = 200
 
 ENDED = re.compile(r"^run=(\S+)(?: status=(\d+))?", re.M)
 FAILED = re.compile(r"^test (\S+) \.\.\. FAILED", re.M)
@@ -77,15 +80,25 @@ class Run:
                     words += ["--data", "%s=%s" % (name, os.path.join("data", name) if is_given else empty.name)]
             if os.path.isfile(os.path.join(folder, "args")):
                 words += ["--", *read(os.path.join(folder, "args")).split()]
-            ran = subprocess.run(words, cwd=folder, capture_output=True, text=True, errors="replace", check=False)
-        self.lines = [line[2:] for line in ran.stderr.split("\n") if line.startswith("| ")] + ran.stdout.split("\n")
-        self.end = ENDED.findall(ran.stderr)[-1] if ENDED.search(ran.stderr) else ("none", "")
-        self.fault = FAULT.search(ran.stderr)
-        self.failed = [name for name in FAILED.findall(ran.stdout) if files == TESTS]
-        self.said = ran.stderr
+            output, said = self.ran(words, folder)
+        # What a program printed before it was stopped stands in standard error.
+        self.lines = output.splitlines() or [line[2:] for line in said.split("\n") if line.startswith("| ")]
+        self.end = ENDED.findall(said)[-1] if ENDED.search(said) else ("none", "")
+        self.fault = FAULT.search(said)
+        self.failed = [name for name in FAILED.findall(output) if files == TESTS]
+        self.said = said
         if self.end[0] == "none":
-            errors = ERROR.findall(ran.stderr) or ran.stderr.strip().split("\n")[-2:]
-            raise Unreadable(errors[0])
+            raise Unreadable((ERROR.findall(said) or said.strip().split("\n")[-2:])[0])
+
+    def ran(self, words, folder):
+        """Runs a command, takes down its processor time, and returns its output and its standard error."""
+        with tempfile.TemporaryFile("w+", errors="replace") as out, tempfile.TemporaryFile("w+", errors="replace") as err:
+            ran = subprocess.Popen(words, cwd=folder, stdout=out, stderr=err)
+            _, ran.returncode, used = os.wait4(ran.pid, 0)
+            self.seconds = used.ru_utime + used.ru_stime
+            out.seek(0)
+            err.seek(0)
+            return out.read(), err.read()
 
 
 def has_case(run, case):
@@ -106,7 +119,7 @@ class Runs:
                 run = Run(self.crates, crate, files)
                 if run.end not in (("ended", ""), ("ended", "0")):
                     raise Unreadable("%s with the right bodies: %s" % (crate, run.said[-500:]))
-                self.right[crate, files] = run.lines
+                self.right[crate, files] = run
             return self.right[crate, files]
 
     def refuting(self, crates, edited, last=""):
@@ -125,12 +138,15 @@ class Runs:
         if run.failed:
             return "%s, %s" % (crate, run.failed[0])
         if files != TESTS:
-            for line in run.lines:
-                if line not in right:
-                    place = DIFFERENCE.match(line)
-                    return "%s, %s" % (crate, place[1] if place else line[:60])
+            is_whole = run.end[0] == "ended"
+            for line, wanted in (itertools.zip_longest if is_whole else zip)(run.lines, right.lines):
+                if line != wanted:
+                    place = DIFFERENCE.match(line or "")
+                    return "%s, %s" % (crate, place[1] if place else (wanted or line)[:60])
         if run.fault:
             return "%s, %s in `%s`" % (crate, run.fault[1], run.fault[2])
         if run.end[0] == "no-answer":
+            if run.seconds < right.seconds + MORE_SECONDS:
+                raise Unreadable("%s did not end in %d seconds: the machine was busy" % (crate, SECONDS))
             return "%s does not end" % crate
         return None
