@@ -6,8 +6,9 @@
 A page has each public item that a public path leads to: its doc comment, its signature and its contract, as they stand
 in the source, and links from the words of the contract to `words.md`, which has each with the line above its definition
 and its place. An item that is re-exported is named by its shortest path. At its head a page has a table of calls by what
-one wants to do (`reference_calls.toml`), and the programs of `test_examples` that use it. `make lint` calls `faults`:
-a public item without a doc comment, and a page that is not what this script writes. It needs Python 3.11.
+one wants to do (`reference_calls.toml`), and the programs of `test_examples` that use it; at its end, the lemmas that
+proofs of callers cite. `make lint` calls `faults`: a public item without a doc comment, and a page that is not what this
+script writes. It needs Python 3.11.
 """
 
 import os
@@ -37,6 +38,18 @@ PROGRAMS = {
     ],
     "recode": [("whole_runs", "Convert bytes, and print what was lost", "run")],
 }
+
+# The lemmas of `specs/laws/` that proofs of callers cite beside contracts.
+LEMMAS = {
+    "encoding_mem": [
+        "sizes-append", "text-append", "scalars-append", "malformed_count-append", "AreWellFormed-append",
+        "well_formed_text", "well_formed_count", "lost_count-append", "none_lost", "all_mapped", "open_from-append",
+        "last_set-append",
+    ],
+    "encoding_front": [
+        "wrote_text", "wrote_scalars", "wrote_replaced", "wrote_mapped", "one_reported", "none_reported",
+    ],
+}  # fmt: skip
 
 # Which calls do what, by libraries.
 with open(os.path.join(TOP, "tools", "reference_calls.toml"), "rb") as file:
@@ -286,6 +299,8 @@ def contents(found, crate):
     if laws:
         links = ("[`%s`](#%s)" % (item.name, anchor("%s::%s" % (crate, item.path))) for item in laws)
         yield "- Laws: %s." % ", ".join(links)
+    if crate in LEMMAS:
+        yield "- [Lemmas](#lemmas)."
 
 
 def call_links(found, foreign, crate):
@@ -315,6 +330,30 @@ def programs(crate):
         start = next(number for number, line in enumerate(lines) if line.startswith("use "))
         yield from ["### " + does, "", "The gate proves and runs it ([%s.rt](../../%s))." % (name, path), ""]
         yield from ["```rust", *lines[start:], "```", ""]
+
+
+def lemma(crate, name):
+    """What a lemma says, by its statement if that is one line, else by the lines above it; and its place."""
+    folder = os.path.join(TOP, "crates", crate, "specs", "laws")
+    for file in sorted(os.listdir(folder)):
+        lines = read(os.path.join(folder, file)).split("\n")
+        for number, line in enumerate(lines):
+            if line.startswith("pub %s : " % name):
+                above = next(start for start in range(number, 0, -1) if not lines[start - 1].startswith("-- "))
+                is_short = not lines[number + 1].startswith(" ")
+                said = "`%s`" % line.split(" : ", 1)[1] if is_short else " ".join(text[3:] for text in lines[above:number])
+                place = "[%s:%d](../../crates/%s/specs/laws/%s#L%d)" % (file, number + 1, crate, file, number + 1)
+                return said, place
+    raise SystemExit("tools/reference.py: %s has no lemma %s" % (crate, name))
+
+
+def lemmas(crate):
+    """The lemmas that proofs of callers cite."""
+    if crate in LEMMAS:
+        yield from ["## Lemmas", "", "What proofs of callers cite beside contracts and laws, from `specs/laws/`.", ""]
+        yield from ["| Lemma | What it says | Place |", "|---|---|---|"]
+        for name in LEMMAS[crate]:
+            yield "| `%s` | %s | %s |" % (name, *lemma(crate, name))
 
 
 def programs_of(item, crate):
@@ -404,6 +443,7 @@ def pages():
             lines += ["## Laws", "", "Functions whose contracts are laws. Each has an empty body%s." % body, ""]
         for item in laws:
             lines += list(entry(item, crate))
+        lines += list(lemmas(crate))
         yield crate + ".md", re.sub(r"\n{3,}", "\n\n", "\n".join(lines)).rstrip("\n") + "\n"
         index.append("- [`%s`](%s.md): %s" % (crate, crate, " ".join(page).split(". ")[0].rstrip(".") + "."))
     yield "words.md", word_page(used)
