@@ -1,9 +1,12 @@
 -- What is there after an index is loaded.
-use Rattle.std.proofs.Common.{◌≡◌, ◌≢◌, ◌⊎◌, ◌∙◌, ℕ, List, [], ◌∷◌, ap, refl, sym, Option, None, Some, Bool, true, false, inl, inr, is_some, ◌++◌}
+use Rattle.std.proofs.Common.{◌≡◌, ◌≢◌, ◌⊎◌, ◌∙◌, ℕ, List, [], ◌∷◌, ap, refl, sym, arith, Option, None, Some, Bool, true, false, inl, inr, is_some, ◌++◌}
 use Rattle.std.specs.Prelude.{if◌then◌else◌, IfSome, MatchOption, Result, Ok, Err, option_map}
 use Rattle.std.specs.Option.{option_or}
 use Rattle.std.specs.Bool.{MatchBool}
 use Rattle.std.proofs.lemmas.Bool.{cases_eq, false_from_ne_true}
+use Rattle.std.proofs.Common.{◌<◌, drop, drop-cons, get_or, length, suc, take}
+use Rattle.std.proofs.lemmas.List.{take-append-drop}
+use Rattle.std.proofs.lemmas.List.Elements.{Contains-append_left, Contains-append_right}
 use Rattle.encoding_tables.specs.IndexLists.{IndexLists, flat_of, has}
 use Rattle.encoding_tables.specs.Kinds.{is_ranges, number, index_size}
 use Rattle.encoding_tables.specs.laws.Kinds.{number-same}
@@ -17,6 +20,7 @@ use Rattle.encoding_index.specs.declared.fault.IndexFault.{IndexFault}
 use Rattle.encoding_index.specs.declared.fault.LoadFault.{LoadFault}
 use Rattle.encoding_index.specs.declared.fault.LoadFault.TheVariants.{Text, Table}
 use Rattle.encoding_index.specs.Loads.{KeepsOtherKinds, Loads, load_fault, table_fault, text_fault}
+use Rattle.recode.specs.IndexFaults.{AddsOnly}
 use Rattle.recode.specs.Program.{AddsFromFiles, AreKept, AreOfFiles, FileTexts, IsOfText}
 
 some_there : (b : Bool) (rows : Option (List (ℕ × ℕ))) (flat : Option (List ℕ)) (r : List (ℕ × ℕ)) (f : List ℕ)
@@ -139,3 +143,31 @@ none_there false rows flat no_rows no_flat now = cc
 
 pub adds_to_none : (holds : FileTexts) (dir : List ℕ) (tables : IndexLists) → ((kind : IndexKind) → flat_of tables kind ≡ None) → tables.rows ≡ None → AreOfFiles holds dir tables
 adds_to_none holds dir tables flats rows kind now = absurd (none_there (is_ranges kind) tables.rows (flat_of tables kind) rows (flats kind) now)
+
+-- what is put there by a load is of its kind
+pub load_adds_only : (old new : IndexLists) (kind : IndexKind) → KeepsOtherKinds old new kind → AddsOnly old new (kind ∷ [])
+load_adds_only old new kind keeps k now = elim (cases_eq (number k) (number kind)) [
+  | inl same ↦ inr (0, omega arith, sym (number-same k kind same))
+  | inr apart ↦ inl (was_there (is_ranges k) (is_ranges kind) old.rows new.rows (flat_of old k) (flat_of new k) (not_ranges k kind apart) keeps.1 (keeps.0 k (λ e. apart (ap number e))) now)
+]
+
+-- what two calls put there
+pub adds_only_more : (old mid new : IndexLists) (kinds more : List IndexKind) → AddsOnly old mid kinds → AddsOnly mid new more → AddsOnly old new (kinds ++ more)
+adds_only_more old mid new kinds more first then_ k now = elim (then_ k now) [
+  | inr this ↦ inr (Contains-append_right kinds more k this)
+  | inl was ↦ elim (first k was) [
+    | inr this ↦ inr (Contains-append_left kinds more k this)
+    | inl before ↦ inl before
+  ]
+]
+
+-- the first of some kinds are some of the kinds
+pub adds_first : (old new : IndexLists) (n : ℕ) (kinds : List IndexKind) → AddsOnly old new (take n kinds) → AddsOnly old new kinds
+adds_first old new n kinds h k now = elim (h k now) [
+  | inl was ↦ inl was
+  | inr this ↦ inr (rw (← take-append-drop n kinds) (Contains-append_left (take n kinds) (drop n kinds) k this))
+]
+
+-- one of the kinds, and those before it and after it
+pub around : (kinds : List IndexKind) (i : ℕ) (d : IndexKind) → i < length kinds → kinds ≡ take i kinds ++ get_or kinds i d ∷ drop (suc i) kinds
+around kinds i d h = sym (take-append-drop i kinds) ∙ ap (λ rest. take i kinds ++ rest) (drop-cons kinds i d h)

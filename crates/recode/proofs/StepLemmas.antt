@@ -1,5 +1,5 @@
 -- How a step's parts make its clauses. What is left if a conversion failed.
-use Rattle.std.proofs.Common.{Err, ◌⊎◌, ◌≡◌, ℕ, ◌+◌, ◌≤◌, ◌<◌, add-zero, arith, length-append, append_assoc, List, [], ◌++◌, length, Option, None, Some, Bool, true, false, refl, sym, ap, ◌∙◌, subst, append-nil, take, inl, inr}
+use Rattle.std.proofs.Common.{Err, Ok, ◌⊎◌, ◌≡◌, ℕ, ◌+◌, ◌≤◌, ◌<◌, add-zero, arith, length-append, append_assoc, List, [], ◌++◌, length, Option, None, Some, Bool, true, false, refl, sym, ap, ◌∙◌, subst, append-nil, take, inl, inr}
 use Rattle.std.specs.Io.KnownBytes.{Consumes, Keeps, IsAtEnd, Appends}
 use Rattle.std.proofs.KnownBytes.{Consumes-nil, Consumes-kept, Consumes-trans, Appends-kept, Appends-trans, Keeps-refl}
 use Rattle.encoding_mem.specs.Items.{Item}
@@ -16,7 +16,7 @@ use Rattle.recode.proofs.LatencyLemmas.{advances_more, advances_start}
 use Rattle.recode.proofs.VerdictLemmas.{both_ways}
 use Rattle.recode.proofs.TraceLemmas.{Wrote-nil, Wrote-trans, tagged-append, AreCounted-trans, WritesItemsFor-start, left_behind, spared_append}
 use Rattle.recode_log.specs.Counted.{IsTold}
-use Rattle.recode.specs.Conversion.{Breaks, IsCause, IsFlushCause, message_of}
+use Rattle.recode.specs.Conversion.{Breaks, CountsFlushes, IsFlushCause, RisesBy, message_of}
 use Rattle.recode.specs.Job.{trace}
 use Rattle.recode.specs.Session.{Completes, Fails}
 use Rattle.recode.specs.declared.job.Job.{Job}
@@ -209,45 +209,38 @@ stops_within {before} {after} {s} {f} n m same h = subst (λ (k : ℕ). Stops be
 
 -- What is left if a conversion failed.
 
--- the count of the device rose that the fault is of
-abbrev pub IsCounted : (failures failures' : Failures) → Fault → Type 0
-IsCounted failures failures' Read = failures.reader < failures'.reader
-IsCounted failures failures' Write = failures.writer < failures'.writer
-IsCounted failures failures' Log = failures.log < failures'.log
-IsCounted failures failures' TooLong = Unit {0}
-IsCounted failures failures' (Unmappable i c) = Unit {0}
+rises : (n k m a : ℕ) → k ≡ n + a → k ≤ m → m ≤ k + 1 → RisesBy a n m
+rises n k m a is least most = (omega (arith, is, least), omega (arith, is, most))
 
-run_cause : (a b : Option (List ℕ)) (n m : Failures) (limit : ℕ) (bytes : List ℕ) (f : Fault) → Consumes a b bytes → PassesLimitIfTooLong (length bytes) limit f
-    → IsCounted n m f → IsCause n m a b limit f
-run_cause a b n m limit bytes Read p q h = h
-run_cause a b n m limit bytes Write p q h = h
-run_cause a b n m limit bytes Log p q h = h
-run_cause a b n m limit bytes TooLong p q h = record { input = bytes; consumed = p; past = q }
-run_cause a b n m limit bytes (Unmappable i c) p q h = tt
+rises_now : (n k m : ℕ) → k ≡ n → k < m → m ≤ k + 1 → RisesBy 1 n m
+rises_now n k m is least most = (omega (arith, is, least), omega (arith, is, most))
 
--- a run's fault is counted, and counts do not fall
-pub run_counted : (T : Type 0) (n k : Devices) (m : Failures) (f : Fault) → CountsFault {T = T} n k (Err f) → k.failures.reader ≡ m.reader → k.failures.writer ≤ m.writer → k.failures.log ≤ m.log → IsCounted n.failures m f
-run_counted T n k m Read c r w l = omega (arith, c.reader, r)
-run_counted T n k m Write c r w l = omega (arith, c.writer, w)
-run_counted T n k m Log c r w l = omega (arith, c.log, l)
-run_counted T n k m TooLong c r w l = tt
-run_counted T n k m (Unmappable i d) c r w l = tt
+-- counts after a run, and after the flushes
+module _ (n k : Devices) (m : Failures) (r : m.reader ≡ k.failures.reader) (w : k.failures.writer ≤ m.writer) (w1 : m.writer ≤ k.failures.writer + 1)
+    (l : k.failures.log ≤ m.log) (l1 : m.log ≤ k.failures.log + 1) where
+  -- a run's fault is counted
+  pub run_counted : (f : Fault) → CountsFault {T = Report} n k (Err f) → CountsFlushes n.failures m f
+  run_counted Read c = record { reader = r ∙ c.reader; writer = rises _ _ _ _ c.writer w w1; log = rises _ _ _ _ c.log l l1 }
+  run_counted Write c = record { reader = r ∙ c.reader; writer = rises _ _ _ _ c.writer w w1; log = rises _ _ _ _ c.log l l1 }
+  run_counted Log c = record { reader = r ∙ c.reader; writer = rises _ _ _ _ c.writer w w1; log = rises _ _ _ _ c.log l l1 }
+  run_counted TooLong c = record { reader = r ∙ c.reader; writer = rises _ _ _ _ c.writer w w1; log = rises _ _ _ _ c.log l l1 }
+  run_counted (Unmappable i d) c = record { reader = r ∙ c.reader; writer = rises _ _ _ _ c.writer w w1; log = rises _ _ _ _ c.log l l1 }
 
--- a failed read is the run's fault
-pub run_unread : (T : Type 0) (n k : Devices) (f : Fault) → CountsFault {T = T} n k (Err f) → n.failures.reader < k.failures.reader → f ≡ Read
-run_unread T n k Read c h = refl
-run_unread T n k Write c h = absurd (omega (arith, c.reader, h))
-run_unread T n k Log c h = absurd (omega (arith, c.reader, h))
-run_unread T n k TooLong c h = absurd (omega (arith, c.reader, h))
-run_unread T n k (Unmappable i d) c h = absurd (omega (arith, c.reader, h))
+  -- a flush's fault is counted
+  pub flush_counted : (p : Report) (f : Fault) → CountsFault n k (Ok p) → IsFlushCause k.failures.writer m.writer k.failures.log m.log f → CountsFlushes n.failures m f
+  flush_counted p Read c h = absurd h
+  flush_counted p Write c h = record { reader = r ∙ c.reader; writer = rises_now _ _ _ (c.writer ∙ add-zero _) h w1; log = rises _ _ _ _ c.log l l1 }
+  flush_counted p Log c h = record { reader = r ∙ c.reader; writer = rises _ _ _ _ c.writer w w1; log = rises_now _ _ _ (c.log ∙ add-zero _) h.1 l1 }
+  flush_counted p TooLong c h = absurd h
+  flush_counted p (Unmappable i d) c h = absurd h
 
--- a flush's fault is counted
-pub flush_cause : (n m : Failures) (writes logs limit : ℕ) (a b : Option (List ℕ)) (f : Fault) → n.writer ≤ writes → n.log ≤ logs → IsFlushCause writes m.writer logs m.log f → IsCause n m a b limit f
-flush_cause n m writes logs limit a b Read w l h = absurd h
-flush_cause n m writes logs limit a b Write w l h = omega (arith, w, h)
-flush_cause n m writes logs limit a b Log w l h = omega (arith, l, h)
-flush_cause n m writes logs limit a b TooLong w l h = absurd h
-flush_cause n m writes logs limit a b (Unmappable i c) w l h = absurd h
+-- a flush's fault is of bytes within the limit
+flush_within : (writes writes' logs logs' read limit : ℕ) (f : Fault) → IsFlushCause writes writes' logs logs' f → read ≤ limit → PassesLimitIfTooLong read limit f
+flush_within writes writes' logs logs' read limit Read h within = absurd h
+flush_within writes writes' logs logs' read limit Write h within = within
+flush_within writes writes' logs logs' read limit Log h within = within
+flush_within writes writes' logs logs' read limit TooLong h within = absurd h
+flush_within writes writes' logs logs' read limit (Unmappable i d) h within = absurd h
 
 -- and stops nothing
 pub flush_stop : (writes writes' logs logs' : ℕ) (p : Policy) (taken : List TaggedByte) (written : List Item) (f : Fault) → IsFlushCause writes writes' logs logs' f → IsStop p f taken written
@@ -258,23 +251,22 @@ flush_stop writes writes' logs logs' p taken written TooLong h = tt
 flush_stop writes writes' logs logs' p taken written (Unmappable i c) h = absurd h
 
 -- the log with its message, after what was written and flushed
-module _ (before after : Devices) (flushed : Written) (log : Option (List ℕ)) (m : Failures) (untold : ℕ) (j : Job) (kept : KeepsWritten after.written flushed) (since : before.failures.log ≤ untold) where
+module _ (before after : Devices) (flushed : Written) (log : Option (List ℕ)) (m : Failures) (untold : ℕ) (j : Job) (kept : KeepsWritten after.written flushed) where
   told_log : (taken : List TaggedByte) (message : List ℕ) → Wrote before.written after.written taken → Appends flushed.log log message → Appends before.written.log log (log_bytes taken ++ message)
   told_log taken message wrote told =
       Appends-trans before.written.log flushed.log log (log_bytes taken) message (Appends-kept before.written.log after.written.log flushed.log (log_bytes taken) wrote.lined kept.log) told
 
   -- by a run that failed
-  pub run_broke : (f : Fault) → Fails before after j f → (k : ℕ) × IsTold untold m.log (message_of f) k × Appends flushed.log log (take k (message_of f)) → IsCounted before.failures (record m { log = untold }) f
-      → (before.failures.reader < m.reader → f ≡ Read) → Breaks before (record { input = after.input; written = record { output = flushed.output; log = log }; failures = m }) j
-  run_broke f k told counted unread = record {
+  pub run_broke : (f : Fault) → Fails before after j f → (k : ℕ) × IsTold untold m.log (message_of f) k × Appends flushed.log log (take k (message_of f))
+      → CountsFlushes before.failures (record m { log = untold }) f → Breaks before (record { input = after.input; written = record { output = flushed.output; log = log }; failures = m }) j
+  run_broke f k told counted = record {
     read = k.read;
-    unread = unread;
     within = k.within;
+    limited = k.limited;
     taken = k.taken;
     fault = f;
     untold = untold;
-    since = since;
-    cause = run_cause before.input after.input before.failures (record m { log = untold }) j.limit (k.read.input ++ k.read.refused) f k.read.consumed k.limited counted;
+    counted = counted;
     told = told.0;
     whole = told.1;
     output = Appends-kept before.written.output after.written.output flushed.output (output_bytes k.taken) k.wrote.output kept.output;
@@ -285,26 +277,25 @@ module _ (before after : Devices) (flushed : Written) (log : Option (List ℕ)) 
 
   -- by a flush that failed
   pub flush_broke : (p : Report) (g : Fault) → Completes before after j p → (k : ℕ) × IsTold untold m.log (message_of g) k × Appends flushed.log log (take k (message_of g))
-      → IsCause before.failures (record m { log = untold }) before.input after.input j.limit g → ((taken : List TaggedByte) (written : List Item) → IsStop j.policy g taken written) → m.reader ≡ before.failures.reader
+      → CountsFlushes before.failures (record m { log = untold }) g → (writes writes' logs logs' : ℕ) → IsFlushCause writes writes' logs logs' g
       → Breaks before (record { input = after.input; written = record { output = flushed.output; log = log }; failures = m }) j
-  flush_broke p g k told cause stop same =
+  flush_broke p g k told counted writes writes' logs logs' cause =
       let w = k.converted.whole in
       let all : List TaggedByte = tagged (trace j k.input) in
       record {
         read = record { input = k.input; refused = []; ended = true; consumed = subst (Consumes before.input after.input) (sym (append-nil k.input)) k.consumed; end = λ h. k.end; none = λ h. refl; spared = λ h. refl };
-        unread = λ h. absurd (omega (arith, h, same));
         within = w.within;
+        limited = flush_within writes writes' logs logs' _ j.limit g cause (rw (append-nil k.input) w.within);
         taken = all;
         fault = g;
         untold = untold;
-        since = since;
-        cause = cause;
+        counted = counted;
         told = told.0;
         whole = told.1;
         output = Appends-kept before.written.output after.written.output flushed.output (output_bytes all) w.output kept.output;
         logged = told_log all (take told.0 (message_of g)) (record { output = w.output; lined = w.logged }) told.2;
         prefix = λ r h. ([], ap (λ t. tagged (trace j t)) (ap (λ t. k.input ++ t) (h refl) ∙ append-nil k.input) ∙ sym (append-nil all));
-        stopped = λ r h. stop all (trace j (k.input ++ r));
+        stopped = λ r h. flush_stop writes writes' logs logs' j.policy all (trace j (k.input ++ r)) g cause;
       }
 
 -- a reader that gave no byte, and is at its end, was at its end before

@@ -1,17 +1,19 @@
 -- What a whole conversion says by its status.
-use Rattle.std.specs.Prelude.{◌≡◌, ℕ, ◌<◌, ◌≤◌, ◌⊎◌, List, [], ◌++◌, length, take, Option, true, codes}
+use Rattle.std.specs.Prelude.{◌≡◌, ℕ, ◌+◌, ◌<◌, ◌≤◌, ◌⊎◌, List, [], ◌++◌, length, take, Err, true, codes}
 use Rattle.std.specs.Io.KnownBytes.{Appends, Consumes, IsAtEnd}
 use Rattle.recode_log.specs.Counted.{IsTold}
 use Rattle.recode_log.specs.Line.{row_bytes}
 use Rattle.recode.specs.Job.{trace, Faithful}
 use Rattle.recode.specs.Session.{WroteWhole}
-use Rattle.recode.specs.Step.{WasRead}
+use Rattle.recode.specs.Step.{PassesLimitIfTooLong, WasRead}
 use Rattle.recode.specs.Devices.{Devices, Failures}
+use Rattle.recode.specs.Fault.{log_failures, reader_failures, writer_failures}
 use Rattle.recode.specs.TaggedByte.{TaggedByte, IsPrefix, tagged, output_bytes, log_bytes}
 use Rattle.recode.specs.WrittenItems.{IsStop}
 use Rattle.recode.specs.declared.job.Fault.{Fault}
 use Rattle.recode.specs.declared.job.Fault.TheVariants.{Read, Write, Log, TooLong, Unmappable}
 use Rattle.recode.specs.declared.job.Job.{Job}
+use Rattle.recode.specs.declared.job.Report.{Report}
 
 -- The input was read whole and is within the limit, the policy did not stop, output and log are whole, and the status
 -- says whether anything was lost.
@@ -24,25 +26,22 @@ pub record Converts (before after : Devices) (j : Job) (status : ℕ) : Type 0 w
   pub faithful : status ≡ 0 → Faithful j input
   pub lossy : status ≡ 1 → ¬ (Faithful j input)
 
--- more bytes were read than the limit
-pub record PassedLimit (before after : Option (List ℕ)) (limit : ℕ) : Type 0 where
-  pub input : List ℕ
-  pub consumed : Consumes before after input
-  pub past : limit < length input
+-- a count rose by a number, or by one more
+abbrev pub RisesBy : (n before after : ℕ) → Type 0
+RisesBy n before after = (before + n ≤ after) × (after ≤ before + n + 1)
 
--- a call of the device that the fault is of failed, or the input is too long, or the policy stopped the run
-abbrev pub IsCause : (failures failures' : Failures) (before after : Option (List ℕ)) (limit : ℕ) → Fault → Type 0
-IsCause failures failures' before after limit Read = failures.reader < failures'.reader
-IsCause failures failures' before after limit Write = failures.writer < failures'.writer
-IsCause failures failures' before after limit Log = failures.log < failures'.log
-IsCause failures failures' before after limit TooLong = PassedLimit before after limit
-IsCause failures failures' before after limit (Unmappable index scalar) = Unit {0}
+-- The count of the device that the fault is of rose by one. That of the writer and that of the log may have risen by one
+-- more, as each is flushed once, whatever came before.
+pub record CountsFlushes (before after : Failures) (fault : Fault) : Type 0 where
+  pub reader : after.reader ≡ before.reader + reader_failures {T = Report} (Err fault)
+  pub writer : RisesBy (writer_failures {T = Report} (Err fault)) before.writer after.writer
+  pub log : RisesBy (log_failures {T = Report} (Err fault)) before.log after.log
 
--- a flush failed of the writer that the fault is of
+-- a flush failed of the writer that the fault is of, and of the log alone if the fault is of it
 abbrev pub IsFlushCause : (writes writes' logs logs' : ℕ) → Fault → Type 0
 IsFlushCause writes writes' logs logs' Read = ⊥
 IsFlushCause writes writes' logs logs' Write = writes < writes'
-IsFlushCause writes writes' logs logs' Log = logs < logs'
+IsFlushCause writes writes' logs logs' Log = (writes' ≡ writes) × (logs < logs')
 IsFlushCause writes writes' logs logs' TooLong = ⊥
 IsFlushCause writes writes' logs logs' (Unmappable index scalar) = ⊥
 
@@ -55,18 +54,18 @@ message_of TooLong = codes "recode: input too long\n"
 message_of (Unmappable index scalar) = row_bytes (codes "recode: unmappable ") index scalar
 
 -- What a failed conversion leaves. Output and log are a prefix of what any continuation of the bytes read gives (none
--- if the end was read), in their one order. After it the log has a prefix of the message of a fault that came, and
--- all of it if no call of the log failed while it was written. `untold` is the log's count when it was begun. If the
--- policy stopped the run, `stopped` says at which character.
+-- if the end was read), in their one order. After it the log has a prefix of the message of the fault, and all of it if
+-- no call of the log failed while it was written. If the policy stopped the run, `stopped` says at which character.
+-- `untold` is what the log's count may have been when the message was begun: the counts say that the fault came, and
+-- that nothing failed but it and flushes. They do not say which of two failed calls came first.
 pub record Breaks (before after : Devices) (j : Job) : Type 0 where
   pub fault : Fault
   pub read : WasRead before.input after.input fault
   pub within : length read.input ≤ j.limit
+  pub limited : PassesLimitIfTooLong (length (read.input ++ read.refused)) j.limit fault
   pub taken : List TaggedByte
-  pub unread : before.failures.reader < after.failures.reader → fault ≡ Read
   pub untold : ℕ
-  pub since : before.failures.log ≤ untold
-  pub cause : IsCause before.failures (record after.failures { log = untold }) before.input after.input j.limit fault
+  pub counted : CountsFlushes before.failures (record after.failures { log = untold }) fault
   pub told : ℕ
   pub whole : IsTold untold after.failures.log (message_of fault) told
   pub output : Appends before.written.output after.written.output (output_bytes taken)

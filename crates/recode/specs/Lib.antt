@@ -13,5 +13,6 @@ pub mod Runs
 pub mod Latency
 pub mod Conversion
 pub mod Program
+pub mod IndexFaults
 pub mod calls
 pub mod examples

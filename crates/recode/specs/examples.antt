@@ -2,4 +2,6 @@
 pub mod Jobs
 pub mod WrittenItems
 pub mod Slices
+pub mod IndexFaults
+pub mod Conversion
 pub mod Work

@@ -42,6 +42,7 @@ fn flush_both<W: Write, L: Write>(
     ensures err { IfErr result (IsFlushCause (failures_of writer.old) (failures_of writer.new)
         (failures_of log.old) (failures_of log.new)) }
     ensures writer_count { failures_of writer.old ≤ failures_of writer.new }
+    ensures writer_bound { failures_of writer.new ≤ failures_of writer.old + 1 }
     ensures log_count { failures_of log.old ≤ failures_of log.new }
     ensures log_bound { failures_of log.new ≤ failures_of log.old + 1 }
 {

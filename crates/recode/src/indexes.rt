@@ -1,8 +1,12 @@
 //! Where index files come from, and the indexes that an encoding needs, each loaded once.
 
-ghost use Rattle.std.specs.Prelude.{◌≡◌, IfOk, IfSome, List, OnOk, Option, true, ℕ};
+ghost use Rattle.std.specs.Prelude.{◌≡◌, ◌∷◌, [], IfErr, IfOk, IfSome, List, OnErr, OnOk, Option};
+ghost use Rattle.std.specs.Prelude.{false, true, ℕ};
+ghost use Rattle.encoding_tables.specs.FileNames.{file_name_of};
 ghost use Rattle.encoding_tables.specs.IndexLists.{has};
-ghost use Rattle.encoding_front.specs.Encodings.{IsReady};
+ghost use Rattle.encoding_front.specs.Encodings.{IsReady, needs_of};
+ghost use Rattle.recode.specs.IndexFaults.{AddsOnly, IsReadFault, IsStartFault, LacksOne};
+ghost use Rattle.recode.specs.IndexFaults.{ReportsFault, table_fault_name};
 ghost use Rattle.recode.specs.Program.{AddsFromFiles, AreKept};
 
 use encoding_front::Encoding;
@@ -30,10 +34,12 @@ pub trait IndexSource {
 
     /// The bytes of the file with this name in the folder `dir`, all of them. The error is
     /// `Missing` if there is no such file that can be read, or if it is longer than the source
-    /// takes, and `Memory` if memory was refused.
+    /// takes, and `Memory` if memory was refused. If the source says the bytes of the file, it is
+    /// not `Missing`.
     fn read_file(&mut self, alloc: Global, dir: &str, file: &str) -> Result<Vec<u8>, SourceFault>
         ensures text { IfOk result (λ bytes. IfSome (holds self.old dir.now file.now)
             (λ text. bytes.items ≡ text)) }
+        ensures fault { IfErr result (IsReadFault (holds self.old dir.now file.now)) }
         ensures files { (d f : List ℕ) → holds self.new d f ≡ holds self.old d f };
 }
 
@@ -65,7 +71,9 @@ pub enum StartFault {
 }
 
 // The name of the variant.
-fn name_of(fault: &TableFault) -> &'static str {
+fn name_of(fault: &TableFault) -> &'static str
+    ensures { result.now ≡ table_fault_name fault.now }
+{
     match fault {
         TableFault::Present => "Present",
         TableFault::Size => "Size",
@@ -77,7 +85,9 @@ fn name_of(fault: &TableFault) -> &'static str {
 }
 
 // What is reported of a file that was not loaded.
-fn fault_of(file: &'static str, fault: &LoadFault) -> StartFault {
+fn fault_of(file: &'static str, fault: &LoadFault) -> StartFault
+    ensures { ReportsFault file.now fault.now result }
+{
     match fault {
         LoadFault::Text(text) => {
             if text.kind == IndexFaultKind::Memory {
@@ -107,6 +117,11 @@ fn load_index<S: IndexSource>(
     tables: &mut Tables,
 ) -> Result<(), StartFault>
     ensures there { OnOk result (has tables.new kind ≡ true) }
+    ensures lacking { OnErr result (has tables.new kind ≡ false) }
+    ensures unchanged { OnErr result (tables.new ≡ tables.old) }
+    ensures why { IfErr result (IsStartFault tables.new kind
+        (S.holds source.old dir.now (file_name_of kind))) }
+    ensures added { AddsOnly tables.old tables.new (kind ∷ []) }
     ensures once { has tables.old kind ≡ true → source.new ≡ source.old }
     ensures kept { AreKept tables.old tables.new }
     ensures files { AddsFromFiles (S.holds source.old) (S.holds source.new) dir.now tables.old
@@ -127,8 +142,11 @@ fn load_index<S: IndexSource>(
     }
 }
 
-/// Puts the indexes that the encoding needs into the tables, each once, in the order of `needs`, up
-/// to the first that is missing or faulty: that is the error, and those before it are there.
+/// Puts the indexes that the encoding needs into the tables, and no others, each once, in the order
+/// of `needs`. An index that is there already is not loaded again.
+///
+/// The error is that of the first whose file is missing or faulty, or at which memory was refused:
+/// those before it are there, and none after it was loaded.
 pub fn load_indexes<S: IndexSource>(
     alloc: Global,
     source: &mut S,
@@ -137,6 +155,9 @@ pub fn load_indexes<S: IndexSource>(
     tables: &mut Tables,
 ) -> Result<(), StartFault>
     ensures there { OnOk result (IsReady tables.new encoding) }
+    ensures lacking { IfErr result (LacksOne (S.holds source.old) dir.now tables.old tables.new
+        (needs_of encoding)) }
+    ensures added { AddsOnly tables.old tables.new (needs_of encoding) }
     ensures kept { AreKept tables.old tables.new }
     ensures files { AddsFromFiles (S.holds source.old) (S.holds source.new) dir.now tables.old
         tables.new }

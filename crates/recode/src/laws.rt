@@ -43,14 +43,16 @@ ghost use Rattle.recode.specs.TaggedByte.{IsPrefix, TaggedByte};
 ghost use Rattle.recode.specs.WrittenItems.{StopsAtLoss, bad_line_count, lost_line_count};
 ghost use Rattle.recode.specs.declared.job.Fault.{Fault};
 ghost use Rattle.recode.specs.declared.job.Job.{Job};
+ghost use Rattle.recode.specs.IndexFaults.{IsSameStartFault};
 ghost use Rattle.recode.specs.declared.indexes.SourceFault.{SourceFault};
+ghost use Rattle.recode.specs.declared.indexes.StartFault.{StartFault};
 ghost use Rattle.recode.specs.declared.job.Policy.{Policy};
 ghost use Rattle.recode.specs.declared.job.Progress.{Progress};
 ghost use Rattle.recode.specs.declared.job.Report.{Report};
 ghost use Rattle.recode.specs.declared.session.Phase.{Phase};
 ghost use Rattle.recode.specs.declared.target.Counts.{Counts};
 
-use crate::indexes::SourceFault;
+use crate::indexes::{SourceFault, StartFault};
 use crate::job::{Fault, Policy, Progress, Report};
 use crate::session::Phase;
 use crate::target::Counts;
@@ -64,6 +66,8 @@ pub fn reports_are_compared()
     ensures policy { (a b : Policy) → IsTrue (⟦<Policy as PartialEq>⟧.eq a b) ↔ (a ≡ b) }
     ensures source { (a b : SourceFault)
         → IsTrue (⟦<SourceFault as PartialEq>⟧.eq a b) ↔ (a ≡ b) }
+    ensures start { (a b : StartFault)
+        → IsTrue (⟦<StartFault as PartialEq>⟧.eq a b) ↔ IsSameStartFault a b }
     ensures phase { (a b : Phase) → IsTrue (⟦<Phase as PartialEq>⟧.eq a b) ↔ (a ≡ b) }
     ensures counts { (a b : Counts) → IsTrue (⟦<Counts as PartialEq>⟧.eq a b) ↔ (a ≡ b) }
 {}

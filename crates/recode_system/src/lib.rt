@@ -14,6 +14,7 @@
 
 pub mod command_line;
 mod index_file;
+pub mod laws;
 mod system_files;
 mod system_words;
 

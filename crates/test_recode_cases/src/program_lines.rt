@@ -1,6 +1,8 @@
-//! Lines that call the program, and lines of the words and of the log lines that it reads.
+//! Lines that call the program, and lines of the words and of the log lines that it reads, and of
+//! the texts of faults.
 
 use crate::calls::check_call;
+use crate::faults::check_fault;
 use crate::words::{check_invalid, check_line, check_part, check_refused, check_words};
 use anyhow::bail;
 use test_case_lines::file::Lines;
@@ -27,6 +29,7 @@ impl Lines for ProgramLines {
             "line" => check_line(rt, words, report),
             "invalid" => check_invalid(rt, words, report),
             "no-line" => check_refused(rt, words, report),
+            "fault" => check_fault(rt, words, report),
             _ => bail!("a line is not understood"),
         }
     }

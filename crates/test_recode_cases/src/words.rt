@@ -29,7 +29,7 @@ fn answer(alloc: Global, line: &str) -> anyhow::Result<String> {
 }
 
 // Splits a line at `form` into the words and the text after it.
-fn parts<'a>(words: &'a str, form: &str) -> anyhow::Result<(&'a str, &'a str)> {
+pub(crate) fn parts<'a>(words: &'a str, form: &str) -> anyhow::Result<(&'a str, &'a str)> {
     let (line, told) = words.split_once(form).context("a line has no answer")?;
     Ok((
         line.strip_suffix(' ').unwrap_or(line),

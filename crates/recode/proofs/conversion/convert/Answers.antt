@@ -1,17 +1,16 @@
-use Rattle.std.proofs.Common.{arith, refl}
-use Rattle.recode.proofs.StepLemmas.{run_broke, run_counted, run_unread, flush_broke, flush_cause, flush_stop}
-use Rattle.recode.specs.declared.job.Report.{Report}
+use Rattle.std.proofs.Common.{refl}
+use Rattle.recode.proofs.StepLemmas.{run_broke, run_counted, flush_broke, flush_counted}
 use Rattle.recode.proofs.conversion.convert.Goals as goal
 
 pub returns-in-Err-flushed-clause-broken : goal.returns-in-Err-flushed-clause-broken
 returns-in-Err-flushed-clause-broken g c is =
-    flush_broke _ _ _ _ _ _ c.args.job c.flush_both-flushed.ensures.kept (omega (arith, c.in-Ok.ensures.failures.log, c.flush_both-flushed.ensures.log_count)) _ _ c.in-Ok.ensures.completes c.tell_fault.ensures
-    (flush_cause _ _ _ _ _ _ _ _ (omega (arith, c.in-Ok.ensures.failures.writer)) (omega (arith, c.in-Ok.ensures.failures.log)) c.in-Err-flushed.ensures.err)
-    (λ taken written. flush_stop _ _ _ _ c.args.job.policy taken written _ c.in-Err-flushed.ensures.err)
-    (omega (arith, c.in-Ok.ensures.failures.reader))
+    let flush = c.flush_both-flushed.ensures in
+    flush_broke _ _ _ _ _ _ c.args.job flush.kept _ _ c.in-Ok.ensures.completes c.tell_fault.ensures
+    (flush_counted _ _ _ refl flush.writer_count flush.writer_bound flush.log_count flush.log_bound _ _ c.in-Ok.ensures.failures c.in-Err-flushed.ensures.err)
+    _ _ _ _ c.in-Err-flushed.ensures.err
 
 pub returns-in-Err-clause-broken : goal.returns-in-Err-clause-broken
 returns-in-Err-clause-broken g c is =
-    run_broke _ _ _ _ _ _ c.args.job c.flush_both-flushed.ensures.kept (omega (arith, c.in-Err.ensures.failures.log, c.flush_both-flushed.ensures.log_count)) _ c.in-Err.ensures.fails c.tell_fault-in-Err.ensures
-    (run_counted Report _ _ _ _ c.in-Err.ensures.failures refl c.flush_both-flushed.ensures.writer_count c.flush_both-flushed.ensures.log_count)
-    (run_unread Report _ _ _ c.in-Err.ensures.failures)
+    let flush = c.flush_both-flushed.ensures in
+    run_broke _ _ _ _ _ _ c.args.job flush.kept _ c.in-Err.ensures.fails c.tell_fault-in-Err.ensures
+    (run_counted _ _ _ refl flush.writer_count flush.writer_bound flush.log_count flush.log_bound _ c.in-Err.ensures.failures)

@@ -1,0 +1,26 @@
+-- Worked rows: why an index is not there.
+use Rattle.std.specs.Prelude.{◌≡◌, ℕ, List, Some, None, codes, refl}
+use Rattle.std.proofs.Common.{Bor}
+use Rattle.encoding_index.specs.IndexLine.{is_skipped, row_in}
+use Rattle.encoding_index.specs.IndexText.{row_fault}
+use Rattle.encoding_index.specs.Loads.{load_fault}
+use Rattle.encoding_index.specs.declared.fault.IndexFaultKind.TheVariants.{Order}
+use Rattle.encoding_index.specs.declared.fault.LoadFault.TheVariants.{Text}
+use Rattle.encoding_tables.specs.IndexLists.{IndexLists}
+use Rattle.encoding_tables.specs.declared.index_kind.IndexKind.TheVariants.{Jis0208}
+use Rattle.recode.specs.IndexFaults.{IsStartFault}
+use Rattle.recode.specs.declared.indexes.StartFault.{StartFault}
+
+-- its third line has the pointer of the first again
+repeated : List ℕ
+repeated = codes "0\t0x3000\n\n0\t0x3001"
+
+third_line : (t : IndexLists) (file : Bor (List ℕ)) → file.now ≡ codes "index-jis0208.txt" → IsStartFault t Jis0208 (Some repeated) (StartFault.Line file 3 Order)
+unfolding load_fault is_skipped row_in row_fault repeated
+third_line t file named = record { text = repeated; known = refl; fault = Text (record { line = 3; kind = Order }); loading = refl; reports = (named, refl, refl, λ h. cc) }
+
+not_missing : (t : IndexLists) (file : Bor (List ℕ)) → IsStartFault t Jis0208 (Some repeated) (StartFault.Missing file) → ⊥
+not_missing t file h = let known : Some repeated ≡ None = h.1 in cc
+
+not_another_file : (t : IndexLists) (file : Bor (List ℕ)) → file.now ≡ codes "index-big5.txt" → IsStartFault t Jis0208 None (StartFault.Missing file) → ⊥
+not_another_file t file named h = let same : codes "index-big5.txt" ≡ codes "index-jis0208.txt" = rw (← named) h.0 in cc
