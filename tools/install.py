@@ -89,16 +89,21 @@ The folder can stand anywhere.
 """
 
 
-def copied(source, target, mode):
+def cleared(target):
+    """Makes place for a file: another may be a link, or a program that runs."""
     os.makedirs(os.path.dirname(target), exist_ok=True)
     if os.path.lexists(target):
         os.remove(target)
+
+
+def copied(source, target, mode):
+    cleared(target)
     shutil.copyfile(os.path.join(TOP, source), target)
     os.chmod(target, mode)
 
 
 def written(text, target, mode=0o644):
-    os.makedirs(os.path.dirname(target), exist_ok=True)
+    cleared(target)
     with open(target, "w", encoding="utf-8") as file:
         file.write(text)
     os.chmod(target, mode)
@@ -125,8 +130,7 @@ def links(target):
     copied(SHARED + "." + c_library.version(), os.path.join(target, name), 0o755)
     for link in others:
         path = os.path.join(target, link)
-        if os.path.lexists(path):
-            os.remove(path)
+        cleared(path)
         os.symlink(name, path)
 
 
