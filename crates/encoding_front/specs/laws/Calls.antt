@@ -39,8 +39,8 @@ took_all before after src taken read rest left =
     ∙ ap (λ (x : List ℕ). taken ++ after x) (append-nil (drop read src) ∙ left.0) ∙ ap (λ (ps : List Piece). taken ++ ps) left.1 ∙ append-nil taken
     )
 
--- A call that writes U+FFFD for each malformed sequence wrote the text of all pieces, and returned whether one of them is
--- malformed.
+-- A last call that read all, with U+FFFD for each malformed sequence, wrote the text of all pieces that were to come, and
+-- returned whether one of them is malformed.
 pub wrote_text : (v v' : DecoderView) (src : List ℕ) (read : ℕ) (W : List ℕ → Type 0) (free room mark : ℕ) (outcome : CoderResult) (had_errors : Bool)
     → TextCall v v' src true read W free room mark outcome had_errors → outcome ≡ CoderResult.InputEmpty → W (text (v.state.pieces src)) × (IsTrue had_errors ↔ (0 < malformed_count (v.state.pieces src)))
 wrote_text v v' src read W free room mark outcome had_errors call is =
@@ -48,7 +48,8 @@ wrote_text v v' src read W free room mark outcome had_errors call is =
     let all : call.law.taken ≡ v.state.pieces src = took_all v.state.pieces v'.state.pieces src call.law.taken read call.law.rest left in
     (subst (λ (ps : List Piece). W (text ps)) all call.law.writes, subst (λ (ps : List Piece). IsTrue had_errors ↔ (0 < malformed_count ps)) all call.law.had)
 
--- A call that stops at malformed sequences wrote the text of all pieces, none of which is malformed.
+-- A last call that read all, and stops at malformed sequences, wrote the text of all pieces that were to come, none of
+-- which is malformed.
 pub wrote_scalars : (v v' : DecoderView) (src : List ℕ) (read : ℕ) (W : List ℕ → Type 0) (free room mark : ℕ) (outcome : DecoderResult)
     → DecoderCall v v' src true read W free room mark outcome → outcome ≡ InputEmpty → W (text (v.state.pieces src)) × AreWellFormed (v.state.pieces src)
 wrote_scalars v v' src read W free room mark outcome call is =
@@ -65,7 +66,8 @@ closed : (x x' : EncoderState) (text written rest : List ℕ) → whole_from Dec
 closed x x' text written rest bytes left =
     sym (bytes ∙ rw (left.0, left.1, (coding_laws x.tables x.encoding).same Ascii) (append-nil written))
 
--- A call that writes references wrote the bytes of the whole text, and returned whether a character of it has none.
+-- A last call that read all, and writes references, wrote the bytes of the whole text, and returned whether a character
+-- of it has none.
 pub wrote_replaced : (x x' : EncoderState) (text written rest : List ℕ) (lost : Bool) (size : ℕ) (outcome : CoderResult)
     → Replaces x true outcome text written x' rest lost size → outcome ≡ CoderResult.InputEmpty
     → (written ≡ whole_from Decimal (coding_in x) x.set text) × (IsTrue lost ↔ (0 < lost_count (coding_in x) text))
@@ -74,7 +76,8 @@ wrote_replaced x x' text written rest lost size CoderResult.InputEmpty call is =
     (closed x x' text written rest call.bytes (call.ends.0, call.ends.1 refl), subst (λ (t : List ℕ). IsTrue lost ↔ (0 < lost_count (coding_in x) t)) all call.told)
 wrote_replaced x x' text written rest lost size CoderResult.OutputFull call is = absurd (cc)
 
--- A call that stops at characters without bytes wrote the bytes of the whole text, each character of which has some.
+-- A last call that read all, and stops at characters without bytes, wrote the bytes of the whole text, each character of
+-- which has some.
 pub wrote_mapped : (x x' : EncoderState) (text written rest : List ℕ) (room : ℕ) (outcome : EncoderResult) → Encoded x true outcome text written x' rest room → outcome ≡ EncoderResult.InputEmpty
     → (written ≡ whole_from Decimal (coding_in x) x.set text) × AllMapped (coding_in x) text
 wrote_mapped x x' text written rest room EncoderResult.InputEmpty call is =
@@ -98,7 +101,7 @@ one_reported x x' last text written rest room c outcome call is =
     subst (λ (o : EncoderResult). Encodes (coding_in x) last o x.set text written x'.set rest) is call.codec.law in
     omega (arith, lost_before (coding_in x) last (EncoderResult.Unmappable c) x.set text written x'.set rest law, ap (lost_count (coding_in x)) law.leaves.1, ap unmapped_count law.leaves.2)
 
--- Any other call leaves as many.
+-- A call that reports no character leaves as many.
 pub none_reported : (x x' : EncoderState) (last : Bool) (text written rest : List ℕ) (room : ℕ) (outcome : EncoderResult) → Encoded x last outcome text written x' rest room → IsNotUnmappable outcome
     → lost_count (coding_in x) text ≡ lost_count (coding_in x) rest
 none_reported x x' last text written rest room EncoderResult.InputEmpty call other =
