@@ -3,10 +3,14 @@
 //! page.
 //!
 //! There are also programs as users write them: `stream_faults`, `stream_losses`, `whole_runs` and
-//! `whole_texts`. Each loads its indexes and uses them in one function.
+//! `whole_texts`. Each loads its indexes and uses them in one function. `decoded_texts` and
+//! `lost_characters` have functions whose contracts users prove from the contracts and laws of the
+//! libraries.
 #![tactic(auto)]
 
 mod conversions;
+mod decoded_texts;
+mod lost_characters;
 mod places;
 mod reports;
 mod stream_faults;
@@ -16,7 +20,9 @@ mod texts;
 mod whole_runs;
 mod whole_texts;
 
-use anyhow::bail;
+use anyhow::{bail, ensure};
+use encoding_front::X_USER_DEFINED;
+use encoding_tables::Tables;
 use std::io::Write;
 
 // Prints whether an example has the result that its page gives.
@@ -48,7 +54,25 @@ fn run_programs(rt: HostRuntime) -> anyhow::Result<()> {
     stream_losses::encode_stream(rt, JIS0208, &pieces, &mut bytes)?;
     rt.stdout().write_all(&bytes)?;
     println!(rt; "")?;
-    whole_runs::recode_bytes(rt, JIS0208, b"A\x83\x6E\xFF")
+    whole_runs::recode_bytes(rt, JIS0208, b"A\x83\x6E\xFF")?;
+    let text = decoded_texts::shift_jis_text(rt.alloc(), JIS0208, b"A\x83\x6E\xFF")?;
+    println!(rt; "{text}")?;
+    let tables = Tables::new(rt.alloc());
+    ensure!(
+        X_USER_DEFINED.output_encoding().is_ready(&tables),
+        "an index is missing"
+    );
+    let mut room = [0; 16];
+    match lost_characters::count_lost(
+        &tables,
+        X_USER_DEFINED,
+        "A\u{20AC}\u{F780}b\u{1F4A9}",
+        &mut room,
+    ) {
+        Some(lost) => println!(rt; "{lost} lost")?,
+        None => bail!("there is no room"),
+    }
+    Ok(())
 }
 
 fn main(rt: HostRuntime) -> anyhow::Result<()> {

@@ -1,9 +1,47 @@
 //! Calls of a `Decoder` that write over a text, and into the spare capacity of a text.
 
-use encoding_front::{CoderResult, SHIFT_JIS, UTF_8};
+use encoding_front::{CoderResult, Encoding, SHIFT_JIS, UTF_8, UTF_16BE, UTF_16LE, X_USER_DEFINED};
 use encoding_mem::{DecoderResult, RawDecoder};
 use encoding_tables::{Tables, Utf16Decoder};
 use std::alloc::AllocError;
+
+// Returns whether a decoder that removes the mark of `encoding` writes the text of `bytes`, cut at
+// each place.
+fn is_removed(tables: &Tables, encoding: Encoding, bytes: &[u8], text: &str) -> bool {
+    for at in 0..=bytes.len() {
+        if !encoding.is_ready(tables) {
+            return false;
+        }
+        let mut decoder = encoding.new_decoder_with_bom_removal(tables);
+        let (first, rest) = bytes.split_at(at);
+        let mut room = [0; 32];
+        let (result, _, start, _) = decoder.decode_to_utf8(first, &mut room, false);
+        let (last, _, more, _) = decoder.decode_to_utf8(rest, &mut room[start..], true);
+        if result != CoderResult::InputEmpty
+            || last != CoderResult::InputEmpty
+            || &room[..start + more] != text.as_bytes()
+        {
+            return false;
+        }
+    }
+    true
+}
+
+// "UTF-8 decode" takes one mark; those of UTF-16 are malformed in UTF-8, and x-user-defined has
+// none.
+#[test]
+fn the_own_mark_is_removed(rt: HostRuntime) {
+    let tables = Tables::new(rt.alloc());
+    assert!(rt; is_removed(&tables, UTF_8, b"\xEF\xBB\xBFA", "A"));
+    assert!(rt; is_removed(&tables, UTF_8, b"\xEF\xBB\xBF\xEF\xBB\xBF", "\u{FEFF}"));
+    assert!(rt; is_removed(&tables, UTF_8, b"\xEF\xBB", "\u{FFFD}"));
+    assert!(rt; is_removed(&tables, UTF_8, b"\xFF\xFEA", "\u{FFFD}\u{FFFD}A"));
+    assert!(rt; is_removed(&tables, UTF_16LE, b"\xFF\xFEA\0", "A"));
+    assert!(rt; is_removed(&tables, UTF_16LE, b"\xFE\xFFA\0", "\u{FFFE}A"));
+    assert!(rt; is_removed(&tables, UTF_16BE, b"\xFE\xFF\0A", "A"));
+    let bytes = b"\xEF\xBB\xBF";
+    assert!(rt; is_removed(&tables, X_USER_DEFINED, bytes, "\u{F7EF}\u{F7BB}\u{F7BF}"));
+}
 
 #[test]
 fn over_a_text(rt: HostRuntime) {

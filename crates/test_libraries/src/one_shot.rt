@@ -81,12 +81,13 @@ fn euros(alloc: Global, count: usize) -> Result<String, AllocError> {
     Ok(text)
 }
 
+// Each call asks for more than 1 MiB of room.
 #[test]
 fn large_inputs_and_their_text(rt: HostRuntime) -> Result<(), Fail> {
     let alloc = rt.alloc();
     let tables = baltic(alloc, EURO);
-    let bytes = std::vec![in alloc; 0x80; 100_000]?;
-    let text = euros(alloc, 100_000)?;
+    let bytes = std::vec![in alloc; 0x80; 400_000]?;
+    let text = euros(alloc, 400_000)?;
     let want = (text.as_str(), WINDOWS_1257, false);
     assert!(rt; is_sniffed(alloc, &tables, WINDOWS_1257, &bytes, want)?);
     assert!(rt; is_removed(alloc, &tables, WINDOWS_1257, &bytes, (text.as_str(), false))?);
