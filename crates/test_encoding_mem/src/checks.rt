@@ -100,6 +100,7 @@ fn bidi_ranges_begin_and_end(rt: HostRuntime) {
         assert!(rt; !is_utf16_code_unit_bidi(unit));
     }
     assert!(rt; is_str_bidi("abc\u{200F}") && !is_str_bidi("abc €"));
+    assert!(rt; is_str_bidi("\u{590}") && !is_str_bidi("\u{58F}"));
     assert!(rt; is_utf8_bidi(&[0x61, 0xD7, 0x90]) && !is_utf8_bidi(&[0x61, 0xC3, 0xA9]));
     assert!(rt; is_utf16_bidi(&[0x61, 0x5D0]) && !is_utf16_bidi(&[0x61, 0x20AC]));
 }
