@@ -50,10 +50,6 @@ pub fn read_ranges(alloc: Global, text: &[u8]) -> Result<Vec<(u32, u32)>, IndexF
     rows_below(alloc, text, RANGE_POINTERS)
 }
 
-// The lines of the standard's longer indexes have more bytes on average, so that the room that is
-// asked for at the first row is enough for all rows.
-const COMMON_LINE: usize = 32;
-
 /// Reads the rows of a text whose pointers are to be below `size`. Asks for memory at the first
 /// row, and at a row for which there is no room left.
 pub(crate) fn rows_below(
@@ -70,9 +66,6 @@ pub(crate) fn rows_below(
     let mut rows = Vec::new(alloc);
     for row in IndexRows::new(text, size) {
         let row = row?;
-        if rows.len() == rows.capacity() {
-            rows.reserve(text.len() / COMMON_LINE + 1)?;
-        }
         rows.push(row)?;
     }
     Ok(rows)

@@ -34,9 +34,3 @@ returns-in_err-push-clause-grows c = λ none same.
     let all = outcomes c.args.size 0 0 (lines_in c.args.text.now) in
     let next = c.in-Some.ensures.steps ∙ ap (λ row. row ∷ outcomes_left c.next.new.self) c.in_ok-row.was in
     gathering_has_rows c.args.size c.args.text.now c.loop-row.rows.items c.in_ok-row.row (outcomes_left c.next.new.self) (subst (IsGathering all c.loop-row.rows.items) next c.loop-row.invariant) none
-
-pub returns-in_err-reserve-clause-grows : goal.returns-in_err-reserve-clause-grows
-returns-in_err-reserve-clause-grows c = λ none same.
-    let all = outcomes c.args.size 0 0 (lines_in c.args.text.now) in
-    let next = c.in-Some.ensures.steps ∙ ap (λ row. row ∷ outcomes_left c.next.new.self) c.in_ok-row.was in
-    gathering_has_rows c.args.size c.args.text.now c.loop-row.rows.items c.in_ok-row.row (outcomes_left c.next.new.self) (subst (IsGathering all c.loop-row.rows.items) next c.loop-row.invariant) none
