@@ -135,7 +135,7 @@ def part():
         rows.append("| %s |" % " | ".join(map(str, [crate, *count, tried])))
         for line in lines:
             if line.kind in DETAILS:
-                details[line.kind].append("| %s/%s | %s |" % (crate, line.name, line.details))
+                details[line.kind].append("| %s/%s | %s |" % (crate, line.name, line.details.replace("|", "\\|")))
     text = TABLE.format(rows="\n".join(rows))
     for kind, found in details.items():
         if found:
@@ -150,6 +150,7 @@ def faults():
 
 
 def write_page():
+    own_checksum.cache_clear()
     status.write_part("edits", part())
 
 

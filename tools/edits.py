@@ -29,7 +29,7 @@ decides, is tried alone. An edit is
 - unreadable, if it cannot be made, compiled or checked.
 
 The status is 0 if each is refused by the fact or refuted by a run. `--readable` makes the pass over the sources alone, and
-`--runs` the runs alone, of edits that are named or recorded as showing nothing: neither needs a proof.
+`--runs` the runs alone, of edits that are recorded as showing nothing, or named and new: neither needs a proof.
 """
 
 import argparse
@@ -294,9 +294,15 @@ class Crate:
         with self.copy(edit.made_in({}, self.folder)) as folder:
             try:
                 case = self.runs.refuting(os.path.dirname(folder), self.name, edit_record.case_of(self.name, edit.name))
-                self.tell(edit, RUN if case else STALE, [case] if case else self.open[edit])
             except edit_runs.Unreadable as error:
                 self.tell(edit, UNREADABLE, [str(error)])
+                return
+        if case:
+            self.tell(edit, RUN, [case])
+        elif edit in self.open:
+            self.tell(edit, STALE, self.open[edit])
+        else:
+            print("%s/%s: no run refutes it, and no check was made" % (self.name, edit.name), flush=True)
 
     def in_rounds(self, edits):
         """Tries edits of functions in rounds. Returns those that none decides, and those that nothing but an answer refuses,
@@ -408,18 +414,21 @@ def chosen(given):
         edits = [edit for edit in edits_of(crate, kind) if edit.name.startswith(name)]
         if given.names and not edits:
             sys.exit("no edit has the name %s" % word)
+        count = len(edits)
         edits = [edit for edit in edits if given.gate or given.anew or given.readable or is_left(crate, edit, given)]
+        if count > len(edits):
+            print("%s: %d are not tried again" % (word, count - len(edits)), flush=True)
         found += [(crate, edits)] if edits else []
     return sorted(found, key=lambda pair: -len(pair[1]))
 
 
 def is_left(crate, edit, given):
-    """Whether an edit is to be tried: it was not refused on the code as it is. For runs alone: it is named, or it is recorded
-    as showing nothing."""
+    """Whether an edit is to be tried: it was not refused on the code as it is. For runs alone: it is recorded as showing
+    nothing, or it is named and new."""
     line = edit_record.lines_of(crate).get(edit.name)
     line = line if line and line.edit == edit.checksum else None
     if given.runs:
-        return bool(given.names) or line is not None and line.kind == STALE
+        return line.kind == STALE if line else bool(given.names)
     return not line or line.code != edit_record.checksum_of_code(crate) or line.kind not in (REFUSED, RUN)
 
 
@@ -451,7 +460,7 @@ def try_crate(top, crate, edits, given, *how):
             tried.readable(edits)
         elif given.runs:
             lines = edit_record.lines_of(crate)
-            tried.open = {edit: [lines[edit.name].details] if edit.name in lines else [] for edit in edits}
+            tried.open = {edit: [lines[edit.name].details] for edit in edits if edit.name in lines}
             list(tried.pool.map(tried.run, edits))
         else:
             tried.try_all(edits)
