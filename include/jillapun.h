@@ -81,7 +81,10 @@ enum {
     JILLAPUN_IN_USE = 7,
     /** The stream has ended: an earlier call was the last. Nothing was read or written. */
     JILLAPUN_FINISHED = 8,
-    /** The text is not UTF-8. Nothing was read or written. */
+    /**
+     * The text is not UTF-8, or what is left of it begins with a malformed sequence. Nothing was
+     * read or written.
+     */
     JILLAPUN_NOT_UTF8 = 9,
     /**
      * The room is too small, and the report, or `written`, says how much is wanted. Nothing was
@@ -106,7 +109,10 @@ enum {
 enum {
     /** All that was handed in is read. */
     JILLAPUN_INPUT_EMPTY = 0,
-    /** There is no room for what comes next: hand in the rest again with more room. */
+    /**
+     * There is no room for what comes next, or a text that is encoded is not UTF-8 there: hand in
+     * the rest again with more room.
+     */
     JILLAPUN_OUTPUT_FULL = 1,
     /** A malformed sequence was read, and nothing was written for it. */
     JILLAPUN_MALFORMED = 2,
@@ -711,8 +717,10 @@ uint8_t jillapun_encoder_encode_from_utf16(jillapun_encoder *encoder, const jill
  * read. At `JILLAPUN_OUTPUT_FULL` something is left to do: make room, and hand in the rest
  * again, with `last` as it was, even if nothing is left; 4 bytes are always enough to go on. At
  * `JILLAPUN_UNMAPPABLE` the character that was read last has no bytes: write its reference, or
- * something else in ASCII, and go on as at `JILLAPUN_OUTPUT_FULL`. Nothing after what is
- * written changes.
+ * something else in printable ASCII other than backslash and tilde, and go on as at
+ * `JILLAPUN_OUTPUT_FULL`. (In ISO-2022-JP the set in force may then be Roman, in which their
+ * bytes, 5C and 7E, are U+00A5 and U+203E; 0E, 0F and 1B are no characters.) Nothing after what
+ * is written changes.
  *
  * Else nothing is done, and all of `progress` is 0: `JILLAPUN_CLOSED`, the handle holds no
  * encoder.
@@ -734,8 +742,15 @@ uint8_t jillapun_encoder_encode_from_utf16_without_replacement(jillapun_encoder 
  * Unless the encoding is UTF-8, the last ten bytes of `dst` are kept for a reference. Nothing
  * after what is written changes.
  *
- * Else nothing is done, and all of `progress` is 0: `JILLAPUN_CLOSED`, the handle holds no
- * encoder; `JILLAPUN_NOT_UTF8`, the text is not UTF-8.
+ * A call looks at no more of the text than at 4 bytes for each byte of `dst`, and 4 more, so it
+ * takes no longer if more of the text is handed in. A text that is not UTF-8 is encoded up to
+ * its first malformed sequence: a call that reads all before that ends with
+ * `JILLAPUN_OUTPUT_FULL`, whatever its room, and the next one, with what is left, returns
+ * `JILLAPUN_NOT_UTF8`. A character must not be cut between two calls.
+ *
+ * Else nothing is done, and all of `progress` is 0: `JILLAPUN_NOT_UTF8`, the text begins with a
+ * malformed sequence, or with a character of which the end is not there; `JILLAPUN_CLOSED`, the
+ * handle holds no encoder.
  */
 uint8_t jillapun_encoder_encode_from_utf8(jillapun_encoder *encoder, const uint8_t *text,
     size_t text_len, uint8_t *dst, size_t dst_len, bool last, jillapun_encoder_progress *progress);
@@ -749,11 +764,17 @@ uint8_t jillapun_encoder_encode_from_utf8(jillapun_encoder *encoder, const uint8
  * read. At `JILLAPUN_OUTPUT_FULL` something is left to do: make room, and hand in the rest
  * again, with `last` as it was, even if nothing is left; 4 bytes are always enough to go on. At
  * `JILLAPUN_UNMAPPABLE` the character that was read last has no bytes: write its reference, or
- * something else in ASCII, and go on as at `JILLAPUN_OUTPUT_FULL`. Nothing after what is
- * written changes.
+ * something else in printable ASCII other than backslash and tilde, and go on as at
+ * `JILLAPUN_OUTPUT_FULL`. (In ISO-2022-JP the set in force may then be Roman, in which their
+ * bytes, 5C and 7E, are U+00A5 and U+203E; 0E, 0F and 1B are no characters.) Nothing after what
+ * is written changes.
  *
- * Else nothing is done, and all of `progress` is 0: `JILLAPUN_CLOSED`, the handle holds no
- * encoder; `JILLAPUN_NOT_UTF8`, the text is not UTF-8.
+ * What a call looks at, and a text that is not UTF-8, are as with
+ * `jillapun_encoder_encode_from_utf8`.
+ *
+ * Else nothing is done, and all of `progress` is 0: `JILLAPUN_NOT_UTF8`, the text begins with a
+ * malformed sequence, or with a character of which the end is not there; `JILLAPUN_CLOSED`, the
+ * handle holds no encoder.
  */
 uint8_t jillapun_encoder_encode_from_utf8_without_replacement(jillapun_encoder *encoder,
     const uint8_t *text, size_t text_len, uint8_t *dst, size_t dst_len, bool last,
@@ -1035,10 +1056,12 @@ size_t encoding_mem_convert_latin1_to_utf8(const uint8_t *src, size_t src_len, u
     size_t dst_len);
 
 /**
- * Converts Latin1 to UTF-8 at the start of a text, which stays one, and returns how many bytes
- * were written: if a character of `dst` is overwritten in part, its other bytes become 00.
- * Room: twice as many bytes as `src` has. If `dst` is shorter, or is not UTF-8 before the call,
- * nothing is written and `SIZE_MAX` is returned.
+ * Converts Latin1 to UTF-8 at the start of a text, and returns how many bytes were written. If
+ * a character of `dst` is overwritten in part, its other bytes become 00, so what was UTF-8 is
+ * UTF-8 after the call. Of what stands behind the bytes that were written the call looks at
+ * three, and it changes those of them that go on with a character (80 to BF), whether or not
+ * `dst` was UTF-8. Room: twice as many bytes as `src` has; if `dst` is shorter, nothing is
+ * written and `SIZE_MAX` is returned.
  */
 size_t encoding_mem_convert_latin1_to_str(const uint8_t *src, size_t src_len, uint8_t *dst,
     size_t dst_len);
@@ -1049,7 +1072,7 @@ size_t encoding_mem_convert_latin1_to_str(const uint8_t *src, size_t src_len, ui
 /**
  * Converts the longest well-formed prefix of UTF-8 whose UTF-16 fits into `dst`. It ends before
  * the first malformed sequence, if one comes before the room ends. `read` is in bytes,
- * `written` in units.
+ * `written` in units. No more of `src` is looked at than three bytes for each unit of `dst`.
  */
 void jillapun_mem_convert_utf8_to_utf16_up_to_invalid(const uint8_t *src, size_t src_len,
     jillapun_char16 *dst, size_t dst_len, size_t *read, size_t *written);
@@ -1069,22 +1092,20 @@ void jillapun_mem_convert_latin1_to_utf8_partial(const uint8_t *src, size_t src_
     size_t dst_len, size_t *read, size_t *written);
 
 /**
- * Converts the longest prefix of UTF-16 whose UTF-8 fits into a text, which stays one: if a
- * character of `dst` is overwritten in part, its other bytes become 00. No pair is split; a
- * surrogate in no pair of `src` becomes U+FFFD. `read` is in units, `written` in bytes. Returns
- * `JILLAPUN_OK`, or `JILLAPUN_NOT_UTF8` if `dst` is not UTF-8 before the call: then nothing is
- * read or written.
+ * Converts the longest prefix of UTF-16 whose UTF-8 fits into a text. No pair is split; a
+ * surrogate in no pair of `src` becomes U+FFFD. `read` is in units, `written` in bytes. What
+ * becomes of the bytes behind those is as with `encoding_mem_convert_utf16_to_str`: what was
+ * UTF-8 stays UTF-8.
  */
-uint8_t jillapun_mem_convert_utf16_to_str_partial(const jillapun_char16 *src, size_t src_len,
+void jillapun_mem_convert_utf16_to_str_partial(const jillapun_char16 *src, size_t src_len,
     uint8_t *dst, size_t dst_len, size_t *read, size_t *written);
 
 /**
- * Converts the longest prefix of Latin1 whose UTF-8 fits into a text, which stays one: if a
- * character of `dst` is overwritten in part, its other bytes become 00. `read` and `written`
- * are in bytes. Returns `JILLAPUN_OK`, or `JILLAPUN_NOT_UTF8` if `dst` is not UTF-8 before the
- * call: then nothing is read or written.
+ * Converts the longest prefix of Latin1 whose UTF-8 fits into a text. `read` and `written` are
+ * in bytes. What becomes of the bytes behind those is as with
+ * `encoding_mem_convert_latin1_to_str`: what was UTF-8 stays UTF-8.
  */
-uint8_t jillapun_mem_convert_latin1_to_str_partial(const uint8_t *src, size_t src_len, uint8_t *dst,
+void jillapun_mem_convert_latin1_to_str_partial(const uint8_t *src, size_t src_len, uint8_t *dst,
     size_t dst_len, size_t *read, size_t *written);
 
 /* UTF-16: whether it is well-formed, and conversions to UTF-8. */
@@ -1107,11 +1128,12 @@ size_t encoding_mem_convert_utf16_to_utf8(const jillapun_char16 *src, size_t src
     size_t dst_len);
 
 /**
- * Converts UTF-16 to UTF-8 at the start of a text, which stays one, with U+FFFD for each
- * surrogate in no pair, and returns how many bytes were written: if a character of `dst` is
- * overwritten in part, its other bytes become 00. Room: three bytes for each unit of `src`. If
- * `dst` is shorter, or is not UTF-8 before the call, nothing is written and `SIZE_MAX` is
- * returned.
+ * Converts UTF-16 to UTF-8 at the start of a text, with U+FFFD for each surrogate in no pair,
+ * and returns how many bytes were written. If a character of `dst` is overwritten in part, its
+ * other bytes become 00, so what was UTF-8 is UTF-8 after the call. Of what stands behind the
+ * bytes that were written the call looks at three, and it changes those of them that go on with
+ * a character (80 to BF), whether or not `dst` was UTF-8. Room: three bytes for each unit of
+ * `src`; if `dst` is shorter, nothing is written and `SIZE_MAX` is returned.
  */
 size_t encoding_mem_convert_utf16_to_str(const jillapun_char16 *src, size_t src_len, uint8_t *dst,
     size_t dst_len);

@@ -8,7 +8,6 @@ from c_loaded import units
 
 SEED, ROUNDS = 2026, 600
 REFUSED = 2**64 - 1
-OK, NOT_UTF8 = 0, 9
 LATIN1, LEFT_TO_RIGHT, BIDI = 0, 1, 2
 # What room holds before a call, to see what it leaves alone.
 BYTE, UNIT = 0xEE, 0xEEEE
@@ -99,9 +98,9 @@ class Checks:
 
     @staticmethod
     def after(name, rest):
-        """What stands after what was written: into a text, the bytes that go on with a character become 00."""
+        """What stands after what was written: into a text, up to three bytes that go on with a character become 00."""
         if name.endswith(("_str", "_str_partial")):
-            count = first_where(rest, lambda byte: not 0x80 <= byte < 0xC0)
+            count = first_where(rest[:3], lambda byte: not 0x80 <= byte < 0xC0)
             return bytes(count) + rest[count:]
         return rest
 
@@ -150,6 +149,7 @@ class Checks:
         in_utf8 = data.decode("latin-1").encode()
         self.into_bytes("encoding_mem_convert_latin1_to_utf8", data, in_utf8, 2 * len(data))
         self.into_bytes("encoding_mem_convert_latin1_to_str", data, in_utf8, 2 * len(data), self.text_of_length(2 * len(data)))
+        self.into_no_text("latin1", data, in_utf8, 2 * len(data))
         if is_latin1:
             self.into_bytes("encoding_mem_convert_utf8_to_latin1_lossy", data, text.encode("latin-1"), len(data))
         else:
@@ -177,6 +177,7 @@ class Checks:
         for name in ("utf8", "str"):
             old = self.text_of_length(size) if name == "str" else None
             self.into_bytes("encoding_mem_convert_utf16_to_" + name, given, text.encode(), size, old)
+        self.into_no_text("utf16", given, text.encode(), size)
         low = bytes(u & 0xFF for u in numbers)
         self.into_bytes("encoding_mem_convert_utf16_to_latin1_lossy", given, low, len(numbers))
         ascii_part = bytes(numbers[: first_where(numbers, lambda u: u >= 0x80)])
@@ -235,24 +236,22 @@ class Checks:
         self.partial_into_text("convert_utf16_to_str_partial", given, lambda room: self.units_that_fit(numbers, room))
 
     def partial_into_text(self, name, source, what_fits):
-        """The same into a text; and into bytes that are none, which are left alone."""
-        old = self.text_of_length(self.random.randint(0, 9))
-        for room, status in ((bytearray(old), OK), (bytearray(old + b"\xff"), NOT_UTF8)):
-            before, (length, want) = bytes(room), what_fits(len(room))
-            read, written = ctypes.c_size_t(77), ctypes.c_size_t(77)
-            got = getattr(self.library, "jillapun_mem_" + name)(source, room, read, written)
-            if status == OK:
-                wanted = OK, length, len(want), want + self.after(name, before[len(want) :])
-            else:
-                wanted = NOT_UTF8, 0, 0, before
-            self.same(name, source, (got, read.value, written.value, bytes(room)), wanted)
+        """The same into a text, which stays one; and into bytes that are none."""
+        for old in (self.text_of_length(self.random.randint(0, 9)), self.no_text(self.random.randint(0, 9))):
+            room, (length, want) = bytearray(old), what_fits(len(old))
+            self.partial(name, source, room, (length, len(want)))
+            self.same(name, (source, old), bytes(room), want + self.after(name, old[len(want) :]))
+            if valid_len(old, "utf-8") == len(old):
+                self.same(name + " leaves a text", (source, old), valid_len(bytes(room), "utf-8"), len(room))
 
-    def no_texts(self):
-        """Room that has to be UTF-8, and is not."""
-        for name, source in (("latin1", b"a"), ("utf16", (units([97]), 1))):
-            room = bytearray(b"abc\xff")
-            got = getattr(self.library, "encoding_mem_convert_%s_to_str" % name)(source, room)
-            self.same("into no text", source, (got, bytes(room)), (REFUSED, b"abc\xff"))
+    def no_text(self, length):
+        """So many bytes, many of them such as go on with a character."""
+        return bytes(self.random.choice((0x61, 0x80, 0xBF, 0xF0, 0xFF)) for _ in range(length))
+
+    def into_no_text(self, source, given, want, least):
+        """Room that is no text before a call: what follows the text that is written is as after one."""
+        name = "encoding_mem_convert_%s_to_str" % source
+        self.into_bytes(name, given, want, least, self.no_text(least + self.random.randint(0, 9)))
 
     def characters(self):
         """Each number up to the last character, and some after it."""
@@ -272,7 +271,6 @@ def faults(library):
     for _ in range(ROUNDS):
         checks.of_bytes()
         checks.of_units()
-    checks.no_texts()
     checks.characters()
     print("mem: %d texts in bytes, and as many in units, by %d exports" % (ROUNDS, len([it for it in library.exports if "_mem_" in it]) + 3))
     return checks.wrong

@@ -276,7 +276,7 @@ class Streams:
         progress, output, lost, had, index = self.library.struct("EncoderProgress")(), bytearray(), [], False, 0
         if not of_units:
             room = bytearray(40)
-            self.must(call, getattr(self.library, call)(handle, b"a\xff", room, False, progress), "NOT_UTF8")
+            self.must(call, getattr(self.library, call)(handle, b"\xffa", room, False, progress), "NOT_UTF8")
             self.same(call, "no text", (progress.read, progress.written, bytes(room)), (0, 0, bytes(40)))
         place = self.random.randint(0, len(points))
         most = self.random.choice((14, 60, 5000))
@@ -321,10 +321,63 @@ class Streams:
             self.same(call, (job, points), self.coded(call, job.target, points, of_units), (replaced, [], bool(lost)))
             call += "_without_replacement"
             self.same(call, (job, points), self.coded(call, job.target, points, of_units)[:2], (plain, lost))
+            if not of_units:
+                self.malformed(job, points)
             if not lost:
                 self.asked(call, "jillapun_encoder_max_length_from_%s_without_replacement" % name, job, points, of_units, plain)
                 call = "jillapun_encoder_encode_from_" + name
                 self.asked(call, "jillapun_encoder_max_length_from_%s_if_no_unmappables" % name, job, points, of_units, plain)
+
+    def malformed(self, job, points):
+        """A text in UTF-8, cut or changed at some place, by calls with room for 0 to 20 bytes: what is before the first
+        malformed sequence is encoded, and the call that begins there takes nothing."""
+        text, output = text_of(points).encode(), self.encodings[job.target].output
+        place = self.random.randint(0, len(text))
+        broken = text[:place] + self.random.choice((b"", b"\x80", b"\xff", b"\xed\xa0\x80", b"\xf0\x9f\x92")) + text[place + 1 :]
+        broken = self.random.choice((broken, text[:place]))
+        valid = self.valid_len(broken)
+        plain, replaced, _ = encoded(self.encodings[output].encoder(), [ord(c) for c in broken[:valid].decode()])
+        for name, want in (("", replaced), ("_without_replacement", plain)):
+            call, progress, handle = "jillapun_encoder_encode_from_utf8" + name, self.library.struct("EncoderProgress")(), self.handle_of(job.target)
+            rest, made, last = broken, bytearray(), self.random.random() < 0.5
+            for _ in range(MOST_CALLS):
+                room = bytearray(b"\x5a" * self.random.randint(0, 20))
+                status = getattr(self.library, call)(handle, rest, room, last, progress)
+                if status != NUMBERS["OK"]:
+                    break
+                rest = rest[progress.read :]
+                made += room[: progress.written]
+                self.same("after the output", (call, broken), set(room[progress.written :]) <= {0x5A}, True)
+                if progress.outcome == NUMBERS["INPUT_EMPTY"]:
+                    break
+            else:
+                raise Wrong("%s does not end" % call)
+            told = status, len(broken) - len(rest), progress.outcome
+            if valid == len(broken):
+                self.same(call, (job, broken), told, (NUMBERS["OK"], valid, NUMBERS["INPUT_EMPTY"]))
+            else:
+                self.same(call, (job, broken), told, (NUMBERS["NOT_UTF8"], valid, 0))
+                self.same("at a malformed sequence", broken, (progress.read, progress.written, set(room) <= {0x5A}), (0, 0, True))
+            # The end of the stream: a last escape, if it was not written yet.
+            room = bytearray(14)
+            self.must(call, getattr(self.library, call)(handle, b"", room, True, progress))
+            self.same(call, (job, broken), bytes(made + room[: progress.written]), want)
+            self.library.jillapun_encoder_free(handle)
+
+    def handle_of(self, target):
+        """An encoder of a new stream."""
+        handle = self.library.struct("EncoderHandle")()
+        self.must("encoder_new", self.library.jillapun_encoder_new(self.tables, self.numbers[target], handle))
+        return handle
+
+    @staticmethod
+    def valid_len(data):
+        """How much of some bytes Python reads as UTF-8 before the first fault."""
+        try:
+            data.decode()
+            return len(data)
+        except UnicodeDecodeError as fault:
+            return fault.start
 
     def asked(self, call, query, job, points, of_units, plain):
         """A text without a lost character in one call, in the room that a query asks for; and what else an encoder tells."""

@@ -1,5 +1,8 @@
 -- The numbers and the words of the definitions, worked.
-use Rattle.std.specs.Prelude.{◌≡◌, false, None, Some, codes, refl}
+use Rattle.std.specs.Prelude.{◌≡◌, true, false, None, Some, [], ◌∷◌, codes, refl}
+use lib.Utf8.{encode}
+use Rattle.std.specs.Str.{chars, is_utf8}
+use Rattle.std.specs.Str.Lossy.{utf8_valid_len}
 use Rattle.encoding_index.specs.declared.fault.IndexFaultKind.TheVariants as fault
 use Rattle.encoding_index.specs.declared.fault.LoadFault.TheVariants.{Text, Table}
 use Rattle.encoding_index.specs.IndexText.{memory_fault}
@@ -10,12 +13,14 @@ use Rattle.recode.specs.declared.job.Policy.{Policy}
 use Rattle.jillapun_c.specs.Asked.{policy_at}
 use Rattle.jillapun_c.specs.EncodingNumbers.{encoding_at, mark_at, needed_file}
 use Rattle.jillapun_c.specs.IndexFiles.{told_of}
+use Rattle.jillapun_c.specs.Room.{rest_cleared}
+use Rattle.jillapun_c.specs.TextParts.{text_part, told_outcome}
 use Rattle.jillapun_c.specs.declared.index_files.FileFault.TheVariants as told
 use Rattle.jillapun_c.specs.declared.converter.progress.TheConstants.ConverterProgress as converter_
 use Rattle.jillapun_c.specs.declared.encoder_progress.TheConstants.EncoderProgress as encoder_
 use Rattle.jillapun_c.specs.declared.progress.TheConstants.Progress as decoder_
 use Rattle.jillapun_c.specs.declared.report.TheConstants.Report as report_
-use Rattle.jillapun_c.specs.declared.status.TheConstants.{SNIFF, REMOVE, KEEP, DECIMAL, HEXADECIMAL, STOP, NO_ENCODING}
+use Rattle.jillapun_c.specs.declared.status.TheConstants.{SNIFF, REMOVE, KEEP, DECIMAL, HEXADECIMAL, STOP, NO_ENCODING, INPUT_EMPTY, OUTPUT_FULL, UNMAPPABLE}
 
 -- the numbers of encodings: the first, the last, and none after it
 pub first_encoding : encoding_at 0 ≡ Some Encoding.Big5
@@ -91,3 +96,37 @@ nothing_is_converted = refl
 
 pub nothing_is_reported : report_.NONE ≡ record { read = 0; bad = 0; lost = 0; written = 0; losses = 0; index = 0; scalar = 0 }
 nothing_is_reported = refl
+
+-- what is looked at of a text: four bytes without room, eight with room for one; whole characters, up to a malformed one
+pub four_without_room : text_part 0 (codes "abcde") ≡ codes "abcd"
+unfolding utf8_valid_len is_utf8 chars encode
+four_without_room = refl
+
+pub eight_with_room_for_one : text_part 1 (codes "abcdefghi") ≡ codes "abcdefgh"
+unfolding utf8_valid_len is_utf8 chars encode
+eight_with_room_for_one = refl
+
+pub no_character_is_cut : text_part 0 (0x61 ∷ 0x62 ∷ 0xE3 ∷ 0x81 ∷ 0x82 ∷ []) ≡ codes "ab"
+unfolding utf8_valid_len is_utf8 chars encode
+no_character_is_cut = refl
+
+pub malformed_ends_it : text_part 0 (0x61 ∷ 0xFF ∷ 0x62 ∷ []) ≡ codes "a"
+unfolding utf8_valid_len is_utf8 chars encode
+malformed_ends_it = refl
+
+-- how outcomes are told of a whole text, and of a part
+pub whole_is_read : told_outcome true INPUT_EMPTY ≡ INPUT_EMPTY
+whole_is_read = refl
+
+pub part_is_not_all : told_outcome false INPUT_EMPTY ≡ OUTPUT_FULL
+part_is_not_all = refl
+
+pub lost_is_told : told_outcome false UNMAPPABLE ≡ UNMAPPABLE
+lost_is_told = refl
+
+-- what is cleared: bytes that go on with a character, three at most
+pub two_are_cleared : rest_cleared (0x80 ∷ 0xBF ∷ 0x61 ∷ 0x80 ∷ []) ≡ 0 ∷ 0 ∷ 0x61 ∷ 0x80 ∷ []
+two_are_cleared = refl
+
+pub three_are_cleared : rest_cleared (0x80 ∷ 0x80 ∷ 0x80 ∷ 0x80 ∷ []) ≡ 0 ∷ 0 ∷ 0 ∷ 0x80 ∷ []
+three_are_cleared = refl

@@ -13,4 +13,5 @@ pub mod Losses
 pub mod Openings
 pub mod Ownership
 pub mod Room
+pub mod TextParts
 pub mod Whole

@@ -1,5 +1,5 @@
 -- What a call leaves in the room that the caller lends it.
-use Rattle.std.specs.Prelude.{◌≡◌, ℕ, ◌≤◌, List, length, take, drop}
+use Rattle.std.specs.Prelude.{◌≡◌, ℕ, ◌≤◌, List, ◌++◌, length, take, drop}
 use Rattle.std.specs.Str.{IsUtf8}
 use Rattle.encoding_mem.specs.calls.TextDestination.{cleared}
 use Rattle.jillapun_c.specs.declared.status.TheConstants.{REFUSED}
@@ -10,13 +10,18 @@ pub record IsPut (old text new : List ℕ) (written : ℕ) : Type 0 where
   pub is : take written new ≡ text
   pub behind : drop written new ≡ drop written old
 
--- a text of so many bytes was put at the start of the room, and the whole is UTF-8: after them, the rest of a
--- character that was overwritten in part is cleared, and nothing else has changed
+-- bytes after a text that was put over another: the rest of a character that was cut, at most three bytes that go on
+-- with one, becomes 00, and all others stay
+abbrev pub rest_cleared : List ℕ → List ℕ
+rest_cleared bytes = cleared (take 3 bytes) ++ drop 3 bytes
+
+-- A text of so many bytes was put at the start of the room, and the whole is UTF-8 if it was before: after them, the
+-- rest of a character that was overwritten in part is cleared, and nothing else has changed.
 pub record TextIsPut (old text new : List ℕ) (written : ℕ) : Type 0 where
   pub fits : written ≤ length new
   pub is : take written new ≡ text
-  pub behind : drop written new ≡ cleared (drop written old)
-  pub utf8 : IsUtf8 new
+  pub behind : drop written new ≡ rest_cleared (drop written old)
+  pub utf8 : IsUtf8 old → IsUtf8 new
 
 -- nothing in the room has changed, and the length that is returned is SIZE_MAX
 abbrev pub IsUnwritten : (old new : List ℕ) → ℕ → Type 0

@@ -5,6 +5,7 @@ ghost use Rattle.jillapun_c.specs.EncoderCalls.{MakesEncoder};
 ghost use Rattle.jillapun_c.specs.Openings.{Opens};
 ghost use Rattle.jillapun_c.specs.declared.status.TheConstants.{OK};
 
+mod part;
 pub(crate) mod queries;
 pub(crate) mod utf16;
 pub(crate) mod utf8;

@@ -1,6 +1,8 @@
 //! What a call of an encoder tells beside its status.
 
+ghost use Rattle.std.specs.Prelude.{◌≡◌};
 ghost use Rattle.jillapun_c.specs.EncoderCalls.{IsEncoderOutcome};
+ghost use Rattle.jillapun_c.specs.TextParts.{told_outcome};
 
 use crate::status::{INPUT_EMPTY, OUTPUT_FULL, UNMAPPABLE};
 use encoding_mem::EncoderResult;
@@ -41,5 +43,17 @@ pub(crate) fn encoder_outcome_of(outcome: EncoderResult) -> (u8, u32)
         EncoderResult::InputEmpty => (INPUT_EMPTY, 0),
         EncoderResult::OutputFull => (OUTPUT_FULL, 0),
         EncoderResult::Unmappable(c) => (UNMAPPABLE, c as u32),
+    }
+}
+
+/// The number of an outcome as it is told of a whole text, or of a part of one: after a part
+/// something is left to do.
+pub(crate) fn told_outcome(is_whole: bool, outcome: u8) -> u8
+    ensures { result ≡ told_outcome is_whole outcome }
+{
+    if !is_whole && outcome == INPUT_EMPTY {
+        OUTPUT_FULL
+    } else {
+        outcome
     }
 }

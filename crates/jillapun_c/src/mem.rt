@@ -10,5 +10,6 @@ mod latin1;
 mod partial;
 #[cfg(test)]
 mod tests;
+mod text_room;
 mod utf16;
-mod utf8;
+pub(crate) mod utf8;

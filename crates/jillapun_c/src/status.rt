@@ -24,7 +24,8 @@ pub const CLOSED: u8 = 6;
 pub const IN_USE: u8 = 7;
 /// The stream has ended: an earlier call was the last. Nothing was read or written.
 pub const FINISHED: u8 = 8;
-/// The text is not UTF-8. Nothing was read or written.
+/// The text is not UTF-8, or what is left of it begins with a malformed sequence. Nothing was read
+/// or written.
 pub const NOT_UTF8: u8 = 9;
 /// The room is too small, and the report, or `written`, says how much is wanted. Nothing was
 /// written.
@@ -41,7 +42,8 @@ pub const TOO_LONG: u8 = 13;
 
 /// All that was handed in is read.
 pub const INPUT_EMPTY: u8 = 0;
-/// There is no room for what comes next: hand in the rest again with more room.
+/// There is no room for what comes next, or a text that is encoded is not UTF-8 there: hand in the
+/// rest again with more room.
 pub const OUTPUT_FULL: u8 = 1;
 /// A malformed sequence was read, and nothing was written for it.
 pub const MALFORMED: u8 = 2;

@@ -10,6 +10,7 @@ ghost use Rattle.jillapun_c.specs.Whole.{MayDecode, MayEncode, PutsIfRoom};
 ghost use Rattle.jillapun_c.specs.declared.status.TheConstants.{LOSSY, NOT_UTF8, OK, ROOM};
 
 use crate::encoding_number::{encoding_of, mark_of};
+use crate::mem::utf8::is_text;
 use crate::status::{CLOSED, LOSSY, NO_MEMORY, NOT_READY, NOT_UTF8, OK, ROOM, UNKNOWN};
 use crate::tables_handle::TablesHandle;
 use encoding_front::{Encoding, Mark, OneShotFault};
@@ -129,9 +130,10 @@ pub extern "C" fn jillapun_encode(
     ensures nothing { result ≢ OK → result ≢ LOSSY → result ≢ ROOM → written.new ≡ 0 }
 {
     *written = 0;
-    let Ok(text) = str::from_utf8(text) else {
+    if !is_text(text) {
         return NOT_UTF8;
-    };
+    }
+    let text = unsafe { str::from_utf8_unchecked(text) };
     let Some(tables) = tables.get() else {
         return CLOSED;
     };

@@ -90,8 +90,10 @@ fn from_utf16(
 /// Returns `OK`, and `progress` tells what was done. At `INPUT_EMPTY` all is read. At `OUTPUT_FULL`
 /// something is left to do: make room, and hand in the rest again, with `last` as it was, even if
 /// nothing is left; 4 bytes are always enough to go on. At `UNMAPPABLE` the character that was read
-/// last has no bytes: write its reference, or something else in ASCII, and go on as at
-/// `OUTPUT_FULL`. Nothing after what is written changes.
+/// last has no bytes: write its reference, or something else in printable ASCII other than
+/// backslash and tilde, and go on as at `OUTPUT_FULL`. (In ISO-2022-JP the set in force may then be
+/// Roman, in which their bytes, 5C and 7E, are U+00A5 and U+203E; 0E, 0F and 1B are no characters.)
+/// Nothing after what is written changes.
 ///
 /// Else nothing is done, and all of `progress` is 0: `CLOSED`, the handle holds no encoder.
 #[unsafe(no_mangle)]

@@ -1,19 +1,21 @@
 //! The exports that encode UTF-8.
 
-ghost use Rattle.std.specs.Prelude.{◌≡◌, ◌≢◌, Some, false, drop, length};
+ghost use Rattle.std.specs.Prelude.{◌≡◌, ◌≢◌, [], Some, false, drop, length};
 ghost use Rattle.std.specs.Str.{IsUtf8, chars};
+ghost use Rattle.encoding_mem.specs.Conversions.{text_prefix};
 ghost use Rattle.encoding_front.specs.calls.Encoder.{ReadsText};
 ghost use Rattle.jillapun_c.specs.EncoderCalls.{AnswersEncoder, EncodesAll, EncodesUpToLost};
+ghost use Rattle.jillapun_c.specs.TextParts.{BeginsMalformed, IsToldOfPart};
 ghost use Rattle.jillapun_c.specs.declared.encoder_progress.TheConstants.EncoderProgress.{NONE};
 ghost use Rattle.jillapun_c.specs.declared.status.TheConstants.{NOT_UTF8, OK};
 
 use crate::coder::Coder;
 use crate::encoder::EncoderHandle;
-use crate::encoder_progress::{EncoderProgress, encoder_outcome_of};
+use crate::encoder::part::first_part;
+use crate::encoder_progress::{EncoderProgress, encoder_outcome_of, told_outcome};
 use crate::progress::outcome_of;
 use crate::status::{CLOSED, NOT_UTF8, OK};
 use std::alloc::Global;
-use std::str;
 
 /// Encodes the next part of a text in UTF-8, with the decimal reference (`&#8364;`) of each
 /// character that has no bytes. `last` says that the text ends with it: then the last escape is
@@ -24,8 +26,15 @@ use std::str;
 /// nothing is left; 14 bytes are always enough to go on. Unless the encoding is UTF-8, the last ten
 /// bytes of `dst` are kept for a reference. Nothing after what is written changes.
 ///
-/// Else nothing is done, and all of `progress` is 0: `CLOSED`, the handle holds no encoder;
-/// `NOT_UTF8`, the text is not UTF-8.
+/// A call looks at no more of the text than at 4 bytes for each byte of `dst`, and 4 more, so it
+/// takes no longer if more of the text is handed in. A text that is not UTF-8 is encoded up to its
+/// first malformed sequence: a call that reads all before that ends with `OUTPUT_FULL`, whatever
+/// its room, and the next one, with what is left, returns `NOT_UTF8`. A character must not be cut
+/// between two calls.
+///
+/// Else nothing is done, and all of `progress` is 0: `NOT_UTF8`, the text begins with a malformed
+/// sequence, or with a character of which the end is not there; `CLOSED`, the handle holds no
+/// encoder.
 #[unsafe(no_mangle)]
 pub extern "C" fn jillapun_encoder_encode_from_utf8(
     alloc: Global,
@@ -35,50 +44,57 @@ pub extern "C" fn jillapun_encoder_encode_from_utf8(
     last: bool,
     progress: &mut EncoderProgress,
 ) -> u8
-    ensures text { (¬ (IsUtf8 text.now)) → result ≡ NOT_UTF8 }
+    ensures malformed { BeginsMalformed text.now → result ≡ NOT_UTF8 }
     ensures encodes { IsUtf8 text.now → AnswersEncoder encoder.old.coder.coder result
         (λ e. EncodesAll false e encoder.new.coder.coder last (chars text.now)
         (chars (drop progress.new.read text.now)) (length text.now) dst.old dst.new progress.new) }
-    ensures read { result ≡ OK → ReadsText text.now progress.new.read }
+    ensures encodes_before { ¬ (IsUtf8 text.now) → text_prefix text.now ≢ []
+        → AnswersEncoder encoder.old.coder.coder result (λ e. IsToldOfPart false progress.new
+        (EncodesAll false e encoder.new.coder.coder false (chars (text_prefix text.now))
+        (chars (drop progress.new.read (text_prefix text.now))) (length (text_prefix text.now))
+        dst.old dst.new)) }
+    ensures read { result ≡ OK → ReadsText (text_prefix text.now) progress.new.read }
     ensures unchanged { result ≢ OK
         → (dst.new ≡ dst.old) × (encoder.new.coder.coder ≡ encoder.old.coder.coder) }
     ensures nothing { result ≢ OK → progress.new ≡ NONE }
 {
     *progress = EncoderProgress::NONE;
-    let Ok(text) = str::from_utf8(text) else {
+    let Some((part, is_whole)) = first_part(text, dst.len()) else {
         return NOT_UTF8;
     };
     let Some(mut coder) = encoder.coder.take(alloc) else {
         return CLOSED;
     };
-    let status = from_utf8(&mut coder, text, dst, last, progress);
+    let status = from_utf8(&mut coder, part, is_whole, dst, last & is_whole, progress);
     encoder.coder.put(coder);
     status
 }
 
-// Encodes, with a reference of each character that has no bytes.
+// Encodes a part of a text, or the whole, with a reference of each character that has no bytes.
 fn from_utf8(
     coder: &mut Coder,
-    text: &str,
+    part: &str,
+    is_whole: bool,
     dst: &mut [u8],
     last: bool,
     progress: &mut EncoderProgress,
 ) -> u8
     ensures encodes { AnswersEncoder (Some coder.old) result
-        (λ e. EncodesAll false e (Some coder.new) last (chars text.now)
-        (chars (drop progress.new.read text.now)) (length text.now) dst.old dst.new progress.new) }
-    ensures read { result ≡ OK → ReadsText text.now progress.new.read }
+        (λ e. IsToldOfPart is_whole progress.new
+        (EncodesAll false e (Some coder.new) last (chars part.now)
+        (chars (drop progress.new.read part.now)) (length part.now) dst.old dst.new)) }
+    ensures read { result ≡ OK → ReadsText part.now progress.new.read }
     ensures unchanged { result ≢ OK → (dst.new ≡ dst.old) × (coder.new ≡ coder.old) }
     ensures untold { result ≢ OK → progress.new ≡ progress.old }
 {
     let Coder::Encoder(encoder) = coder else {
         return CLOSED;
     };
-    let (outcome, read, written, had_unmappable) = encoder.encode_from_utf8(text, dst, last);
+    let (outcome, read, written, had_unmappable) = encoder.encode_from_utf8(part, dst, last);
     *progress = EncoderProgress {
         read,
         written,
-        outcome: outcome_of(outcome),
+        outcome: told_outcome(is_whole, outcome_of(outcome)),
         had_unmappable,
         scalar: 0,
     };
@@ -92,11 +108,17 @@ fn from_utf8(
 /// Returns `OK`, and `progress` tells what was done. At `INPUT_EMPTY` all is read. At `OUTPUT_FULL`
 /// something is left to do: make room, and hand in the rest again, with `last` as it was, even if
 /// nothing is left; 4 bytes are always enough to go on. At `UNMAPPABLE` the character that was read
-/// last has no bytes: write its reference, or something else in ASCII, and go on as at
-/// `OUTPUT_FULL`. Nothing after what is written changes.
+/// last has no bytes: write its reference, or something else in printable ASCII other than
+/// backslash and tilde, and go on as at `OUTPUT_FULL`. (In ISO-2022-JP the set in force may then be
+/// Roman, in which their bytes, 5C and 7E, are U+00A5 and U+203E; 0E, 0F and 1B are no characters.)
+/// Nothing after what is written changes.
 ///
-/// Else nothing is done, and all of `progress` is 0: `CLOSED`, the handle holds no encoder;
-/// `NOT_UTF8`, the text is not UTF-8.
+/// What a call looks at, and a text that is not UTF-8, are as with
+/// `jillapun_encoder_encode_from_utf8`.
+///
+/// Else nothing is done, and all of `progress` is 0: `NOT_UTF8`, the text begins with a malformed
+/// sequence, or with a character of which the end is not there; `CLOSED`, the handle holds no
+/// encoder.
 #[unsafe(no_mangle)]
 pub extern "C" fn jillapun_encoder_encode_from_utf8_without_replacement(
     alloc: Global,
@@ -106,51 +128,58 @@ pub extern "C" fn jillapun_encoder_encode_from_utf8_without_replacement(
     last: bool,
     progress: &mut EncoderProgress,
 ) -> u8
-    ensures text { (¬ (IsUtf8 text.now)) → result ≡ NOT_UTF8 }
+    ensures malformed { BeginsMalformed text.now → result ≡ NOT_UTF8 }
     ensures encodes { IsUtf8 text.now → AnswersEncoder encoder.old.coder.coder result
         (λ e. EncodesUpToLost false e encoder.new.coder.coder last (chars text.now)
         (chars (drop progress.new.read text.now)) (length text.now) dst.old dst.new progress.new) }
-    ensures read { result ≡ OK → ReadsText text.now progress.new.read }
+    ensures encodes_before { ¬ (IsUtf8 text.now) → text_prefix text.now ≢ []
+        → AnswersEncoder encoder.old.coder.coder result (λ e. IsToldOfPart false progress.new
+        (EncodesUpToLost false e encoder.new.coder.coder false (chars (text_prefix text.now))
+        (chars (drop progress.new.read (text_prefix text.now))) (length (text_prefix text.now))
+        dst.old dst.new)) }
+    ensures read { result ≡ OK → ReadsText (text_prefix text.now) progress.new.read }
     ensures unchanged { result ≢ OK
         → (dst.new ≡ dst.old) × (encoder.new.coder.coder ≡ encoder.old.coder.coder) }
     ensures nothing { result ≢ OK → progress.new ≡ NONE }
 {
     *progress = EncoderProgress::NONE;
-    let Ok(text) = str::from_utf8(text) else {
+    let Some((part, is_whole)) = first_part(text, dst.len()) else {
         return NOT_UTF8;
     };
     let Some(mut coder) = encoder.coder.take(alloc) else {
         return CLOSED;
     };
-    let status = from_utf8_part(&mut coder, text, dst, last, progress);
+    let status = from_utf8_part(&mut coder, part, is_whole, dst, last & is_whole, progress);
     encoder.coder.put(coder);
     status
 }
 
-// Encodes up to the first character that has no bytes.
+// Encodes a part of a text, or the whole, up to the first character that has no bytes.
 fn from_utf8_part(
     coder: &mut Coder,
-    text: &str,
+    part: &str,
+    is_whole: bool,
     dst: &mut [u8],
     last: bool,
     progress: &mut EncoderProgress,
 ) -> u8
     ensures encodes { AnswersEncoder (Some coder.old) result
-        (λ e. EncodesUpToLost false e (Some coder.new) last (chars text.now)
-        (chars (drop progress.new.read text.now)) (length text.now) dst.old dst.new progress.new) }
-    ensures read { result ≡ OK → ReadsText text.now progress.new.read }
+        (λ e. IsToldOfPart is_whole progress.new
+        (EncodesUpToLost false e (Some coder.new) last (chars part.now)
+        (chars (drop progress.new.read part.now)) (length part.now) dst.old dst.new)) }
+    ensures read { result ≡ OK → ReadsText part.now progress.new.read }
     ensures unchanged { result ≢ OK → (dst.new ≡ dst.old) × (coder.new ≡ coder.old) }
     ensures untold { result ≢ OK → progress.new ≡ progress.old }
 {
     let Coder::Encoder(encoder) = coder else {
         return CLOSED;
     };
-    let (outcome, read, written) = encoder.encode_from_utf8_without_replacement(text, dst, last);
+    let (outcome, read, written) = encoder.encode_from_utf8_without_replacement(part, dst, last);
     let (outcome, scalar) = encoder_outcome_of(outcome);
     *progress = EncoderProgress {
         read,
         written,
-        outcome,
+        outcome: told_outcome(is_whole, outcome),
         had_unmappable: false,
         scalar,
     };

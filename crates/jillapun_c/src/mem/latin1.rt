@@ -2,13 +2,13 @@
 //! into it.
 
 ghost use Rattle.std.specs.Prelude.{◌≡◌, ◌↔◌, ◌*◌, ◌<◌, ◌≤◌, IsTrue, length, encode_utf8_all};
-ghost use Rattle.std.specs.Str.{IsUtf8, chars};
+ghost use Rattle.std.specs.Str.{chars};
 ghost use Rattle.encoding_mem.specs.Conversions.{low_bytes};
 ghost use Rattle.encoding_mem.specs.Latin1.{AllLatin1, IsLatin1Text};
 ghost use Rattle.encoding_mem.specs.LongestPrefix.{IsLongestPrefix};
 ghost use Rattle.jillapun_c.specs.Room.{IsPut, TextIsPut, IsUnwritten};
 
-use crate::mem::utf8::is_text;
+use crate::mem::text_room::clear_rest;
 use crate::status::REFUSED;
 
 /// Whether the bytes are well-formed UTF-8 with no character above U+00FF.
@@ -118,19 +118,22 @@ pub extern "C" fn encoding_mem_convert_latin1_to_utf8(src: &[u8], dst: &mut [u8]
     encoding_mem::convert_latin1_to_utf8(src, dst)
 }
 
-/// Converts Latin1 to UTF-8 at the start of a text, which stays one, and returns how many bytes
-/// were written: if a character of `dst` is overwritten in part, its other bytes become 00. Room:
-/// twice as many bytes as `src` has. If `dst` is shorter, or is not UTF-8 before the call, nothing
-/// is written and `SIZE_MAX` is returned.
+/// Converts Latin1 to UTF-8 at the start of a text, and returns how many bytes were written. If a
+/// character of `dst` is overwritten in part, its other bytes become 00, so what was UTF-8 is UTF-8
+/// after the call. Of what stands behind the bytes that were written the call looks at three, and
+/// it changes those of them that go on with a character (80 to BF), whether or not `dst` was UTF-8.
+/// Room: twice as many bytes as `src` has; if `dst` is shorter, nothing is written and `SIZE_MAX`
+/// is returned.
 #[unsafe(no_mangle)]
 pub extern "C" fn encoding_mem_convert_latin1_to_str(src: &[u8], dst: &mut [u8]) -> usize
-    ensures converts { IsUtf8 dst.old → 2 * length src.now ≤ length dst.old
+    ensures converts { 2 * length src.now ≤ length dst.old
         → TextIsPut dst.old (encode_utf8_all src.now) dst.new result }
-    ensures no_room { length dst.old < 2 * length src.now → IsUnwritten dst.old dst.new result }
-    ensures no_text { ¬ (IsUtf8 dst.old) → IsUnwritten dst.old dst.new result }
+    ensures refuses { length dst.old < 2 * length src.now → IsUnwritten dst.old dst.new result }
 {
-    if dst.len() / 2 < src.len() || !is_text(dst) {
+    if dst.len() / 2 < src.len() {
         return REFUSED;
     }
-    encoding_mem::convert_latin1_to_str(src, dst)
+    let written = encoding_mem::convert_latin1_to_utf8(src, dst);
+    clear_rest(dst, written);
+    written
 }

@@ -7,12 +7,11 @@ ghost use Rattle.encoding_mem.specs.Conversions.{IsLongest, IsUnitBoundary};
 ghost use Rattle.encoding_mem.specs.Conversions.{text_in_utf16, units_in_utf8};
 ghost use Rattle.jillapun_c.specs.Room.{IsPut, TextIsPut};
 
-use crate::mem::utf8::is_text;
-use crate::status::{NOT_UTF8, OK};
+use crate::mem::text_room::clear_rest;
 
 /// Converts the longest well-formed prefix of UTF-8 whose UTF-16 fits into `dst`. It ends before
 /// the first malformed sequence, if one comes before the room ends. `read` is in bytes, `written`
-/// in units.
+/// in units. No more of `src` is looked at than three bytes for each unit of `dst`.
 #[unsafe(no_mangle)]
 pub extern "C" fn jillapun_mem_convert_utf8_to_utf16_up_to_invalid(
     src: &[u8],
@@ -25,7 +24,13 @@ pub extern "C" fn jillapun_mem_convert_utf8_to_utf16_up_to_invalid(
     ensures writes { let units = text_in_utf16 (take read.new src.now) in
         IsPut dst.old units dst.new written.new }
 {
-    let (bytes, units) = encoding_mem::convert_utf8_to_utf16_up_to_invalid(src, dst);
+    // A unit stands for three bytes at most: no longer prefix fits.
+    let end = if src.len() / 3 < dst.len() {
+        src.len()
+    } else {
+        3 * dst.len()
+    };
+    let (bytes, units) = encoding_mem::convert_utf8_to_utf16_up_to_invalid(&src[..end], dst);
     *read = bytes;
     *written = units;
 }
@@ -69,63 +74,45 @@ pub extern "C" fn jillapun_mem_convert_latin1_to_utf8_partial(
     *written = more;
 }
 
-/// Converts the longest prefix of UTF-16 whose UTF-8 fits into a text, which stays one: if a
-/// character of `dst` is overwritten in part, its other bytes become 00. No pair is split; a
-/// surrogate in no pair of `src` becomes U+FFFD. `read` is in units, `written` in bytes. Returns
-/// `OK`, or `NOT_UTF8` if `dst` is not UTF-8 before the call: then nothing is read or written.
+/// Converts the longest prefix of UTF-16 whose UTF-8 fits into a text. No pair is split; a
+/// surrogate in no pair of `src` becomes U+FFFD. `read` is in units, `written` in bytes. What
+/// becomes of the bytes behind those is as with `encoding_mem_convert_utf16_to_str`: what was UTF-8
+/// stays UTF-8.
 #[unsafe(no_mangle)]
 pub extern "C" fn jillapun_mem_convert_utf16_to_str_partial(
     src: &[u16],
     dst: &mut [u8],
     read: &mut usize,
     written: &mut usize,
-) -> u8
-    ensures longest { result ≡ OK → IsLongest (IsUnitBoundary src.now)
+)
+    ensures longest { IsLongest (IsUnitBoundary src.now)
         (λ i. length (units_in_utf8 (take i src.now))) (length src.now) (length dst.old) read.new }
-    ensures writes { result ≡ OK
-        → TextIsPut dst.old (units_in_utf8 (take read.new src.now)) dst.new written.new }
-    ensures tested { IsUtf8 dst.old → result ≡ OK }
-    ensures refuses { ¬ (IsUtf8 dst.old) → (result ≡ NOT_UTF8) × (dst.new ≡ dst.old)
-        × (read.new ≡ 0) × (written.new ≡ 0) }
+    ensures writes { TextIsPut dst.old (units_in_utf8 (take read.new src.now)) dst.new written.new }
 {
-    if !is_text(dst) {
-        *read = 0;
-        *written = 0;
-        return NOT_UTF8;
-    }
-    let (units, bytes) = encoding_mem::convert_utf16_to_str_partial(src, dst);
-    *read = units;
-    *written = bytes;
-    OK
+    let (count, len) = encoding_mem::convert_utf16_to_utf8_partial(src, dst);
+    clear_rest(dst, len);
+    *read = count;
+    *written = len;
 }
 
-/// Converts the longest prefix of Latin1 whose UTF-8 fits into a text, which stays one: if a
-/// character of `dst` is overwritten in part, its other bytes become 00. `read` and `written` are
-/// in bytes. Returns `OK`, or `NOT_UTF8` if `dst` is not UTF-8 before the call: then nothing is
-/// read or written.
+/// Converts the longest prefix of Latin1 whose UTF-8 fits into a text. `read` and `written` are in
+/// bytes. What becomes of the bytes behind those is as with `encoding_mem_convert_latin1_to_str`:
+/// what was UTF-8 stays UTF-8.
 #[unsafe(no_mangle)]
 pub extern "C" fn jillapun_mem_convert_latin1_to_str_partial(
     src: &[u8],
     dst: &mut [u8],
     read: &mut usize,
     written: &mut usize,
-) -> u8
-    ensures longest { result ≡ OK → IsLongest (λ _. Unit {0})
+)
+    ensures longest { IsLongest (λ _. Unit {0})
         (λ i. length (encode_utf8_all (take i src.now))) (length src.now) (length dst.old)
         read.new }
-    ensures writes { result ≡ OK
-        → TextIsPut dst.old (encode_utf8_all (take read.new src.now)) dst.new written.new }
-    ensures tested { IsUtf8 dst.old → result ≡ OK }
-    ensures refuses { ¬ (IsUtf8 dst.old) → (result ≡ NOT_UTF8) × (dst.new ≡ dst.old)
-        × (read.new ≡ 0) × (written.new ≡ 0) }
+    ensures writes { TextIsPut dst.old (encode_utf8_all (take read.new src.now)) dst.new
+        written.new }
 {
-    if !is_text(dst) {
-        *read = 0;
-        *written = 0;
-        return NOT_UTF8;
-    }
-    let (bytes, more) = encoding_mem::convert_latin1_to_str_partial(src, dst);
-    *read = bytes;
-    *written = more;
-    OK
+    let (count, len) = encoding_mem::convert_latin1_to_utf8_partial(src, dst);
+    clear_rest(dst, len);
+    *read = count;
+    *written = len;
 }

@@ -31,7 +31,7 @@ use crate::mem::utf16::{
     encoding_mem_convert_utf16_to_str, encoding_mem_convert_utf16_to_utf8,
     encoding_mem_ensure_utf16_validity, encoding_mem_utf16_valid_up_to,
 };
-use crate::status::{BIDI, LATIN1, LEFT_TO_RIGHT, NOT_UTF8, OK, REFUSED};
+use crate::status::{BIDI, LATIN1, LEFT_TO_RIGHT, REFUSED};
 
 #[test]
 fn ascii_is_found(rt: HostRuntime) {
@@ -217,16 +217,17 @@ fn a_text_stays_text(rt: HostRuntime) {
     assert_eq!(rt; text, [0x41, 0, 0x42, 0x42]);
     assert_eq!(rt; encoding_mem_convert_utf16_to_str(&[0x43], &mut text), 1);
     assert_eq!(rt; text, [0x43, 0, 0x42, 0x42]);
-    text[3] = 0xFF;
-    assert_eq!(rt;
-        encoding_mem_convert_latin1_to_str(&[0x41], &mut text),
-        REFUSED
-    );
-    assert_eq!(rt;
-        encoding_mem_convert_utf16_to_str(&[0x41], &mut text),
-        REFUSED
-    );
-    assert_eq!(rt; text, [0x43, 0, 0x42, 0xFF]);
+}
+
+// Three bytes are the most that can be left of a character: of what is no text no more is cleared.
+#[test]
+fn at_most_three_bytes_are_cleared(rt: HostRuntime) {
+    let mut bytes = [0xF0, 0x9F, 0x92, 0xA9, 0x80, 0xFF];
+    assert_eq!(rt; encoding_mem_convert_latin1_to_str(&[0x41], &mut bytes), 1);
+    assert_eq!(rt; bytes, [0x41, 0, 0, 0, 0x80, 0xFF]);
+    let mut bytes = [0x80; 6];
+    assert_eq!(rt; encoding_mem_convert_utf16_to_str(&[0x43], &mut bytes), 1);
+    assert_eq!(rt; bytes, [0x43, 0, 0, 0, 0x80, 0x80]);
 }
 
 // U+0041, U+20AC and half a pair, of which U+FFFD stands in the place.
@@ -299,36 +300,29 @@ fn what_fits_goes_into_a_text(rt: HostRuntime) {
     let mut text = [0x61, 0xC3, 0xA9];
     let mut read = 9;
     let mut written = 9;
-    let status = jillapun_mem_convert_utf16_to_str_partial(
-        &[0xE8, 0xE8],
-        &mut text,
-        &mut read,
-        &mut written,
-    );
-    assert!(rt; status == OK && read == 1 && written == 2);
+    jillapun_mem_convert_utf16_to_str_partial(&[0xE8, 0xE8], &mut text, &mut read, &mut written);
+    assert!(rt; read == 1 && written == 2);
     assert_eq!(rt; text, [0xC3, 0xA8, 0]);
-    let status = jillapun_mem_convert_latin1_to_str_partial(
-        &[0x41],
-        &mut text,
-        &mut read,
-        &mut written,
-    );
-    assert!(rt; status == OK && read == 1 && written == 1);
+    jillapun_mem_convert_latin1_to_str_partial(&[0x41], &mut text, &mut read, &mut written);
+    assert!(rt; read == 1 && written == 1);
     assert_eq!(rt; text, [0x41, 0, 0]);
-    text[2] = 0xFF;
-    let status = jillapun_mem_convert_latin1_to_str_partial(
-        &[0x41],
-        &mut text,
+}
+
+// A euro sign is three bytes and one unit: no room for a unit is no reason to look at more.
+#[test]
+fn room_ends_before_the_malformed_byte(rt: HostRuntime) {
+    let mut units = [0; 1];
+    let mut read = 9;
+    let mut written = 9;
+    let bytes = [0xE2, 0x82, 0xAC, 0xFF];
+    jillapun_mem_convert_utf8_to_utf16_up_to_invalid(&bytes, &mut units, &mut read, &mut written);
+    assert!(rt; read == 3 && written == 1);
+    assert_eq!(rt; units, [0x20AC]);
+    jillapun_mem_convert_utf8_to_utf16_up_to_invalid(
+        &[0xF0, 0x9F, 0x92, 0xA9],
+        &mut units,
         &mut read,
         &mut written,
     );
-    assert!(rt; status == NOT_UTF8 && read == 0 && written == 0);
-    let status = jillapun_mem_convert_utf16_to_str_partial(
-        &[0x41],
-        &mut text,
-        &mut read,
-        &mut written,
-    );
-    assert!(rt; status == NOT_UTF8 && read == 0 && written == 0);
-    assert_eq!(rt; text, [0x41, 0, 0xFF]);
+    assert!(rt; read == 0 && written == 0);
 }

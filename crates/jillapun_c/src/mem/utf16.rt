@@ -1,13 +1,12 @@
 //! UTF-16: whether it is well-formed, and conversions to UTF-8.
 
 ghost use Rattle.std.specs.Prelude.{◌*◌, ◌<◌, ◌≤◌, length};
-ghost use Rattle.std.specs.Str.{IsUtf8};
 ghost use Rattle.encoding_mem.specs.Conversions.{units_in_utf8};
 ghost use Rattle.encoding_mem.specs.LongestPrefix.{IsLongestPrefix};
 ghost use Rattle.encoding_mem.specs.Surrogates.{IsMended, IsUtf16};
 ghost use Rattle.jillapun_c.specs.Room.{IsPut, TextIsPut, IsUnwritten};
 
-use crate::mem::utf8::is_text;
+use crate::mem::text_room::clear_rest;
 use crate::status::REFUSED;
 
 /// The length in units of the longest prefix that is well-formed UTF-16: it ends before the first
@@ -43,20 +42,22 @@ pub extern "C" fn encoding_mem_convert_utf16_to_utf8(src: &[u16], dst: &mut [u8]
     encoding_mem::convert_utf16_to_utf8(src, dst)
 }
 
-/// Converts UTF-16 to UTF-8 at the start of a text, which stays one, with U+FFFD for each
-/// surrogate in no pair, and returns how many bytes were written: if a character of `dst` is
-/// overwritten in part, its other bytes become 00. Room: three bytes for each unit of `src`. If
-/// `dst` is shorter, or is not UTF-8 before the call, nothing is written and `SIZE_MAX` is
-/// returned.
+/// Converts UTF-16 to UTF-8 at the start of a text, with U+FFFD for each surrogate in no pair, and
+/// returns how many bytes were written. If a character of `dst` is overwritten in part, its other
+/// bytes become 00, so what was UTF-8 is UTF-8 after the call. Of what stands behind the bytes that
+/// were written the call looks at three, and it changes those of them that go on with a character
+/// (80 to BF), whether or not `dst` was UTF-8. Room: three bytes for each unit of `src`; if `dst`
+/// is shorter, nothing is written and `SIZE_MAX` is returned.
 #[unsafe(no_mangle)]
 pub extern "C" fn encoding_mem_convert_utf16_to_str(src: &[u16], dst: &mut [u8]) -> usize
-    ensures converts { IsUtf8 dst.old → 3 * length src.now ≤ length dst.old
+    ensures converts { 3 * length src.now ≤ length dst.old
         → TextIsPut dst.old (units_in_utf8 src.now) dst.new result }
-    ensures no_room { length dst.old < 3 * length src.now → IsUnwritten dst.old dst.new result }
-    ensures no_text { ¬ (IsUtf8 dst.old) → IsUnwritten dst.old dst.new result }
+    ensures refuses { length dst.old < 3 * length src.now → IsUnwritten dst.old dst.new result }
 {
-    if dst.len() / 3 < src.len() || !is_text(dst) {
+    if dst.len() / 3 < src.len() {
         return REFUSED;
     }
-    encoding_mem::convert_utf16_to_str(src, dst)
+    let written = encoding_mem::convert_utf16_to_utf8(src, dst);
+    clear_rest(dst, written);
+    written
 }

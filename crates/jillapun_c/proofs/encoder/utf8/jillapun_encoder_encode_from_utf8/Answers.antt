@@ -1,12 +1,60 @@
-use Rattle.std.proofs.Common.{ap, sym, ◌∙◌, Some}
+use Rattle.std.proofs.Common.{◌≡◌, ◌*◌, ℕ, ap, sym, ◌∙◌, arith, false, length, subst, Some}
+use Rattle.encoding_mem.specs.Conversions.{text_prefix}
 use Rattle.jillapun_c.specs.Coders.{encoder_in}
+use Rattle.jillapun_c.specs.EncoderCalls.{EncodesAll}
+use Rattle.jillapun_c.specs.TextParts.{IsFirstPart}
+use Rattle.jillapun_c.proofs.TextCallLemmas.{all_goes, before_of_text, reads_text, whole_of_part}
+use Rattle.jillapun_c.proofs.TextPartLemmas.{IsPartOf, part_for_room, prefix_of_text}
 use Rattle.jillapun_c.proofs.encoder.utf8.jillapun_encoder_encode_from_utf8.Goals as goal
+
+pub returns-in_default-clause-encodes : goal.returns-in_default-clause-encodes
+returns-in_default-clause-encodes c utf8 = let b = c.in_default.ensures in absurd (b.0 (sym (prefix_of_text c.args.text.now utf8) ∙ b.1))
 
 pub returns-clause-encodes : goal.returns-clause-encodes
 returns-clause-encodes c utf8 =
     let told = c.from_utf8-status.ensures.encodes in
-    let same = ap encoder_in (ap Some c.deref_mut.ensures.value ∙ sym c.in-Some.ensures.coder) in
+    let same = ap encoder_in (ap Some c.deref_mut.ensures.value ∙ sym c.in-Some-take.ensures.coder) in
+    let p : IsFirstPart (length c.args.dst.now) c.args.text.now c.in-Some.part.now c.in-Some.is_whole = c.in-Some.ensures in
+    let h : IsPartOf c.args.text.now c.in-Some.part.now (4 * length c.args.dst.now) =
+    subst (λ t. IsPartOf t c.in-Some.part.now (4 * length c.args.dst.now)) (prefix_of_text c.args.text.now utf8)
+    (part_for_room c.args.text.now c.in-Some.part.now (length c.args.dst.now) p.is) in
+    let size : length c.from_utf8-status.new.dst ≡ length c.args.dst.now = omega (arith, c.from_utf8-status.auto.dst) in
     record {
       closed = λ none. told.closed (same ∙ none);
-      done = λ e held. rw (← c.in-Ok.ensures.cases.0) (rw c.put.ensures (told.done e (same ∙ held)));
+      done = λ e held.
+          let d = told.done e (same ∙ held) in (
+            d.0,
+            rw c.put.ensures (whole_of_part
+                (λ l t r n q. EncodesAll false e (Some c.from_utf8-status.new.coder) l t r n c.args.dst.now c.from_utf8-status.new.dst q)
+                c.args.last c.in-Some.is_whole c.args.text.now c.in-Some.part.now (4 * length c.args.dst.now) c.from_utf8-status.new.progress h p.whole
+                (λ long. all_goes e (Some c.from_utf8-status.new.coder) c.args.last c.args.text.now c.in-Some.part.now c.args.dst.now c.from_utf8-status.new.dst
+                c.from_utf8-status.new.progress h size (c.from_utf8-status.ensures.read d.0) long)
+                d.1),
+          );
     }
+
+pub returns-clause-encodes_before : goal.returns-clause-encodes_before
+returns-clause-encodes_before c malformed some =
+    let told = c.from_utf8-status.ensures.encodes in
+    let same = ap encoder_in (ap Some c.deref_mut.ensures.value ∙ sym c.in-Some-take.ensures.coder) in
+    let p : IsFirstPart (length c.args.dst.now) c.args.text.now c.in-Some.part.now c.in-Some.is_whole = c.in-Some.ensures in
+    let h = part_for_room c.args.text.now c.in-Some.part.now (length c.args.dst.now) p.is in
+    let size : length c.from_utf8-status.new.dst ≡ length c.args.dst.now = omega (arith, c.from_utf8-status.auto.dst) in
+    record {
+      closed = λ none. told.closed (same ∙ none);
+      done = λ e held.
+          let d = told.done e (same ∙ held) in (
+            d.0,
+            rw c.put.ensures (before_of_text
+                (λ l t r n q. EncodesAll false e (Some c.from_utf8-status.new.coder) l t r n c.args.dst.now c.from_utf8-status.new.dst q)
+                c.args.last c.in-Some.is_whole c.args.text.now c.in-Some.part.now (4 * length c.args.dst.now) c.from_utf8-status.new.progress h malformed p.whole
+                (λ long. all_goes e (Some c.from_utf8-status.new.coder) false (text_prefix c.args.text.now) c.in-Some.part.now c.args.dst.now c.from_utf8-status.new.dst
+                c.from_utf8-status.new.progress h size (c.from_utf8-status.ensures.read d.0) long)
+                d.1),
+          );
+    }
+
+pub returns-clause-read : goal.returns-clause-read
+returns-clause-read c ok =
+    reads_text (text_prefix c.args.text.now) c.in-Some.part.now (4 * length c.args.dst.now) c.from_utf8-status.new.progress.read
+    (part_for_room c.args.text.now c.in-Some.part.now (length c.args.dst.now) c.in-Some.ensures.is) (c.from_utf8-status.ensures.read ok)

@@ -1,0 +1,175 @@
+//! Calls of an encoder that are handed the whole of a text, again and again, with little room.
+
+use crate::encoder::utf8::{
+    jillapun_encoder_encode_from_utf8, jillapun_encoder_encode_from_utf8_without_replacement,
+};
+use crate::encoder::{EncoderHandle, jillapun_encoder_free, jillapun_encoder_new};
+use crate::encoder_progress::EncoderProgress;
+use crate::handle::CoderHandle;
+use crate::status::{INPUT_EMPTY, NOT_UTF8, OK, OUTPUT_FULL, UNMAPPABLE};
+use crate::tests::euro;
+use std::alloc::Global;
+
+const WINDOWS_1252: u8 = 31;
+
+// A text of 8 bytes: one byte, three that have one in windows-1252, three that have none, and one.
+const TEXT: &[u8; 8] = b"a\xE2\x82\xAC\xE6\x97\xA5b";
+
+// Where the character begins in which a byte of it stands.
+const STARTS: [usize; 9] = [0, 1, 1, 1, 4, 4, 4, 7, 8];
+
+// What calls leave: the last status and outcome, how many bytes were read, and what was written.
+type Left = (u8, u8, usize, [u8; 16], usize);
+
+fn western_encoder(alloc: Global) -> EncoderHandle {
+    let mut encoder = EncoderHandle {
+        coder: CoderHandle::none(),
+    };
+    jillapun_encoder_new(alloc, euro(alloc), WINDOWS_1252, &mut encoder);
+    encoder
+}
+
+// Hands in what is left of a text until all is read, or a call refuses.
+fn through(
+    alloc: Global,
+    encoder: &mut EncoderHandle,
+    text: &[u8],
+    room: usize,
+    replaces: bool,
+) -> Left {
+    let mut progress = EncoderProgress::NONE;
+    let mut status = OK;
+    let mut read = 0;
+    let mut made = *b"................";
+    let mut len = 0;
+    for _ in 0..12 {
+        let mut bytes = [0; 20];
+        let dst = &mut bytes[..room.min(20)];
+        let rest = &text[read.min(text.len())..];
+        status = if replaces {
+            jillapun_encoder_encode_from_utf8(alloc, encoder, rest, dst, true, &mut progress)
+        } else {
+            jillapun_encoder_encode_from_utf8_without_replacement(
+                alloc,
+                encoder,
+                rest,
+                dst,
+                true,
+                &mut progress,
+            )
+        };
+        if status != OK {
+            break;
+        }
+        for i in 0..progress.written.min(20) {
+            if len < 16 {
+                made[len] = bytes[i];
+                len += 1;
+            }
+        }
+        read = progress.read.saturating_add(read);
+        if progress.outcome == INPUT_EMPTY {
+            break;
+        }
+    }
+    (status, progress.outcome, read, made, len)
+}
+
+#[test]
+fn any_room_that_is_enough_gives_the_text(rt: HostRuntime) {
+    let alloc = rt.alloc();
+    let mut encoder = western_encoder(alloc);
+    for room in 0..21 {
+        let left = through(alloc, &mut encoder, TEXT, room, true);
+        if room < 11 {
+            assert_eq!(rt; left, (OK, OUTPUT_FULL, 0, *b"................", 0));
+        } else {
+            assert_eq!(rt; left, (OK, INPUT_EMPTY, 8, *b"a\x80&#26085;b.....", 11));
+        }
+        let left = through(alloc, &mut encoder, TEXT, room, false);
+        if room < 1 {
+            assert_eq!(rt; left, (OK, OUTPUT_FULL, 0, *b"................", 0));
+        } else {
+            assert_eq!(rt; left, (OK, INPUT_EMPTY, 8, *b"a\x80b.............", 3));
+        }
+    }
+    jillapun_encoder_free(alloc, &mut encoder);
+}
+
+#[test]
+fn what_is_before_a_malformed_byte_is_encoded(rt: HostRuntime) {
+    let alloc = rt.alloc();
+    let mut encoder = western_encoder(alloc);
+    for at in 0..8 {
+        let mut text = *TEXT;
+        text[at] = 0xFF;
+        for room in 14..21 {
+            let (status, _, read, _, _) = through(alloc, &mut encoder, &text, room, true);
+            assert_eq!(rt; (status, read), (NOT_UTF8, STARTS[at]));
+        }
+        for room in 1..5 {
+            let (status, _, read, _, _) = through(alloc, &mut encoder, &text, room, false);
+            assert_eq!(rt; (status, read), (NOT_UTF8, STARTS[at]));
+        }
+    }
+    jillapun_encoder_free(alloc, &mut encoder);
+}
+
+#[test]
+fn a_text_that_ends_within_a_character_is_not_utf8(rt: HostRuntime) {
+    let alloc = rt.alloc();
+    let mut encoder = western_encoder(alloc);
+    for end in 0..9 {
+        let (status, outcome, read, _, len) = through(alloc, &mut encoder, &TEXT[..end], 20, true);
+        assert_eq!(rt; read, STARTS[end]);
+        if STARTS[end] == end {
+            assert_eq!(rt; (status, outcome), (OK, INPUT_EMPTY));
+        } else {
+            assert_eq!(rt; (status, outcome), (NOT_UTF8, INPUT_EMPTY));
+        }
+        assert_eq!(rt; len >= 1, end >= 1);
+    }
+    jillapun_encoder_free(alloc, &mut encoder);
+}
+
+// The call that comes to the malformed byte does not end as if the text were read, and the end of
+// the stream is not written.
+#[test]
+fn more_is_told_before_a_malformed_byte(rt: HostRuntime) {
+    let alloc = rt.alloc();
+    let mut encoder = western_encoder(alloc);
+    let mut progress = EncoderProgress::NONE;
+    let mut bytes = [0; 20];
+    let status = jillapun_encoder_encode_from_utf8(
+        alloc,
+        &mut encoder,
+        b"ab\xFF",
+        &mut bytes,
+        true,
+        &mut progress,
+    );
+    assert_eq!(rt; (status, progress.outcome), (OK, OUTPUT_FULL));
+    assert_eq!(rt; (progress.read, progress.written), (2, 2));
+    let status = jillapun_encoder_encode_from_utf8_without_replacement(
+        alloc,
+        &mut encoder,
+        b"\xE6\x97\xA5\xFF",
+        &mut bytes,
+        true,
+        &mut progress,
+    );
+    assert_eq!(rt;
+        (status, progress.outcome, progress.read),
+        (OK, UNMAPPABLE, 3)
+    );
+    let status = jillapun_encoder_encode_from_utf8_without_replacement(
+        alloc,
+        &mut encoder,
+        b"\xFF",
+        &mut bytes,
+        true,
+        &mut progress,
+    );
+    assert_eq!(rt; (status, progress.outcome, progress.read), (NOT_UTF8, 0, 0));
+    jillapun_encoder_free(alloc, &mut encoder);
+}
