@@ -209,6 +209,7 @@ def convert_with(
         done = ConvertedFile(report.read, report.bad, report.lost, conversion.status == c.OK, faults.kept)
         if is_in_place and not (done.faithful or lossy or backup):
             raise NotReplaced(done)
+        faults.end(done)
         place.finish(made, before.st_mode & 0o777)
         if is_in_place:
             place.check_unchanged(before)
