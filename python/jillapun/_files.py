@@ -198,8 +198,7 @@ def convert_with(
     progress: Optional[Callable[[int], object]] = None,
 ) -> ConvertedFile:
     """`convert_file`, with what is lost handed to `faults`."""
-    most = c.NO_LIMIT if limit is None else limit
-    conversion = Conversion(source, target, mark, unmappable, most, indexes, faults)
+    conversion = Conversion(source, target, mark, unmappable, c.limit_of(limit), indexes, faults)
     place = _Place(target_path, backup)
     with open(source_path, "rb") as given, place.beside() as (path, made):
         before = os.fstat(given.fileno())
