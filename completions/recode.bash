@@ -9,7 +9,7 @@ _jillapun_recode() {
     case $option in
     --from | --to)
         # A label with a colon, at which bash ends a word, is another name of an encoding that has one without.
-        words=$("${1%-places}" --list | sed 's/^[^:]*: //' | tr ' ' '\n' | grep -v :)
+        words=$("${1%-places}" --list 2> /dev/null | sed 's/^[^:]*: //' | tr ' ' '\n' | grep -v :)
         word=${word,,} ;;
     --mark) words="sniff remove keep" ;;
     --unmappable) words="decimal hexadecimal stop" ;;
@@ -21,7 +21,7 @@ _jillapun_recode() {
         return ;;
     *)
         if [[ $word == -* ]]; then
-            words=$("$1" --help | grep -oE -- '--[a-z]+(-[a-z]+)*' | sort -u)
+            words=$("$1" --help 2> /dev/null | grep -oE -- '--[a-z]+(-[a-z]+)*' | sort -u)
         elif [[ $1 == *recode-places ]]; then
             compopt -o filenames 2> /dev/null
             mapfile -t COMPREPLY < <(compgen -f -- "$word")

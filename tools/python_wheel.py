@@ -11,9 +11,11 @@ The gate installs the wheel in an empty virtual environment without a network, a
 """
 
 import os
+import signal
 import subprocess
 import sys
 import tempfile
+import time
 
 import c_library
 import install
@@ -24,12 +26,14 @@ OUT = os.path.join(TOP, "out")
 
 # The oldest glibc that a tag names: 2.17 is that of manylinux2014.
 OLDEST = 17
+# No wait for the program takes longer, in seconds.
+PATIENCE = 60
 
 BUILD = "import sys, wheel\nfrom setuptools import build_meta\nbuild_meta.build_wheel(sys.argv[1], {'--build-option': sys.argv[2:]})"
 
 # What is tried in the environment: the package, its indexes, its types, codecs.
 TRIED = """
-import importlib.resources, jillapun
+import importlib.resources, sys, jillapun
 assert jillapun.decode(b"A\\x83\\x6e", "shift_jis").text == "A\u30cf"
 assert str(jillapun.default_folder()).startswith(sys.prefix) and jillapun.__file__.startswith(sys.prefix)
 assert len(list(jillapun.default_folder().glob("index-*.txt"))) == %d
@@ -109,7 +113,7 @@ def uses(programs, folder):
     with open(given, "wb") as file:
         file.write("\u4e2d".encode("gb18030"))
     rows = [
-        (["python", "-I", "-c", "import sys" + TRIED % (count - 1), given], 0),
+        (["python", "-I", "-c", TRIED % (count - 1), given], 0),
         (["jillapun", "--from", "gb18030", "--to", "utf-8", given], 0),
         (["jillapun", "--from", "utf-8", "--to", "windows-1252", given], 1),
         (["jillapun", "--from", "none", "--to", "utf-8", given], 2),
@@ -119,6 +123,21 @@ def uses(programs, folder):
         ran = subprocess.run(command, cwd=folder, env=plain, capture_output=True, text=True, check=False)
         if ran.returncode != status:
             yield "wheel: %s: status %d and not %d: %s" % (program, ran.returncode, status, ran.stderr[-2000:])
+    yield from ends(os.path.join(programs, "jillapun"), folder, plain)
+
+
+def ends(program, folder, plain):
+    """What the program leaves that a signal meets while it waits for more input."""
+    into = tempfile.mkdtemp(dir=folder)
+    command = [program, "--from", "utf-8", "--to", "utf-8", "--into", into, "/dev/stdin"]
+    with subprocess.Popen(command, env=plain, stdin=subprocess.PIPE, stderr=subprocess.DEVNULL) as process:
+        end = time.monotonic() + PATIENCE
+        while not os.listdir(into) and time.monotonic() < end:
+            time.sleep(0.01)
+        process.terminate()
+        status = process.wait(PATIENCE)
+    if status != 128 + signal.SIGTERM or os.listdir(into):
+        yield "wheel: jillapun, after SIGTERM: status %d, and it leaves %s" % (status, os.listdir(into))
 
 
 def faults(shared):

@@ -39,7 +39,6 @@ from ._streams import Decoder, Encoder, Reader, Writer, open
 from ._texts import convert, decode, encode
 
 
-
 def register() -> None:
     """Gives the encodings to Python as codecs, under names that begin with `web-`: `open(path, encoding="web-shift_jis")`.
     See `jillapun.codecs`."""

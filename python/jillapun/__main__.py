@@ -47,8 +47,10 @@ class Unsaid(Exception):
 
 
 def complain(words: str) -> None:
-    """Writes a line to standard error."""
-    print(shown(words), file=sys.stderr)
+    """Writes a line to standard error, if it takes one: the status says what is wrong, too."""
+    if sys.stderr is not None:
+        with contextlib.suppress(OSError):
+            print(shown(words), file=sys.stderr, flush=True)
 
 
 class Parser(argparse.ArgumentParser):
@@ -97,15 +99,18 @@ class Terminal:
         """The file, and which part of it is converted."""
         line = "%d of %d: %s (%d%%)" % (self.done + 1, self.count, shown(name), 100 * part)
         if self.is_shown and line != self.line:
-            sys.stderr.write("\r\x1b[K" + line)
-            sys.stderr.flush()
-            self.line = line
+            self._write(line)
 
     def clear(self) -> None:
         if self.line:
-            sys.stderr.write("\r\x1b[K")
+            self._write("")
+
+    def _write(self, line: str) -> None:
+        """Writes a line over the last one, if the terminal is still there."""
+        with contextlib.suppress(OSError):
+            sys.stderr.write("\r\x1b[K" + line)
             sys.stderr.flush()
-            self.line = ""
+        self.line = line
 
     def tell(self, lines: str) -> None:
         """Writes lines to standard output at once, so that what is lost is told before a file is replaced."""
@@ -128,6 +133,10 @@ class Lines(Faults):
         super().add(records)
         name, rows = self.name, c.LOSS.iter_unpack(records)
         self.terminal.tell("".join([f"{name}: {WORDS[kind]} {place} {number}\n" for place, number, kind in rows]))
+
+    def end(self, done: jillapun.ConvertedFile) -> None:
+        if not (done.faithful or done.bad or done.lost):
+            self.terminal.tell("%s: %s\n" % (self.name, done.summary))
 
 
 def identity(path: str) -> Hashable:
@@ -201,8 +210,6 @@ def one_status(
         complain("%s: %s" % (path, reason_of(fault, path)))
         return 3 if isinstance(fault, jillapun.IndexesMissing) else 4
     terminal.clear()
-    if not (done.faithful or done.bad or done.lost):
-        terminal.tell("%s: %s\n" % (shown(path), done.summary))
     return 0 if done.faithful else 1
 
 

@@ -6,7 +6,7 @@ import os
 import shutil
 import stat
 import tempfile
-from typing import BinaryIO, Callable, Iterator, List, Optional, Tuple, cast
+from typing import BinaryIO, Callable, Iterator, List, Optional, Tuple, Union, cast
 
 from . import _library as c
 from ._indexes import Indexes, PathLike
@@ -18,12 +18,22 @@ def _refused(number: int, path: str, words: Optional[str] = None) -> OSError:
     return OSError(number, words or os.strerror(number), path)
 
 
-def _attributes_of(path: str) -> List[str]:
+def _attributes_of(file: Union[str, int]) -> List[str]:
     """The names of the extended attributes of a file; none where the system has none."""
     try:
-        return os.listxattr(path)
+        return os.listxattr(file)
     except (AttributeError, OSError):
         return []
+
+
+@contextlib.contextmanager
+def _as_far_as_may_be() -> Iterator[None]:
+    """Goes on where an attribute may not be set, as many of the system; a disk that is full or fails is another matter."""
+    try:
+        yield
+    except OSError as fault:
+        if fault.errno in (errno.ENOSPC, errno.EDQUOT, errno.EIO):
+            raise
 
 
 def _dress(descriptor: int, path: str, old: os.stat_result) -> None:
@@ -39,9 +49,14 @@ def _dress(descriptor: int, path: str, old: os.stat_result) -> None:
         except OSError:
             # The group is another: it may do what all may.
             mode = mode & 0o707 | (mode & 0o007) << 3
-    for name in _attributes_of(path):
-        with contextlib.suppress(OSError):
+    names = _attributes_of(path)
+    for name in names:
+        with _as_far_as_may_be():
             os.setxattr(descriptor, name, os.getxattr(path, name))
+    # A folder may hand down who else may read a new file.
+    for name in set(_attributes_of(descriptor)) - set(names):
+        with _as_far_as_may_be():
+            os.removexattr(descriptor, name)
     os.fchmod(descriptor, mode)
 
 
@@ -183,8 +198,7 @@ def convert_with(
     progress: Optional[Callable[[int], object]] = None,
 ) -> ConvertedFile:
     """`convert_file`, with what is lost handed to `faults`."""
-    most = c.NO_LIMIT if limit is None else limit
-    conversion = Conversion(source, target, mark, unmappable, most, indexes, faults)
+    conversion = Conversion(source, target, mark, unmappable, c.limit_of(limit), indexes, faults)
     place = _Place(target_path, backup)
     with open(source_path, "rb") as given, place.beside() as (path, made):
         before = os.fstat(given.fileno())
@@ -194,6 +208,7 @@ def convert_with(
         done = ConvertedFile(report.read, report.bad, report.lost, conversion.status == c.OK, faults.kept)
         if is_in_place and not (done.faithful or lossy or backup):
             raise NotReplaced(done)
+        faults.end(done)
         place.finish(made, before.st_mode & 0o777)
         if is_in_place:
             place.check_unchanged(before)

@@ -6,7 +6,7 @@ import os
 import struct
 from functools import lru_cache
 from pathlib import Path
-from typing import List, Optional
+from typing import Any, List, Optional
 
 Size = ctypes.c_size_t
 Byte = ctypes.c_uint8
@@ -126,6 +126,20 @@ def streams() -> ctypes.CDLL:
     _declare("jillapun_converter_step", Byte, _HANDLE, *_ROOM, ctypes.c_bool, *_ROOM, *_ROOM, *told)
     _declare("jillapun_converter_free", None, _HANDLE)
     return library
+
+
+def bytes_of(data: Any) -> bytes:
+    """The bytes of an object that has some, as `bytearray` and `memoryview`; a number or a text has none."""
+    return data if isinstance(data, bytes) else bytes(memoryview(data))
+
+
+def limit_of(limit: Optional[int]) -> int:
+    """A limit as the library has it. Raises `ValueError` for a number below 0."""
+    if limit is None:
+        return NO_LIMIT
+    if limit < 0:
+        raise ValueError("a limit of %d bytes" % limit)
+    return min(limit, NO_LIMIT)
 
 
 def address_of(data: bytes) -> int:

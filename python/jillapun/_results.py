@@ -152,6 +152,9 @@ class Faults:
             for fault in faults_in(records):
                 self._on_fault(fault)
 
+    def end(self, done: ConvertedFile) -> None:
+        """Is told of a file that was converted, before its output is put in its place."""
+
     def up_to(self, last: Lost) -> List[Fault]:
         """What was kept, and the last loss, if it was not."""
         return [*self.kept, *([last] if self.bad + self.lost > len(self.kept) else [])]

@@ -75,7 +75,7 @@ class Decoder(_Stream):
     def decode(self, data: bytes, last: bool = False) -> str:
         """The text that these bytes decide; what is undecided waits for more. `last` ends the stream, and after it no
         more can be decoded."""
-        return self._put(bytes(data), last).decode()
+        return self._put(c.bytes_of(data), last).decode()
 
 
 class Encoder(_Stream):
@@ -183,7 +183,8 @@ class Reader(io.TextIOBase):
         return "".join(parts)
 
     def close(self) -> None:
-        if not self.closed:
+        # Python closes what could not be made, too: that has no file.
+        if not self.closed and hasattr(self, "_file"):
             self._file.close()
         super().close()
 
@@ -243,7 +244,7 @@ class Writer(io.TextIOBase):
 
     def close(self) -> None:
         """Ends the text, unless an exception did, and closes the file."""
-        if self.closed:
+        if self.closed or not hasattr(self, "_file"):
             return
         try:
             if not self._encoder._is_ended:

@@ -47,7 +47,7 @@ def decode(data: bytes, encoding: str, *, mark: str = "remove", indexes: Optiona
     >>> decode(b"A\\x83\\x6e\\xff", "shift_jis")
     Decoded(text='Aハ�', faults=[Bad(offset=3, length=1)])
     """
-    _, output, faults = _run(bytes(data), encoding, _UTF_8, mark, "decimal", c.NO_LIMIT, indexes)
+    _, output, faults = _run(c.bytes_of(data), encoding, _UTF_8, mark, "decimal", c.NO_LIMIT, indexes)
     return Decoded(output.decode(), faults)  # type: ignore[arg-type]
 
 
@@ -82,6 +82,6 @@ def convert(
     >>> convert(b"caf\\xe9", "windows-1252", "utf-8")
     Converted(output=b'caf\\xc3\\xa9', faults=[], faithful=True)
     """
-    most = c.NO_LIMIT if limit is None else limit
-    is_faithful, output, faults = _run(bytes(data), source, target, mark, unmappable, most, indexes)
+    most, given = c.limit_of(limit), c.bytes_of(data)
+    is_faithful, output, faults = _run(given, source, target, mark, unmappable, most, indexes)
     return Converted(output, faults, is_faithful)

@@ -347,7 +347,7 @@ class _IncrementalDecoder(codecs.IncrementalDecoder):
         self._undecided, self._state = b"", 0
 
     def decode(self, input: Any, final: bool = False) -> str:
-        data = self._undecided + _bytes_of(input)
+        data = self._undecided + c.bytes_of(input)
         text, end, self._state = self.coding.decode_part(data, self.errors, self._state, final)
         self._undecided = data[end:]
         return text
@@ -394,7 +394,7 @@ class _StreamReader(codecs.StreamReader):
         """The text of what was left before and what was read. If nothing was read the input has ended, and what is left
         is malformed."""
         is_end = 0 < self._left == len(input)
-        text, end, self._state = self.coding.decode_part(_bytes_of(input), errors, self._state, is_end)
+        text, end, self._state = self.coding.decode_part(c.bytes_of(input), errors, self._state, is_end)
         self._left = len(input) - end
         return text, end
 
@@ -421,10 +421,6 @@ class _StreamWriter(codecs.StreamWriter):
             self.stream.write(data)
 
 
-def _bytes_of(data: Any) -> bytes:
-    return data if isinstance(data, bytes) else bytes(memoryview(data))
-
-
 def info_of(coding: Coding) -> codecs.CodecInfo:
     """All that Python asks of a codec."""
 
@@ -435,7 +431,7 @@ def info_of(coding: Coding) -> codecs.CodecInfo:
         return coding.encode_part(input, errors)[0], len(input)
 
     def decode(input: Any, errors: str = "strict") -> Tuple[str, int]:
-        text, end, _ = coding.decode_part(_bytes_of(input), errors)
+        text, end, _ = coding.decode_part(c.bytes_of(input), errors)
         return text, end
 
     return codecs.CodecInfo(

@@ -4,6 +4,7 @@ import ctypes
 import doctest
 import io
 import os
+import subprocess
 import sys
 import tempfile
 import threading
@@ -34,6 +35,18 @@ class Errors(unittest.TestCase):
     def test_limit(self) -> None:
         self.assertEqual(jillapun.convert(b"abc", "utf-8", "utf-8", limit=3).output, b"abc")
         self.assertRaises(jillapun.TooLong, jillapun.convert, b"abcd", "utf-8", "utf-8", limit=3)
+        self.assertEqual(jillapun.convert(b"abc", "utf-8", "utf-8", limit=2**64).output, b"abc")
+        self.assertRaises(ValueError, jillapun.convert, b"", "utf-8", "utf-8", limit=-1)
+
+    def test_bytes(self) -> None:
+        """Whatever has bytes; a number, of which Python makes so many zeros, has none."""
+        for given in (bytearray(b"ab"), memoryview(b"axbx")[::2]):
+            self.assertEqual(jillapun.decode(given, "utf-8").text, "ab")
+        decoder = jillapun.Decoder("utf-8")
+        for call in (jillapun.decode, lambda data, label: jillapun.convert(data, label, label)):
+            self.assertRaises(TypeError, call, 2, "utf-8")
+        self.assertRaises(TypeError, decoder.decode, 2)
+        self.assertEqual(decoder.decode(b"ab", last=True), "ab")
 
     def test_words(self) -> None:
         self.assertRaises(KeyError, jillapun.decode, b"", "utf-8", mark="no")
@@ -123,6 +136,15 @@ class Files(unittest.TestCase):
         self.assertTrue(file.closed)
         self.assertEqual(Path(self.path).read_bytes(), b"\x1b$BF|K\\\x1b(B")
         self.assertRaises(ValueError, file.write, "日")
+
+    def test_what_could_not_be_made_says_no_more(self) -> None:
+        """Python closes it, and would tell of what that raises."""
+        files = "import io, jillapun\nfor kind in (jillapun.Reader, jillapun.Writer):\n"
+        files += "    try: kind(io.BytesIO(), 'none')\n    except LookupError: print('unknown')\n"
+        environment = {**os.environ, "PYTHONPATH": os.path.join(cases.TOP, "python")}
+        words = [sys.executable, "-X", "dev", "-c", files]
+        ran = subprocess.run(words, env=environment, capture_output=True, check=False)
+        self.assertEqual((ran.stdout, ran.stderr), (b"unknown\n" * 2, b""))
 
     def test_unknown_words_empty_no_file(self) -> None:
         Path(self.path).write_bytes(b"abc")

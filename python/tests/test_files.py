@@ -4,6 +4,7 @@ import contextlib
 import errno
 import os
 import stat
+import struct
 import subprocess
 import sys
 import tempfile
@@ -300,10 +301,32 @@ class InPlace(Folder):
             self.convert(self.path, progress=lambda _: Path(self.path).unlink(missing_ok=True))
         self.holds()
 
+    def test_a_folder_that_hands_down_readers(self) -> None:
+        """Its default access control list would let user 1234 read and write what is made in it."""
+        self.put("a", GOOD)
+        os.chmod(self.path, 0o660)
+        rows = (1, 7, -1), (2, 7, 1234), (4, 7, -1), (0x10, 7, -1), (0x20, 0, -1)
+        words = struct.pack("<I", 2) + b"".join(struct.pack("<HHi", *row) for row in rows)
+        try:
+            os.setxattr(self.folder, "system.posix_acl_default", words)
+        except OSError:
+            self.skipTest("the file system has no access control lists")
+        self.convert(self.path, backup="~")
+        self.holds(**{"a": GOOD_MADE, "a~": GOOD})
+        self.assertEqual((os.listxattr(self.path), stat.S_IMODE(os.stat(self.path).st_mode)), ([], 0o660))
+
+    def attribute_calls(self) -> list:
+        """The call that gives a file the extended attributes of another, where it is made."""
+        try:
+            os.setxattr(self.path, "user.test", b"kept")
+        except OSError:
+            return []
+        return ["os.setxattr"]
+
     def test_a_disk_that_fails(self) -> None:
         """What is not known to be on the disk, or what may not be made like the file, does not replace it."""
         self.put("a", GOOD)
-        for call in ("os.fsync", "os.fchmod", "os.replace", "tempfile.mkstemp"):
+        for call in ("os.fsync", "os.fchmod", "os.replace", "tempfile.mkstemp", *self.attribute_calls()):
             with mock.patch(call, side_effect=OSError(errno.EIO, "the disk fails")), self.assertRaises(OSError) as it:
                 self.convert(self.path, backup="~")
             self.assertEqual(it.exception.errno, errno.EIO)

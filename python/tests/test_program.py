@@ -275,6 +275,27 @@ class Streams(Programs):
         self.assertIn(b"standard output is closed", ran.stderr)
         self.holds(a=BAD, b=GOOD)
 
+    def test_standard_output_fails_at_the_end(self) -> None:
+        """What no line of a loss tells is told before the file is replaced, too."""
+        self.put("a", "¥".encode())
+        with open("/dev/full", "wb") as full:
+            command = [*COMMAND, "--to", "shift_jis", "--lossy", self.path]
+            ran = subprocess.run(command, env=ENVIRONMENT, stdout=full, stderr=subprocess.PIPE, check=False)
+        self.assertEqual((ran.returncode, ran.stderr), (4, b"standard output: No space left on device\n"))
+        self.holds(a="¥".encode())
+
+    def test_standard_error_fails(self) -> None:
+        """The files that follow are converted, the status is as ever, and no complaint is among the losses."""
+        self.put("a", "日".encode())
+        for redirected in (">/dev/full", ">&-"):
+            self.put("b", GOOD)
+            words = ["sh", "-c", 'exec "$@" 2%s' % redirected, "sh", *COMMAND, self.path, self.at("b")]
+            ran = subprocess.run(words, env=ENVIRONMENT, stdout=subprocess.PIPE, check=False)
+            self.assertEqual((ran.returncode, ran.stdout), (1, b"%s: lost 0 26085\n" % self.path.encode()))
+            self.holds(a="日".encode(), b=GOOD_MADE)
+            ran = subprocess.run([*words, "--to", "none"], env=ENVIRONMENT, stdout=subprocess.PIPE, check=False)
+            self.assertEqual((ran.returncode, ran.stdout), (2, b""))
+
     def test_names_beyond_the_locale(self) -> None:
         """A terminal that has not all characters."""
         path = self.put("日", BAD)
