@@ -209,7 +209,8 @@ def convert_with(
         if is_in_place and not (done.faithful or lossy or backup):
             raise NotReplaced(done)
         faults.end(done)
-        place.finish(made, before.st_mode & 0o777)
+        # The permissions of a pipe or a device, as /dev/null, say nothing of who may read what came from it.
+        place.finish(made, before.st_mode & (0o777 if stat.S_ISREG(before.st_mode) else 0o600))
         if is_in_place:
             place.check_unchanged(before)
         place.put(path)
@@ -235,9 +236,10 @@ def convert_file(
     """Converts a file into another, which is there whole or not at all: it is written beside its place, and moved there
     at the end. However long the file is, and whatever is lost, only a chunk of it is in memory.
 
-    A new file has the permissions of the source. A file that is there already is replaced: its owner (if this may be
-    set), its permissions and its extended attributes stay. A link is followed. If `backup`, a suffix, is given, what
-    was there is kept as the name with that suffix, which no file may have yet.
+    A new file has the permissions of the source; what came from a pipe or a device its owner alone may read. A file
+    that is there already is replaced: its owner (if this may be set), its permissions and its extended attributes stay.
+    A link is followed. If `backup`, a suffix, is given, what was there is kept as the name with that suffix, which no
+    file may have yet.
 
     Where both paths lead to one file, it is replaced only if nothing is lost, or with `lossy` or `backup`. Otherwise it
     stays as it was, and `NotReplaced` is raised, which has the counts. Other hard links of it keep what it was.

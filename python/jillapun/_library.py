@@ -114,7 +114,9 @@ _REPORT = ctypes.POINTER(Report)
 _declare("jillapun_for_label", Byte, *_LENT)
 _declare("jillapun_name", Size, Byte, *_ROOM)
 _declare("jillapun_output_encoding", Byte, Byte)
-_declare("jillapun_tables_new", Byte, ctypes.POINTER(IndexFile), Size, ctypes.POINTER(Tables), ctypes.POINTER(IndexFault))
+_declare(
+    "jillapun_tables_new", Byte, ctypes.POINTER(IndexFile), Size, ctypes.POINTER(Tables), ctypes.POINTER(IndexFault)
+)
 _declare("jillapun_convert", Byte, Tables, Byte, Byte, Byte, Byte, Long, *_LENT, *_ROOM, *_ROOM, _REPORT)
 
 

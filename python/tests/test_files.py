@@ -442,10 +442,12 @@ class Into(Folder):
 
     def test_a_pipe_as_the_source(self) -> None:
         os.mkfifo(self.at("pipe"))
+        os.chmod(self.at("pipe"), 0o666)
         writer = subprocess.Popen(["sh", "-c", 'printf "caf\\303\\251" > "$0"', self.at("pipe")])
         self.convert(self.at("pipe"), self.at("b"))
         writer.wait()
         self.assertEqual(Path(self.at("b")).read_bytes(), b"caf\xe9")
+        self.assertEqual(stat.S_IMODE(os.stat(self.at("b")).st_mode), 0o600)
 
     @unittest.skipUnless(os.path.isdir("/dev/shm"), "there is no other file system")
     def test_another_file_system(self) -> None:
