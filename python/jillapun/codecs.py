@@ -110,6 +110,10 @@ class Coding:
         malformed sequence."""
         return 0
 
+    def joined(self, data: bytes) -> bytes:
+        """The bytes of a new stream, as they stand behind others of which nothing is known."""
+        return data
+
     def decode_part(self, data: bytes, errors: str, state: int = 0, final: bool = True) -> Tuple[str, int, int]:
         """The text of the bytes that are decided, how many these are, and the state after them."""
         if len(data) <= _SHORT and not self.begins[state]:
@@ -186,6 +190,10 @@ class _Iso2022Jp(Coding):
     begins = (b"", b"\x1b(Ja", b"\x1b(I!", b"\x1b$B!!")
     begin_texts = ("", "\xa5", "", "\u3000")
     has_modes = True
+
+    def joined(self, data: bytes) -> bytes:
+        """They begin in ASCII: an escape says so, if they do not begin with one."""
+        return data if data.startswith(b"\x1b") else b"\x1b(B" + data
 
     def state_after(self, state: int, data: bytes) -> int:
         place, mode = max((data.rfind(escape), mode) for escape, mode in _ESCAPES.items())
@@ -367,20 +375,23 @@ class _IncrementalEncoder(codecs.IncrementalEncoder):
 
     def __init__(self, errors: str = "strict"):
         super().__init__(errors)
-        self._state = 0
+        self._state, self._is_known = 0, True
 
     def encode(self, input: str, final: bool = False) -> bytes:
         data, self._state = self.coding.encode_part(input, self.errors, self._state, final)
+        if data and not self._is_known:
+            data, self._is_known = self.coding.joined(data), True
         return data
 
     def reset(self) -> None:
-        self._state = 0
+        self._state, self._is_known = 0, True
 
     def getstate(self) -> int:
-        return self._state
+        return self._state + 1 if self._is_known else 0
 
     def setstate(self, state: int) -> None:  # type: ignore[override]
-        self._state = state
+        """What `getstate` returned, or 0: the text goes on somewhere in a file, as `open` says before it appends."""
+        self._state, self._is_known = max(state - 1, 0), state > 0
 
 
 class _StreamReader(codecs.StreamReader):

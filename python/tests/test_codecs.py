@@ -286,7 +286,7 @@ class Encoders(unittest.TestCase):
             Log(b"??")
             encoder = codecs.getincrementalencoder("web-" + name.lower())("log")
             self.assertEqual(encoder.encode(text) + encoder.encode(text, True), wanted)
-            self.assertEqual(encoder.getstate(), 0)
+            self.assertEqual(encoder.getstate(), codecs.getincrementalencoder("web-iso-2022-jp")().getstate())
 
     def test_positions(self) -> None:
         for name, encoding in self.encodings.items():
@@ -344,6 +344,23 @@ class Encoders(unittest.TestCase):
         self.assertEqual(stream.getvalue(), b"\x1b$BF|K\\")
         writer.reset()
         self.assertEqual(stream.getvalue(), b"\x1b$BF|K\\\x1b(B")
+
+
+    def test_appended_iso_2022_jp(self) -> None:
+        """`open` does not end a text, so what is appended to it says that it begins in ASCII."""
+        for more, wanted in (("A", b"\x1b(BA"), ("本", b"\x1b$BK\\"), ("", b"")):
+            with self.subTest(more), tempfile.TemporaryDirectory() as folder:
+                path = os.path.join(folder, "text")
+                for mode, text in (("w", "日"), ("a", more)):
+                    with open(path, mode, encoding="web-iso-2022-jp") as file:
+                        file.write(text)
+                with open(path, "rb") as file:
+                    self.assertEqual(file.read(), b"\x1b$BF|" + wanted)
+                with open(path, encoding="web-iso-2022-jp") as file:
+                    self.assertEqual(file.read(), "日" + more)
+        encoder = codecs.getincrementalencoder("web-iso-2022-jp")()
+        encoder.setstate(encoder.getstate())
+        self.assertEqual(encoder.encode("A"), b"A")
 
 
 class Handlers(unittest.TestCase):
