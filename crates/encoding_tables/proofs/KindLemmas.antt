@@ -21,6 +21,6 @@ file_names_differ a b same = sym (again a) ∙ ap kind_of_file same ∙ again b
 
 -- The sizes of the kinds.
 
-pub size_is_small : (kind : IndexKind) → index_size kind < 2 ^ 15
+pub size_is_small : (kind : IndexKind) → index_size kind < 2 ^ 16
 size_is_small Ibm866 = omega arith
 size_is_small _ = omega arith

@@ -10,4 +10,3 @@ mod KindLemmas
 pub mod RowLemmas
 mod RowFaultLemmas
 pub mod CountLemmas
-pub mod RowNumberLemmas

@@ -12,7 +12,7 @@ use Rattle.encoding_tables.specs.Lookups.{value_of, first_pointer, last_pointer}
 use Rattle.encoding_tables.specs.calls.SortedRows.{row_at, AreRising, IsRank, IsBelow, AreSorted, IsSpan}
 use Rattle.encoding_tables.specs.PackedRows.{packed_entry, flat_list, PointersRise, listed_rows, mapped_rows, PointersAreBelow, swapped}
 use Rattle.encoding_tables.specs.calls.PackedLists.{HasRow, IsSecond, AreIndexRows, IsReversed, IsPacked}
-use Rattle.encoding_tables.proofs.SearchLemmas.{below_cases, below_first, below_second, below_at_most, rises, rank_in_span, row_of_part, part_length, row_past_span, row_before_span}
+use Rattle.encoding_tables.proofs.SearchLemmas.{below_cases, below_first, below_second, below_at_most, rises, rank_in_span, row_of_part, part_length, row_in_span, row_past_span, row_before_span}
 use Rattle.std.specs.List as holes
 use Rattle.std.specs.List.{Contains}
 use Rattle.std.specs.List.Sorted.{IsPermutation}
@@ -506,86 +506,67 @@ last_nowhere size rows pairs c from to n packed rank past =
           ]
     ])
 
--- ---- among the pairs that a search is handed
+-- ---- among the pairs of one entry
 
--- a part of the pairs, in which all those of an entry stand
-abbrev pub HasPairsOf : List (ℕ × ℕ) → ℕ → List (ℕ × ℕ) → Type 0
-HasPairsOf pairs c part = (start : ℕ) × (end : ℕ) × IsSpan pairs c start end × (part ≡ slice_range pairs start end)
+-- the pairs of an entry, among all
+abbrev pub ArePairsOf : List (ℕ × ℕ) → ℕ → List (ℕ × ℕ) → Type 0
+ArePairsOf pairs c part = (start : ℕ) × (end : ℕ) × IsSpan pairs c start end × (part ≡ slice_range pairs start end)
 
 -- where the part ends, among all
-part_size : (pairs part : List (ℕ × ℕ)) (c : ℕ) → (of : HasPairsOf pairs c part) → of.0 + length part ≡ of.1
+part_size : (pairs part : List (ℕ × ℕ)) (c : ℕ) → (of : ArePairsOf pairs c part) → of.0 + length part ≡ of.1
 part_size pairs part c of = ap (λ l. of.0 + length l) of.3 ∙ ap (λ n. of.0 + n) (part_length pairs of.0 of.1) ∙ omega (arith, of.2.ordered, of.2.inside)
 
 -- the row at a position of the part, among all
-pair_at : (pairs part : List (ℕ × ℕ)) (c n : ℕ) → (of : HasPairsOf pairs c part) → n < length part → row_at pairs (of.0 + n) ≡ row_at part n
+pair_at : (pairs part : List (ℕ × ℕ)) (c n : ℕ) → (of : ArePairsOf pairs c part) → n < length part → row_at pairs (of.0 + n) ≡ (c, (row_at part n).1)
 pair_at pairs part c n of within =
     let size = part_size pairs part c of in
-    sym (ap (λ l. row_at l n) of.3 ∙ row_of_part pairs of.0 of.1 n (omega (arith, size, within)))
+    let same : row_at part n ≡ row_at pairs (of.0 + n) = ap (λ l. row_at l n) of.3 ∙ row_of_part pairs of.0 of.1 n (omega (arith, size, within)) in
+    let first = row_in_span pairs c of.0 of.1 (of.0 + n) of.2 (omega arith) (omega (arith, size, within)) in
+    ap (λ q. (q, (row_at pairs (of.0 + n)).1)) first ∙ ap (λ (r : ℕ × ℕ). (c, r.1)) (sym same)
 
 -- a rank among the part, as one among all
-rank_among : (pairs part : List (ℕ × ℕ)) (c key n : ℕ) → (of : HasPairsOf pairs c part) → IsRank part (c, key) n → IsRank pairs (c, key) (of.0 + n)
+rank_among : (pairs part : List (ℕ × ℕ)) (c key n : ℕ) → (of : ArePairsOf pairs c part) → IsRank part (c, key) n → IsRank pairs (c, key) (of.0 + n)
 rank_among pairs part c key n of rank = rank_in_span pairs (c, key) of.0 of.1 n of.2 (rw of.3 at rank)
 
 -- what stands from a position of the part on begins with the row there
 first_of_rest : (part rest : List (ℕ × ℕ)) (n : ℕ) → rest ≡ drop n part → row_at rest 0 ≡ row_at part n
 first_of_rest part rest n is = ap (λ l. row_at l 0) is ∙ get_or-drop n part 0 (0, 0) ∙ ap (λ k. row_at part k) (omega arith)
 
-pub first_found : (size : ℕ) (rows pairs part rest : List (ℕ × ℕ)) (c from to n : ℕ) (flat : List ℕ) → IsPacked size rows pairs → HasPairsOf pairs c part → IsRank part (c, from) n → rest ≡ drop n part
-    → 1 ≤ length rest → (row_at rest 0).0 ≡ c → (row_at rest 0).1 < to → flat_list size rows ≡ flat → Some (row_at rest 0).1 ≡ first_pointer flat c from to
-first_found size rows pairs part rest c from to n flat packed of rank is some own high view =
+pub first_found : (size : ℕ) (rows pairs part rest : List (ℕ × ℕ)) (c from to n : ℕ) (flat : List ℕ) → IsPacked size rows pairs → ArePairsOf pairs c part → IsRank part (c, from) n → rest ≡ drop n part
+    → 1 ≤ length rest → (row_at rest 0).1 < to → flat_list size rows ≡ flat → Some (row_at rest 0).1 ≡ first_pointer flat c from to
+first_found size rows pairs part rest c from to n flat packed of rank is some high view =
     let within : n < length part = omega (arith, ap length is, length-drop n part, some) in
-    let same = first_of_rest part rest n is in
-    let here = ap (λ (r : ℕ × ℕ). r.1) same in
-    let entry : (row_at part n).0 ≡ c = ap (λ (r : ℕ × ℕ). r.0) (sym same) ∙ own in
-    let pair : row_at pairs (of.0 + n) ≡ (c, (row_at part n).1) = pair_at pairs part c n of within ∙ ap (λ e. (e, (row_at part n).1)) entry in
-    subst (λ list. Some (row_at rest 0).1 ≡ first_pointer list c from to) view (sym (rw here (first_here size rows pairs c from to (row_at part n).1 (of.0 + n) packed (rank_among pairs part c from n of rank) (omega (arith, part_size pairs part c of, of.2.inside)) pair (omega (arith, here, high)))))
+    let here = ap (λ (r : ℕ × ℕ). r.1) (first_of_rest part rest n is) in
+    subst (λ list. Some (row_at rest 0).1 ≡ first_pointer list c from to) view (sym (rw here (first_here size rows pairs c from to (row_at part n).1 (of.0 + n) packed (rank_among pairs part c from n of rank) (omega (arith, part_size pairs part c of, of.2.inside)) (pair_at pairs part c n of within) (omega (arith, here, high)))))
 
-pub first_missed : (size : ℕ) (rows pairs part rest : List (ℕ × ℕ)) (c from to n : ℕ) (flat : List ℕ) → IsPacked size rows pairs → HasPairsOf pairs c part → IsRank part (c, from) n → rest ≡ drop n part
-    → (1 ≤ length rest → (row_at rest 0).0 ≡ c → to ≤ (row_at rest 0).1) → flat_list size rows ≡ flat → None ≡ first_pointer flat c from to
+pub first_missed : (size : ℕ) (rows pairs part rest : List (ℕ × ℕ)) (c from to n : ℕ) (flat : List ℕ) → IsPacked size rows pairs → ArePairsOf pairs c part → IsRank part (c, from) n → rest ≡ drop n part
+    → (1 ≤ length rest → to ≤ (row_at rest 0).1) → flat_list size rows ≡ flat → None ≡ first_pointer flat c from to
 first_missed size rows pairs part rest c from to n flat packed of rank is high view =
-    let same = first_of_rest part rest n is in
-    subst (λ list. None ≡ first_pointer list c from to) view (sym (first_nowhere size rows pairs c from to (of.0 + n) packed (rank_among pairs part c from n of rank) (λ inside own. elim (cases_lt n (length part)) [
-      | inl within ↦
-          let pair = pair_at pairs part c n of within in
-          let entry : (row_at rest 0).0 ≡ c = ap (λ (r : ℕ × ℕ). r.0) (same ∙ sym pair) ∙ own in
-          omega (arith, high (omega (arith, ap length is, length-drop n part, within)) entry, ap (λ (r : ℕ × ℕ). r.1) same, ap (λ (r : ℕ × ℕ). r.1) pair)
+    let here = ap (λ (r : ℕ × ℕ). r.1) (first_of_rest part rest n is) in
+    subst (λ list. None ≡ first_pointer list c from to) view (sym (first_nowhere size rows pairs c from to (of.0 + n) packed (rank_among pairs part c from n of rank) (λ inside same. elim (cases_lt n (length part)) [
+      | inl within ↦ omega (arith, high (omega (arith, ap length is, length-drop n part)), here, ap (λ (r : ℕ × ℕ). r.1) (pair_at pairs part c n of within))
       | inr past ↦
           let end : of.0 + n ≡ of.1 = omega (arith, part_size pairs part c of, rank.within) in
-          absurd (row_past_span pairs c of.0 of.1 of.2 (omega (arith, end, inside)) (ap (λ k. (row_at pairs k).0) (sym end) ∙ own))
+          absurd (row_past_span pairs c of.0 of.1 of.2 (omega (arith, end, inside)) (ap (λ k. (row_at pairs k).0) (sym end) ∙ same))
     ])))
 
-pub last_found : (size : ℕ) (rows pairs part : List (ℕ × ℕ)) (c from to n : ℕ) (flat : List ℕ) → IsPacked size rows pairs → HasPairsOf pairs c part → IsRank part (c, to) n
-    → 1 ≤ length (take n part) → (row_at (take n part) (length (take n part) - 1)).0 ≡ c → from ≤ (row_at (take n part) (length (take n part) - 1)).1 → flat_list size rows ≡ flat
-    → Some (row_at (take n part) (length (take n part) - 1)).1 ≡ last_pointer flat c from to
-last_found size rows pairs part c from to n flat packed of rank some own low view =
+pub last_found : (size : ℕ) (rows pairs part : List (ℕ × ℕ)) (c from to n : ℕ) (flat : List ℕ) → IsPacked size rows pairs → ArePairsOf pairs c part → IsRank part (c, to) n
+    → 1 ≤ length (take n part) → from ≤ (row_at (take n part) (length (take n part) - 1)).1 → flat_list size rows ≡ flat → Some (row_at (take n part) (length (take n part) - 1)).1 ≡ last_pointer flat c from to
+last_found size rows pairs part c from to n flat packed of rank some low view =
     let size_is : length (take n part) ≡ n = length-take-le n part rank.within in
-    let same : row_at (take n part) (length (take n part) - 1) ≡ row_at part (n - 1) = ap (λ k. row_at (take n part) (k - 1)) size_is ∙ get_or-take n part (n - 1) (0, 0) (omega (arith, size_is, some)) in
-    let here = ap (λ (r : ℕ × ℕ). r.1) same in
-    let entry : (row_at part (n - 1)).0 ≡ c = ap (λ (r : ℕ × ℕ). r.0) (sym same) ∙ own in
+    let here : (row_at (take n part) (length (take n part) - 1)).1 ≡ (row_at part (n - 1)).1 = ap (λ k. (row_at (take n part) (k - 1)).1) size_is ∙ ap (λ (r : ℕ × ℕ). r.1) (get_or-take n part (n - 1) (0, 0) (omega (arith, size_is, some))) in
     let place : of.0 + n - 1 ≡ of.0 + (n - 1) = omega (arith, size_is, some) in
-    let pair : row_at pairs (of.0 + n - 1) ≡ (c, (row_at part (n - 1)).1) = ap (λ k. row_at pairs k) place ∙ pair_at pairs part c (n - 1) of (omega (arith, size_is, some, rank.within)) ∙ ap (λ e. (e, (row_at part (n - 1)).1)) entry in
-    subst (λ list. Some (row_at (take n part) (length (take n part) - 1)).1 ≡ last_pointer list c from to) view (sym (rw here (last_here size rows pairs c from to (row_at part (n - 1)).1 (of.0 + n) packed (rank_among pairs part c to n of rank) (omega (arith, size_is, some)) pair (omega (arith, here, low)))))
+    subst (λ list. Some (row_at (take n part) (length (take n part) - 1)).1 ≡ last_pointer list c from to) view (sym (rw here (last_here size rows pairs c from to (row_at part (n - 1)).1 (of.0 + n) packed (rank_among pairs part c to n of rank) (omega (arith, size_is, some)) (ap (λ k. row_at pairs k) place ∙ pair_at pairs part c (n - 1) of (omega (arith, size_is, some, rank.within))) (omega (arith, here, low)))))
 
--- the last of the part below a key, if it has the key's entry, has a pointer below the key's
-pub last_is_before : (part : List (ℕ × ℕ)) (c to n : ℕ) (row : ℕ × ℕ) → IsRank part (c, to) n → 1 ≤ length (take n part) → row ≡ row_at (take n part) (length (take n part) - 1) → row.0 ≡ c → row.1 < to
-last_is_before part c to n row rank some is own =
-    let size_is : length (take n part) ≡ n = length-take-le n part rank.within in
-    let same : row ≡ row_at part (n - 1) = is ∙ ap (λ k. row_at (take n part) (k - 1)) size_is ∙ get_or-take n part (n - 1) (0, 0) (omega (arith, size_is, some)) in
-    elim (below_cases (row_at part (n - 1)) (c, to) (rank.below (n - 1) (omega (arith, size_is, some)))) [
-      | inl less ↦ absurd (omega (arith, less, own, ap (λ (r : ℕ × ℕ). r.0) same))
-      | inr equal ↦ omega (arith, equal.1, ap (λ (r : ℕ × ℕ). r.1) same)
-    ]
-
-pub last_missed : (size : ℕ) (rows pairs part : List (ℕ × ℕ)) (c from to n : ℕ) (flat : List ℕ) → IsPacked size rows pairs → HasPairsOf pairs c part → IsRank part (c, to) n
-    → (1 ≤ length (take n part) → (row_at (take n part) (length (take n part) - 1)).0 ≡ c → (row_at (take n part) (length (take n part) - 1)).1 < from) → flat_list size rows ≡ flat → None ≡ last_pointer flat c from to
+pub last_missed : (size : ℕ) (rows pairs part : List (ℕ × ℕ)) (c from to n : ℕ) (flat : List ℕ) → IsPacked size rows pairs → ArePairsOf pairs c part → IsRank part (c, to) n
+    → (1 ≤ length (take n part) → (row_at (take n part) (length (take n part) - 1)).1 < from) → flat_list size rows ≡ flat → None ≡ last_pointer flat c from to
 last_missed size rows pairs part c from to n flat packed of rank low view =
     let size_is : length (take n part) ≡ n = length-take-le n part rank.within in
-    subst (λ list. None ≡ last_pointer list c from to) view (sym (last_nowhere size rows pairs c from to (of.0 + n) packed (rank_among pairs part c to n of rank) (λ some own. elim (cases_eq n 0) [
-      | inl none ↦ absurd (row_before_span pairs c of.0 of.1 (of.0 + n - 1) of.2 (omega (arith, some, none)) own)
+    subst (λ list. None ≡ last_pointer list c from to) view (sym (last_nowhere size rows pairs c from to (of.0 + n) packed (rank_among pairs part c to n of rank) (λ some is. elim (cases_eq n 0) [
+      | inl none ↦ absurd (row_before_span pairs c of.0 of.1 (of.0 + n - 1) of.2 (omega (arith, some, none)) is)
       | inr more ↦
-          let same : row_at (take n part) (length (take n part) - 1) ≡ row_at part (n - 1) = ap (λ k. row_at (take n part) (k - 1)) size_is ∙ get_or-take n part (n - 1) (0, 0) (omega (arith, more)) in
+          let here : (row_at (take n part) (length (take n part) - 1)).1 ≡ (row_at part (n - 1)).1 = ap (λ k. (row_at (take n part) (k - 1)).1) size_is ∙ ap (λ (r : ℕ × ℕ). r.1) (get_or-take n part (n - 1) (0, 0) (omega (arith, more))) in
           let place : of.0 + n - 1 ≡ of.0 + (n - 1) = omega (arith, more) in
-          let pair : row_at pairs (of.0 + n - 1) ≡ row_at part (n - 1) = ap (λ k. row_at pairs k) place ∙ pair_at pairs part c (n - 1) of (omega (arith, more, rank.within)) in
-          let entry : (row_at (take n part) (length (take n part) - 1)).0 ≡ c = ap (λ (r : ℕ × ℕ). r.0) (same ∙ sym pair) ∙ own in
-          omega (arith, low (omega (arith, size_is, more)) entry, ap (λ (r : ℕ × ℕ). r.1) same, ap (λ (r : ℕ × ℕ). r.1) pair)
+          let pair = ap (λ k. row_at pairs k) place ∙ pair_at pairs part c (n - 1) of (omega (arith, more, rank.within)) in
+          omega (arith, low (omega (arith, size_is, more)), here, ap (λ (r : ℕ × ℕ). r.1) pair)
     ])))

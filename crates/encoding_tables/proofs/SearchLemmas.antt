@@ -1,18 +1,16 @@
--- The order of rows, and the steps of a binary search among rows in order. Directories of rows in order: they narrow
--- a search to a row, or to the rows of a block of first numbers. Rows whose first numbers rise, and the last of them at or below a
+-- The order of rows, and the steps of a binary search among rows in order. A directory of rows in order: it narrows
+-- a search to the rows of one first number. Rows whose first numbers rise, and the last of them at or below a
 -- number.
-use Rattle.std.proofs.Common.{◌≡◌, ℕ, ◌+◌, ◌-◌, ◌*◌, ◌/◌, ◌<◌, ◌≤◌, ◌^◌, ◌⊎◌, inl, inr, zero, suc, List, length, arith, refl, pow-suc, pow_pos, pow_mono, subst, sym, ◌%◌, nat_lt, ◌==◌, ◌≢◌, [], ◌∷◌, ◌++◌, ◌∙◌, ap, drop, length-drop, length-take, length-append, None, Some}
-use Rattle.std.specs.Prelude.{◌&&◌, slice_range, slice_index, slice_index_or, min, map}
+use Rattle.std.proofs.Common.{◌≡◌, ℕ, ◌+◌, ◌-◌, ◌*◌, ◌/◌, ◌<◌, ◌≤◌, ◌^◌, ◌⊎◌, inl, inr, zero, suc, List, length, arith, refl, pow-suc, nat_lt, ◌==◌, ◌≢◌, [], ◌∷◌, ◌++◌, ◌∙◌, ap, drop, length-drop, length-take, length-append, None, Some}
+use Rattle.std.specs.Prelude.{◌&&◌, slice_range, slice_index, min}
 use Rattle.encoding_tables.specs.calls.PackedLists.{IsSecond}
 use Rattle.encoding_tables.specs.PackedRows.{PointersAreBelow}
 use Rattle.std.proofs.lemmas.Bool.{cases_eq, or_cases, and_parts, ltb-true, eqb-true, lt-ltb, le-ltb, eq-eqb, cases_lt}
-use Rattle.encoding_tables.specs.calls.SortedRows.{row_at, IsBelow, AreRising, IsRank, IsDirectory, HasBlocks, IsSpan}
+use Rattle.encoding_tables.specs.calls.SortedRows.{row_at, IsBelow, AreRising, IsRank, IsDirectory, IsSpan}
 use Rattle.std.proofs.lemmas.List.Edits.{get_or-between}
-use Rattle.std.proofs.lemmas.List.{get_or-map, get_or_append_left}
+use Rattle.std.proofs.lemmas.List.{get_or_append_left}
 use Rattle.std.proofs.Math.Seq.{get_or-append_right}
-use Rattle.std.proofs.Math.Nat.{sub_self, mod-lt, mod-eq_of_lt, div-lt_iff_lt-mul}
-use Rattle.std.proofs.Math.Pow.{shr_mono}
-use Rattle.std.proofs.lemmas.Nat.{shr_split}
+use Rattle.std.proofs.Math.Nat.{sub_self}
 use Rattle.encoding_tables.specs.Ranges.{last_row}
 
 -- ---- the order
@@ -53,10 +51,6 @@ rises rows rise i j less within =
     rw (← same) (far rows rise i (j - i - 1) (omega arith))
 
 -- ---- a search
-
--- the two numbers of a row, by the row as it is kept
-pub kept_row : {A : Type 0} (numbers : A → ℕ × ℕ) (rows : List A) (k : ℕ) (row : A) → k < length rows → row ≡ slice_index_or rows k row → row_at (map numbers rows) k ≡ numbers row
-kept_row numbers rows k row within is = get_or-map numbers rows k row (0, 0) within ∙ ap numbers (sym is)
 
 pub record IsNarrowed (rows : List (ℕ × ℕ)) (key : ℕ × ℕ) (low high compared : ℕ) : Type 0 where
   pub small : length rows < 2 ^ 64
@@ -107,7 +101,7 @@ step_down rows key low high compared middle rise n some is other = record {
   digits = λ d small. let old = n.digits d small in fewer d compared (high - low) (middle - low) old.0 (omega arith) old.1 (omega arith);
 }
 
--- Directories of rows in order.
+-- A directory of rows in order: it narrows a search to the rows of one first number.
 
 -- ---- rows before a first number
 
@@ -158,121 +152,85 @@ rank_of_part rows key from to n ordered inside before behind rank =
 
 -- ---- a look at the directory
 
-part_ordered : (rows : List (ℕ × ℕ)) (low high from to : ℕ) → low ≤ high → IsRank rows (low, 0) from → IsRank rows (high, 0) to → from ≤ to
-part_ordered rows low high from to less begins ends = elim (cases_lt to from) [
-  | inl over ↦
-      let under = below_start (row_at rows to) low (begins.below to over) in
-      let past = from_start (row_at rows to) high (ends.others to (omega arith) (omega (arith, begins.within))) in
-      absurd (omega (arith, under, past, less))
-  | inr fits ↦ fits
+span_ordered : (rows : List (ℕ × ℕ)) (first from to : ℕ) → IsRank rows (first, 0) from → IsRank rows (first + 1, 0) to → from ≤ to
+span_ordered rows first from to begins ends = elim (cases_lt to from) [
+  | inr ordered ↦ ordered
+  | inl wrong ↦
+      let low = below_start (row_at rows to) first (begins.below to wrong) in
+      let high = from_start (row_at rows to) (first + 1) (ends.others to (omega arith) (omega (arith, begins.within))) in
+      absurd (omega (arith, low, high))
 ]
 
-pub span_here : (rows : List (ℕ × ℕ)) (begins : List ℕ) (width first : ℕ) → HasBlocks (2 ^ width) rows begins → first / 2 ^ width + 1 < length begins
-    → IsSpan rows first (slice_index begins (first / 2 ^ width)) (slice_index begins (first / 2 ^ width + 1))
-span_here rows begins width first dir within =
-    let size : ℕ = 2 ^ width in
-    let block : ℕ = first / 2 ^ width in
-    let this = dir.ranks block (omega arith) in
-    let next = dir.ranks (block + 1) within in
-    let split = shr_split first width in
-    let rest : first % 2 ^ width < 2 ^ width = mod-lt first (pow_pos width) in
-    let after : (block + 1) * size ≡ block * size + size = omega arith in
-    record {
-      before = λ k less. let under = below_start (row_at rows k) (block * size) (this.below k less) in omega (arith, under, split);
-      behind = λ k past inside. let from = from_start (row_at rows k) ((block + 1) * size) (next.others k past inside) in omega (arith, from, after, split, rest);
-      ordered = part_ordered rows (block * size) ((block + 1) * size) _ _ (omega (arith, after)) this next;
-      inside = next.within;
-    }
+pub span_here : (rows : List (ℕ × ℕ)) (begins : List ℕ) (first : ℕ) → IsDirectory rows begins → first + 1 < length begins → IsSpan rows first (slice_index begins first) (slice_index begins (first + 1))
+span_here rows begins first dir within =
+    let this = dir.ranks first (omega arith) in
+    let next = dir.ranks (first + 1) within in
+    record { begins = this; ends = next; ordered = span_ordered rows first (slice_index begins first) (slice_index begins (first + 1)) this next; inside = next.within }
 
-pub span_past : (rows : List (ℕ × ℕ)) (begins : List ℕ) (width first : ℕ) → HasBlocks (2 ^ width) rows begins → length begins ≤ first / 2 ^ width + 1 → IsSpan rows first (length rows) (length rows)
-span_past rows begins width first dir past = record {
-  before = λ k less. elim (cases_lt (row_at rows k).0 first) [
-    | inl under ↦ under
-    | inr from ↦ let up = shr_mono width from in absurd (omega (arith, up, dir.last k less, past))
-  ];
-  behind = λ k past within. absurd (omega arith);
-  ordered = omega arith;
-  inside = omega arith;
+all_below : (rows : List (ℕ × ℕ)) (begins : List ℕ) (first : ℕ) → IsDirectory rows begins → length begins ≤ first + 1 → IsRank rows (first, 0) (length rows)
+all_below rows begins first dir past = record {
+  within = omega arith;
+  below = λ k within. let small = dir.last k within in below_first (row_at rows k) (first, 0) (omega (arith, small));
+  others = λ k past within. absurd (omega arith);
 }
+
+pub span_past : (rows : List (ℕ × ℕ)) (begins : List ℕ) (first : ℕ) → IsDirectory rows begins → length begins ≤ first + 1 → IsSpan rows first (length rows) (length rows)
+span_past rows begins first dir past =
+    record { begins = all_below rows begins first dir past; ends = all_below rows begins (first + 1) dir (omega arith); ordered = omega arith; inside = omega arith }
 
 pub rank_in_span : (rows : List (ℕ × ℕ)) (key : ℕ × ℕ) (from to n : ℕ) → IsSpan rows key.0 from to → IsRank (slice_range rows from to) key n → IsRank rows key (from + n)
 rank_in_span rows key from to n span rank =
     rank_of_part rows key from to n span.ordered span.inside
-    (λ k less. below_first (row_at rows k) key (span.before k less))
-    (λ k past within is. let low = below_at_most (row_at rows k) key is in absurd (omega (arith, span.behind k past within, low)))
+    (λ k less. let low = below_start (row_at rows k) key.0 (span.begins.below k less) in below_first (row_at rows k) key low)
+    (λ k past within is.
+    let high = from_start (row_at rows k) (key.0 + 1) (span.ends.others k past within) in
+    let low = below_at_most (row_at rows k) key is in
+    absurd (omega (arith, high, low)))
     rank
 
--- the row after those of a span does not have the number
+-- the rows of a span have its first number
+pub row_in_span : (rows : List (ℕ × ℕ)) (first from to k : ℕ) → IsSpan rows first from to → from ≤ k → k < to → (row_at rows k).0 ≡ first
+row_in_span rows first from to k span past early =
+    let low = from_start (row_at rows k) first (span.begins.others k past (omega (arith, span.inside))) in
+    let high = below_start (row_at rows k) (first + 1) (span.ends.below k early) in
+    omega (arith, low, high)
+
+-- and the row after it has not
 pub row_past_span : (rows : List (ℕ × ℕ)) (first from to : ℕ) → IsSpan rows first from to → to < length rows → (row_at rows to).0 ≢ first
-row_past_span rows first from to span inside is = let high = span.behind to (omega arith) inside in omega (arith, high, is)
+row_past_span rows first from to span inside is =
+    let high = from_start (row_at rows to) (first + 1) (span.ends.others to (omega arith) inside) in
+    omega (arith, high, is)
 
--- nor has the row before them
+-- nor has the row before it
 pub row_before_span : (rows : List (ℕ × ℕ)) (first from to k : ℕ) → IsSpan rows first from to → k < from → (row_at rows k).0 ≢ first
-row_before_span rows first from to k span early is = let low = span.before k early in omega (arith, low, is)
-
--- ---- how a directory by blocks is made of one by numbers
-
--- the size of a block, as it is shifted
-pub block_size : (width : ℕ) → width < 16 → 1 * 2 ^ width % 18446744073709551616 ≡ 2 ^ width
-block_size width narrow =
-    let less : width ≤ 16 = omega arith in
-    let small : 2 ^ width ≤ 2 ^ 16 = pow_mono {i = width} {j = 16} less in
-    let one : 1 * 2 ^ width ≡ 2 ^ width = omega arith in
-    rw one (mod-eq_of_lt (omega (arith, small)))
-
--- the blocks so far, of which the next begins with the number `number`
-pub record AreBlocks (size : ℕ) (rows : List (ℕ × ℕ)) (number : ℕ) (blocks : List ℕ) : Type 0 where
-  pub next : number ≡ length blocks * size
-  pub ranks : (block : ℕ) → block < length blocks → IsRank rows (block * size, 0) (slice_index blocks block)
-
-one_block : (size : ℕ) (rows : List (ℕ × ℕ)) (blocks : List ℕ) (rank : ℕ) → ((b : ℕ) → b < length blocks → IsRank rows (b * size, 0) (slice_index blocks b)) → IsRank rows (length blocks * size, 0) rank
-    → (b : ℕ) → b < length (blocks ++ rank ∷ []) → IsRank rows (b * size, 0) (slice_index (blocks ++ rank ∷ []) b)
-one_block size rows blocks rank ranks last b less = elim (cases_lt b (length blocks)) [
-  | inl early ↦ rw (get_or_append_left blocks (rank ∷ []) 0 b early) (ranks b early)
-  | inr late ↦
-      let here : b ≡ length blocks = omega (arith, length-append blocks (rank ∷ [])) in
-      rw (here, get_or-append_right blocks (rank ∷ []) (length blocks) 0 (omega arith), sub_self (length blocks)) last
-]
-
-pub block_added : (size : ℕ) (rows : List (ℕ × ℕ)) (begins : List ℕ) (number rank : ℕ) (blocks : List ℕ) → IsDirectory rows begins → number < length begins → rank ≡ slice_index begins number
-    → AreBlocks size rows number blocks → AreBlocks size rows (number + size) (blocks ++ rank ∷ [])
-block_added size rows begins number rank blocks dir within read so_far = record {
-  next =
-      let more : (length blocks + 1) * size ≡ length blocks * size + size = omega arith in
-      ap (λ n. n + size) so_far.next ∙ sym more ∙ ap (λ n. n * size) (sym (length-append blocks (rank ∷ [])));
-  ranks = one_block size rows blocks rank so_far.ranks (subst (λ n. IsRank rows (n, 0) rank) so_far.next (subst (λ r. IsRank rows (number, 0) r) (sym read) (dir.ranks number within)));
-}
-
-pub blocks_done : (width : ℕ) (rows : List (ℕ × ℕ)) (begins : List ℕ) (number : ℕ) (blocks : List ℕ) → IsDirectory rows begins → length begins ≤ number → AreBlocks (2 ^ width) rows number blocks
-    → HasBlocks (2 ^ width) rows (blocks ++ length rows ∷ [])
-blocks_done width rows begins number blocks dir past so_far = record {
-  ranks = one_block (2 ^ width) rows blocks (length rows) so_far.ranks (record {
-    within = omega arith;
-    below = λ k less. below_first (row_at rows k) (length blocks * 2 ^ width, 0) (omega (arith, dir.last k less, past, so_far.next));
-    others = λ k from less. absurd (omega arith);
-  });
-  last = λ k less.
-      let under : (row_at rows k).0 < length blocks * 2 ^ width = omega (arith, dir.last k less, past, so_far.next) in
-      omega (arith, (div-lt_iff_lt-mul (pow_pos width)).1 under, length-append blocks (length rows ∷ []));
-}
+row_before_span rows first from to k span early is =
+    let low = below_start (row_at rows k) first (span.begins.below k early) in
+    omega (arith, low, is)
 
 -- ---- the row with a first number
 
+-- the row at a place, in the part that has it alone
+row_alone : (rows : List (ℕ × ℕ)) (place : ℕ) → row_at (slice_range rows place (place + 1)) 0 ≡ row_at rows place
+row_alone rows place =
+    let here : place + 0 ≡ place = omega arith in
+    row_of_part rows place (place + 1) 0 (omega arith) ∙ ap (λ q. row_at rows q) here
+
 -- if the row at the place of a number is below the next number, it has the number
-pub second_at_place : (rows : List (ℕ × ℕ)) (first place n : ℕ) (row : ℕ × ℕ) → IsRank rows (first, 0) place → place < length rows → row ≡ row_at rows place → IsRank (row ∷ []) (first + 1, 0) n → n ≡ 1
-    → IsSecond rows first (Some row.1)
-second_at_place rows first place n row rank within same next one =
-    let low = below_start row (first + 1) (next.below 0 (omega (arith, one))) in
+pub second_at_place : (rows : List (ℕ × ℕ)) (first place n : ℕ) → IsRank rows (first, 0) place → place < length rows → IsRank (slice_range rows place (place + 1)) (first + 1, 0) n → n ≡ 1
+    → IsSecond rows first (Some (row_at rows place).1)
+second_at_place rows first place n rank within next one =
+    let low = below_start (row_at (slice_range rows place (place + 1)) 0) (first + 1) (next.below 0 (omega (arith, one))) in
     let from = from_start (row_at rows place) first (rank.others place (omega arith) within) in
-    let is : row.0 ≡ first = omega (arith, low, from, ap (λ (r : ℕ × ℕ). r.0) same) in
-    (place, within, sym same ∙ ap (λ q. (q, row.1)) is)
+    let is : (row_at rows place).0 ≡ first = omega (arith, low, from, ap (λ (r : ℕ × ℕ). r.0) (row_alone rows place)) in
+    (place, within, ap (λ q. (q, (row_at rows place).1)) is)
 
 -- and if it is not, no row has it
-pub none_at_place : (rows : List (ℕ × ℕ)) (first place n : ℕ) (row : ℕ × ℕ) → AreRising rows → IsRank rows (first, 0) place → place < length rows → row ≡ row_at rows place → IsRank (row ∷ []) (first + 1, 0) n
-    → n ≢ 1 → IsSecond rows first None
-none_at_place rows first place n row rise rank within same next other k inside is =
-    let from = from_start row (first + 1) (next.others 0 (omega (arith, next.within, other)) (omega arith)) in
-    let above : first + 1 ≤ (row_at rows place).0 = omega (arith, from, ap (λ (r : ℕ × ℕ). r.0) same) in
+pub none_at_place : (rows : List (ℕ × ℕ)) (first place n : ℕ) → AreRising rows → IsRank rows (first, 0) place → place < length rows → IsRank (slice_range rows place (place + 1)) (first + 1, 0) n → n ≢ 1
+    → IsSecond rows first None
+none_at_place rows first place n rise rank within next other k inside is =
+    let size : length (slice_range rows place (place + 1)) ≡ 1 = part_length rows place (place + 1) ∙ omega (arith, within) in
+    let from = from_start (row_at (slice_range rows place (place + 1)) 0) (first + 1) (next.others 0 (omega (arith, next.within, size, other)) (omega (arith, size))) in
+    let above : first + 1 ≤ (row_at rows place).0 = omega (arith, from, ap (λ (r : ℕ × ℕ). r.0) (row_alone rows place)) in
     elim (cases_lt k place) [
       | inl early ↦ let low = below_start (row_at rows k) first (rank.below k early) in omega (arith, low, is)
       | inr late ↦ elim (cases_eq k place) [

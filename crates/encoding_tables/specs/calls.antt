@@ -2,4 +2,3 @@
 pub mod PackedLists
 pub mod SortedRows
 pub mod EntryCounts
-pub mod RowNumbers

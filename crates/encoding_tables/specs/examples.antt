@@ -9,7 +9,6 @@ pub mod PackedRows
 pub mod RangeFaults
 pub mod Ranges
 pub mod Replacement
-pub mod RowNumbers
 pub mod SingleByte
 pub mod SortedRows
 pub mod TableFaults

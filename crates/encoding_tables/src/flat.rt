@@ -6,7 +6,7 @@ ghost use Rattle.encoding_tables.specs.calls.PackedLists.{IsPacked};
 ghost use Rattle.encoding_tables.specs.PackedRows.{flat_list};
 
 use crate::pointer_rows::PointerRows;
-use crate::search::{Row, search_in};
+use crate::search::search;
 use crate::sorted_rows::SortedRows;
 use encoding_mem::scalar::scalar_of;
 use std::marker::Model;
@@ -65,18 +65,11 @@ impl<'a> Flat<'a> {
         ensures pointer { result ≡ first_pointer self.now c from to }
         ensures before { IfSome result (λ p. p < to) }
     {
-        let pairs = self.by_entry.block_of(c as u32);
-        let (below, _) = search_in(pairs, (c as u32, from));
-        match &pairs[below..] {
-            [pair, ..] => {
-                let (entry, pointer) = pair.numbers();
-                if entry == c as u32 && pointer < to {
-                    Some(pointer)
-                } else {
-                    None
-                }
-            }
-            [] => None,
+        let rows = self.by_entry.rows_of(c as u32);
+        let (below, _) = search(rows, (c as u32, from));
+        match &rows[below..] {
+            [(_, pointer), ..] if *pointer < to => Some(*pointer),
+            _ => None,
         }
     }
 
@@ -88,18 +81,11 @@ impl<'a> Flat<'a> {
         ensures pointer { result ≡ last_pointer self.now c from to }
         ensures before { IfSome result (λ p. p < to) }
     {
-        let pairs = self.by_entry.block_of(c as u32);
-        let (below, _) = search_in(pairs, (c as u32, to));
-        match &pairs[..below] {
-            [.., pair] => {
-                let (entry, pointer) = pair.numbers();
-                if entry == c as u32 && pointer >= from {
-                    Some(pointer)
-                } else {
-                    None
-                }
-            }
-            [] => None,
+        let rows = self.by_entry.rows_of(c as u32);
+        let (below, _) = search(rows, (c as u32, to));
+        match &rows[..below] {
+            [.., (_, pointer)] if *pointer >= from => Some(*pointer),
+            _ => None,
         }
     }
 }

@@ -128,21 +128,6 @@ impl IndexKind {
         }
     }
 
-    // Of how many scalars a block is in the directory by entry of this kind: 2 to this power. A
-    // search among the rows of a block takes time, so the two indexes whose encoders have the least
-    // of it to spare have blocks of one scalar. No encoder writes by that of JIS X 0212.
-    pub(crate) fn block_width(self) -> u32
-        ensures { result < 16 }
-    {
-        match self {
-            IndexKind::Gb18030 | IndexKind::Jis0208 => 0,
-            IndexKind::EucKr => 2,
-            IndexKind::Big5 => 4,
-            IndexKind::Jis0212 => 6,
-            _ => 3,
-        }
-    }
-
     // Written by tools/generate_encodings.py from tools/encodings.toml; do not edit.
     // The number of this kind among all.
     pub(crate) fn slot(self) -> usize

@@ -31,7 +31,6 @@ pub mod index_kind;
 pub mod laws;
 mod packed_index;
 mod packed_ranges;
-mod packed_row;
 mod pointer_rows;
 pub mod ranges;
 pub mod replacement_decoder;

@@ -7,7 +7,6 @@ ghost use Rattle.encoding_tables.specs.Lookups.{AreEntries};
 ghost use Rattle.encoding_tables.specs.PackedRows.{flat_list, mapped_rows, listed_rows};
 ghost use Rattle.encoding_tables.specs.PackedRows.{PointersRise, PointersAreBelow};
 ghost use Rattle.encoding_tables.specs.calls.PackedLists.{AreIndexRows, IsPacked, IsReversed};
-ghost use Rattle.encoding_tables.specs.calls.RowNumbers.{AreOfTwoPlanes, ArePackable};
 ghost use Rattle.encoding_tables.specs.calls.EntryCounts.{AreCounts, AreEnds, HaveEntriesBelow};
 
 use crate::flat::Flat;
@@ -36,47 +35,40 @@ impl Model for PackedIndex {
 }
 
 impl PackedIndex {
-    /// The index of a list, whose directory by entry has a number for each 2^width scalars.
-    pub(crate) fn from_list(alloc: Global, list: &[u32], width: u32) -> Result<Self, AllocError>
-        requires small { length list.now < 2 ^ 15 }
-        requires planes { AreOfTwoPlanes list.now }
-        requires narrow { width < 16 }
+    /// The index of a list.
+    pub(crate) fn from_list(alloc: Global, list: &[u32]) -> Result<Self, AllocError>
+        requires { length list.now < 2 ^ 16 }
         ensures { IfOk result (λ index. index ≡ list.now) }
     {
         let rows = rows_of_list(alloc, list)?;
-        PackedIndex::new(alloc, list.len(), &rows, width)
+        PackedIndex::new(alloc, list.len(), &rows)
     }
 
-    /// The index of a list with these entries and 0 elsewhere, with such a directory.
+    /// The index of a list with these entries and 0 elsewhere.
     pub(crate) fn from_rows(
         alloc: Global,
         size: usize,
         rows: &[(u32, u32)],
-        width: u32,
     ) -> Result<Self, AllocError>
         requires rise { PointersRise rows.now }
         requires below { PointersAreBelow size rows.now }
-        requires small { size < 2 ^ 15 }
-        requires planes { AreOfTwoPlanes (flat_list size rows.now) }
-        requires narrow { width < 16 }
+        requires small { size < 2 ^ 16 }
         ensures { IfOk result (λ index. index ≡ flat_list size rows.now) }
     {
         if are_mapped(rows) {
-            return PackedIndex::new(alloc, size, rows, width);
+            return PackedIndex::new(alloc, size, rows);
         }
         let mapped = rows_with_entry(alloc, rows)?;
-        PackedIndex::new(alloc, size, &mapped, width)
+        PackedIndex::new(alloc, size, &mapped)
     }
 
     // The index of mapped rows.
-    fn new(alloc: Global, size: usize, rows: &[(u32, u32)], width: u32) -> Result<Self, AllocError>
+    fn new(alloc: Global, size: usize, rows: &[(u32, u32)]) -> Result<Self, AllocError>
         requires rows { AreIndexRows size rows.now }
-        requires small { size < 2 ^ 15 }
-        requires planes { AreOfTwoPlanes (flat_list size rows.now) }
-        requires narrow { width < 16 }
+        requires small { size < 2 ^ 16 }
         ensures { IfOk result (λ index. index ≡ flat_list size rows.now) }
     {
-        let by_entry = reversed(alloc, rows, width)?;
+        let by_entry = reversed(alloc, rows)?;
         Ok(PackedIndex {
             size,
             by_pointer: PointerRows::new(alloc, rows)?,
@@ -170,11 +162,9 @@ fn ends(alloc: Global, rows: &[(u32, u32)]) -> Result<Vec<u16>, AllocError>
 // Each row the other way round, in order: from the last row on, each goes to the end of the places
 // of its entry that are free. Where the first of an entry went, its pairs begin. No two rows are
 // compared, and no branch depends on what a row has.
-fn reversed(alloc: Global, rows: &[(u32, u32)], width: u32) -> Result<SortedRows, AllocError>
+fn reversed(alloc: Global, rows: &[(u32, u32)]) -> Result<SortedRows, AllocError>
     requires rise { PointersRise rows.now }
-    requires packable { ArePackable rows.now }
     requires few { length rows.now < 2 ^ 16 }
-    requires narrow { width < 16 }
     ensures { IfOk result (λ pairs. IsReversed rows.now pairs) }
 {
     let mut begins = ends(alloc, rows)?;
@@ -187,5 +177,5 @@ fn reversed(alloc: Global, rows: &[(u32, u32)], width: u32) -> Result<SortedRows
         begins[entry as usize] = place;
         pairs[place as usize] = (entry, pointer);
     }
-    SortedRows::new(alloc, &pairs, &begins, width)
+    Ok(SortedRows::with_directory(pairs, begins))
 }

@@ -5,9 +5,7 @@ ghost use Rattle.std.specs.Prelude.{◌≡◌, ◌<◌, ◌^◌, List, ℕ, leng
 ghost use Rattle.encoding_tables.specs.calls.PackedLists.{IsSecond};
 ghost use Rattle.encoding_tables.specs.PackedRows.{PointersAreBelow};
 ghost use Rattle.encoding_tables.specs.calls.SortedRows.{AreRising, IsDirectory, IsTight};
-ghost use Rattle.encoding_tables.specs.calls.RowNumbers.{ArePackable};
 
-use crate::packed_row::{PackedRow, packed_rows};
 use crate::search::search;
 use std::alloc::{AllocError, Global};
 use std::marker::Model;
@@ -15,7 +13,7 @@ use std::marker::Model;
 /// Rows in order, each with a pointer below 2^16 of its own.
 #[derive(Drop)]
 pub(crate) struct PointerRows {
-    rows: Vec<PackedRow>,
+    rows: Vec<(u32, u32)>,
     // How many rows stand before each pointer, and at last how many there are.
     begins: Vec<u16>,
 }
@@ -33,20 +31,20 @@ impl PointerRows {
     /// Rows in order.
     pub(crate) fn new(alloc: Global, rows: &[(u32, u32)]) -> Result<Self, AllocError>
         requires rising { AreRising rows.now }
-        requires packable { ArePackable rows.now }
+        requires below { PointersAreBelow (2 ^ 16) rows.now }
         requires few { length rows.now < 2 ^ 16 }
         ensures { IfOk result (λ sorted. sorted ≡ rows.now) }
     {
         let begins = directory(alloc, rows)?;
-        let rows = packed_rows(alloc, rows)?;
+        let rows = copied(alloc, rows)?;
         Ok(PointerRows { rows, begins })
     }
 
     /// The second number of the row with this first number, or `None` if no row has it.
     ///
-    /// The directory leaves one row: those before the place that it names are below the number, and
-    /// those from there on are not. So what the search does is to decide whether the row at this
-    /// place has the number: it has, if it is below the next number.
+    /// The rows before the place that the directory names are below the number, and those from
+    /// there on are not. So if a row has the number, it is the one at this place, and the search
+    /// says whether it is below the next number.
     #[inline(always)]
     pub(crate) fn second(&self, first: u32) -> Option<u32>
         ensures { IsSecond self.now first result }
@@ -56,9 +54,13 @@ impl PointerRows {
         if first as usize + 1 >= begins.len() {
             return None;
         }
-        let row = rows[begins[first as usize] as usize].row();
-        let (below, _) = search(&[row], (first + 1, 0));
-        if below == 1 { Some(row.1) } else { None }
+        let place = begins[first as usize] as usize;
+        let (below, _) = search(&rows[place..place + 1], (first + 1, 0));
+        if below == 1 {
+            Some(rows[place].1)
+        } else {
+            None
+        }
     }
 }
 
@@ -82,4 +84,13 @@ fn directory(alloc: Global, rows: &[(u32, u32)]) -> Result<Vec<u16>, AllocError>
     }
     begins.push(rows.len() as u16)?;
     Ok(begins)
+}
+
+// The rows in memory of their own.
+fn copied(alloc: Global, rows: &[(u32, u32)]) -> Result<Vec<(u32, u32)>, AllocError>
+    ensures { IfOk result (λ same. same.items ≡ rows.now) }
+{
+    let mut same = Vec::with_capacity(alloc, rows.len())?;
+    same.extend_from_slice(rows)?;
+    Ok(same)
 }

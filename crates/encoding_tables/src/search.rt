@@ -1,26 +1,8 @@
 //! A binary search among rows in order.
 
-ghost use Rattle.std.specs.Prelude.{◌≡◌, ℕ, length, map};
+ghost use Rattle.std.specs.Prelude.{◌≡◌, length};
 ghost use Rattle.encoding_tables.specs.calls.SortedRows.{is_below, AreRising, IsRank};
 ghost use Rattle.encoding_tables.specs.calls.SortedRows.{IsWithinDigits};
-
-/// A row of two numbers, in whatever form it is kept.
-pub(crate) trait Row {
-    ghost numbers: { Self → ℕ × ℕ };
-
-    /// The two numbers.
-    fn numbers(&self) -> (u32, u32)
-        ensures { result ≡ numbers self.now };
-}
-
-impl Row for (u32, u32) {
-    ghost numbers = { λ row. row };
-
-    #[inline(always)]
-    fn numbers(&self) -> (u32, u32) {
-        *self
-    }
-}
 
 // Whether a row is below a key: by the first number, and by the second if the first are equal.
 #[inline(always)]
@@ -46,26 +28,16 @@ pub fn search(rows: &[(u32, u32)], key: (u32, u32)) -> (usize, u32)
     ensures rank { IsRank rows.now key result.0 }
     ensures compared { IsWithinDigits result.1 (length rows.now) }
 {
-    search_in(rows, key)
-}
-
-/// The search among rows in whatever form they are kept.
-#[inline(always)]
-pub(crate) fn search_in<R: Row>(rows: &[R], key: (u32, u32)) -> (usize, u32)
-    requires { AreRising (map R.numbers rows.now) }
-    ensures rank { IsRank (map R.numbers rows.now) key result.0 }
-    ensures compared { IsWithinDigits result.1 (length rows.now) }
-{
     match rows {
         [] => (0, 0),
-        [row] => (is_below(row.numbers(), key) as usize, 1),
+        [row] => (is_below(*row, key) as usize, 1),
         _ => search_by_halves(rows, key),
     }
 }
 
-fn search_by_halves<R: Row>(rows: &[R], key: (u32, u32)) -> (usize, u32)
-    requires { AreRising (map R.numbers rows.now) }
-    ensures rank { IsRank (map R.numbers rows.now) key result.0 }
+fn search_by_halves(rows: &[(u32, u32)], key: (u32, u32)) -> (usize, u32)
+    requires { AreRising rows.now }
+    ensures rank { IsRank rows.now key result.0 }
     ensures compared { IsWithinDigits result.1 (length rows.now) }
 {
     let mut low = 0;
@@ -74,7 +46,7 @@ fn search_by_halves<R: Row>(rows: &[R], key: (u32, u32)) -> (usize, u32)
     'halves: while low < high {
         let middle = low + (high - low) / 2;
         compared += 1;
-        if is_below(rows[middle].numbers(), key) {
+        if is_below(rows[middle], key) {
             low = middle + 1;
         } else {
             high = middle;

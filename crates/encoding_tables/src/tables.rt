@@ -106,7 +106,7 @@ impl Tables {
         if let Some(fault) = fault_of_flat(self.has(kind), kind, flat) {
             return Err(fault);
         }
-        match PackedIndex::from_list(self.alloc, flat, kind.block_width()) {
+        match PackedIndex::from_list(self.alloc, flat) {
             Ok(index) => {
                 self.flats[kind.slot()] = Some(index);
                 Ok(())
@@ -139,7 +139,7 @@ impl Tables {
         if let Some(fault) = fault_of_rows(self.has(kind), kind, rows) {
             return Err(fault);
         }
-        match PackedIndex::from_rows(self.alloc, kind.size(), rows, kind.block_width()) {
+        match PackedIndex::from_rows(self.alloc, kind.size(), rows) {
             Ok(index) => {
                 self.flats[kind.slot()] = Some(index);
                 Ok(())

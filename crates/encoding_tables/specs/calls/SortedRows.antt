@@ -1,5 +1,5 @@
 -- Rows of two numbers in order: by the first number, and by the second if the first are equal.
-use Rattle.std.specs.Prelude.{◌≡◌, ℕ, ◌+◌, ◌*◌, ◌/◌, ◌^◌, ◌<◌, ◌≤◌, Bool, true, List, length, nat_lt, ◌==◌, ◌&&◌, ◌||◌, slice_index_or, slice_index}
+use Rattle.std.specs.Prelude.{◌≡◌, ℕ, ◌+◌, ◌^◌, ◌<◌, ◌≤◌, Bool, true, List, length, nat_lt, ◌==◌, ◌&&◌, ◌||◌, slice_index_or, slice_index}
 
 -- the row at a position, or (0, 0) past the end
 abbrev pub row_at : List (ℕ × ℕ) → ℕ → ℕ × ℕ
@@ -42,16 +42,9 @@ pub record IsTight (rows : List (ℕ × ℕ)) (begins : List ℕ) : Type 0 where
   pub stands : (first : ℕ) → first + 1 < length begins → slice_index begins first < length rows
   pub short : length begins ≤ 2 ^ 16 + 1
 
--- a list says for each block of so many first numbers, from 0 on, how many rows have a first number
--- below those of the block, and goes beyond the blocks of all rows
-pub record HasBlocks (size : ℕ) (rows : List (ℕ × ℕ)) (begins : List ℕ) : Type 0 where
-  pub ranks : (block : ℕ) → block < length begins → IsRank rows (block * size, 0) (slice_index begins block)
-  pub last : (k : ℕ) → k < length rows → (row_at rows k).0 / size + 1 < length begins
-
--- the rows before a position have a smaller first number than a given one, and those from another
--- on have a greater one, so that all rows that have it stand between them
+-- the rows with a given first number stand from one position to before another
 pub record IsSpan (rows : List (ℕ × ℕ)) (first from to : ℕ) : Type 0 where
-  pub before : (k : ℕ) → k < from → (row_at rows k).0 < first
-  pub behind : (k : ℕ) → to ≤ k → k < length rows → first < (row_at rows k).0
+  pub begins : IsRank rows (first, 0) from
+  pub ends : IsRank rows (first + 1, 0) to
   pub ordered : from ≤ to
   pub inside : to ≤ length rows

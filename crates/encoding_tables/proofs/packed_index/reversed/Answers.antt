@@ -1,10 +1,7 @@
-use Rattle.std.proofs.Common.{◌≡◌, ◌-◌, ◌∙◌, arith, subst, sym, ℕ}
+use Rattle.std.proofs.Common.{◌-◌, ◌∙◌, arith, ℕ}
 use Rattle.std.proofs.lemmas.List.{get_or_default}
-use Rattle.std.proofs.lemmas.Result.{IfOk-weaker}
 use Rattle.encoding_tables.specs.calls.SortedRows.{row_at}
-use Rattle.encoding_tables.specs.calls.PackedLists.{IsReversed}
 use Rattle.encoding_tables.proofs.CountLemmas.{place_found, place_is_there, turn_placed, placed_are_reversed, placed_have_directory}
-use Rattle.encoding_tables.proofs.RowNumberLemmas.{pairs_fit}
 use Rattle.encoding_tables.proofs.packed_index.reversed.Goals as goal
 
 pub overflow_sub-place : goal.overflow_sub-place
@@ -25,19 +22,11 @@ rows-preserved c =
     let read = λ (d : ℕ). c.index.ensures ∙ get_or_default c.rows.begins.items (row_at c.args.rows.now (c.rows.at - 1)).1 c.index.result.now d (omega (arith, inside)) in
     turn_placed c.args.rows.now c.rows.at c.index.result.now c.rows.begins.items c.rows.pairs.items (omega (arith, c.rows-test.true)) c.rows.invariant read
 
-pub new-requires-clause-rising : goal.new-requires-clause-rising
-new-requires-clause-rising c = rw c.deref.ensures.value (placed_are_reversed c.args.rows.now c.rows.at c.rows.begins.items c.rows.pairs.items c.requires.rise (omega (arith, c.rows-test.false)) c.rows.invariant).rise
+pub with_directory-requires-clause-rising : goal.with_directory-requires-clause-rising
+with_directory-requires-clause-rising c = (placed_are_reversed c.args.rows.now c.rows.at c.rows.begins.items c.rows.pairs.items c.requires.rise (omega (arith, c.rows-test.false)) c.rows.invariant).rise
 
-pub new-requires-clause-packable : goal.new-requires-clause-packable
-new-requires-clause-packable c =
-    let placed = placed_are_reversed c.args.rows.now c.rows.at c.rows.begins.items c.rows.pairs.items c.requires.rise (omega (arith, c.rows-test.false)) c.rows.invariant in
-    rw c.deref.ensures.value (pairs_fit c.args.rows.now c.rows.pairs.items placed c.requires.packable)
-
-pub new-requires-clause-directory : goal.new-requires-clause-directory
-new-requires-clause-directory c = rw (c.deref.ensures.value, c.deref-2.ensures.value) (placed_have_directory c.args.rows.now c.rows.at c.rows.begins.items c.rows.pairs.items c.requires.rise (omega (arith, c.rows-test.false)) c.rows.invariant)
+pub with_directory-requires-clause-directory : goal.with_directory-requires-clause-directory
+with_directory-requires-clause-directory c = placed_have_directory c.args.rows.now c.rows.at c.rows.begins.items c.rows.pairs.items c.requires.rise (omega (arith, c.rows-test.false)) c.rows.invariant
 
 pub returns : goal.returns
-returns c =
-    let placed = placed_are_reversed c.args.rows.now c.rows.at c.rows.begins.items c.rows.pairs.items c.requires.rise (omega (arith, c.rows-test.false)) c.rows.invariant in
-    IfOk-weaker c.new.result (λ sorted. sorted ≡ c.deref.result.now) (λ sorted. IsReversed c.args.rows.now sorted)
-    (λ sorted same. subst (IsReversed c.args.rows.now) (sym (same ∙ c.deref.ensures.value)) placed) c.new.ensures
+returns c = rw c.with_directory.ensures (placed_are_reversed c.args.rows.now c.rows.at c.rows.begins.items c.rows.pairs.items c.requires.rise (omega (arith, c.rows-test.false)) c.rows.invariant)

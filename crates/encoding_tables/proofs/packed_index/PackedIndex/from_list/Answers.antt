@@ -7,9 +7,6 @@ use Rattle.encoding_tables.proofs.packed_index.PackedIndex.from_list.Goals as go
 pub new-requires-clause-rows : goal.new-requires-clause-rows
 new-requires-clause-rows c = rw (c.deref.ensures.value ∙ c.in_ok-rows.ensures) (listed_are_rows c.args.list.now)
 
-pub new-requires-clause-planes : goal.new-requires-clause-planes
-new-requires-clause-planes c = rw (c.deref.ensures.value ∙ c.in_ok-rows.ensures, flat_of_listed c.args.list.now) c.requires.planes
-
 pub returns : goal.returns
 returns c =
     let same = ap (flat_list (length c.args.list.now)) (c.deref.ensures.value ∙ c.in_ok-rows.ensures) ∙ flat_of_listed c.args.list.now in

@@ -10,9 +10,6 @@ new-requires-clause-rows c = mapped_are_all c.args.size c.args.rows.now c.requir
 pub new-requires-2-clause-rows : goal.new-requires-2-clause-rows
 new-requires-2-clause-rows c = rw (c.deref.ensures.value ∙ c.in_ok-mapped.ensures) (mapped_are_rows c.args.size c.args.rows.now c.requires.rise c.requires.below)
 
-pub new-requires-2-clause-planes : goal.new-requires-2-clause-planes
-new-requires-2-clause-planes c = rw (c.deref.ensures.value ∙ c.in_ok-mapped.ensures, flat_of_mapped c.args.size c.args.rows.now c.requires.rise c.requires.below) c.requires.planes
-
 pub returns : goal.returns
 returns c =
     let same = ap (flat_list c.args.size) (c.deref.ensures.value ∙ c.in_ok-mapped.ensures) ∙ flat_of_mapped c.args.size c.args.rows.now c.requires.rise c.requires.below in

@@ -1,5 +1,4 @@
-use Rattle.std.proofs.Common.{◌≡◌, ◌<◌, ◌+◌, ◌∙◌, ℕ, arith, length, subst, Some, None, get_or}
-use Rattle.std.proofs.lemmas.List.{get_or_default}
+use Rattle.std.proofs.Common.{◌≡◌, ◌<◌, ◌+◌, ◌∙◌, arith, length, subst, Some, None, get_or}
 use Rattle.encoding_tables.specs.calls.PackedLists.{IsSecond}
 use Rattle.encoding_tables.specs.calls.SortedRows.{AreRising, IsDirectory, IsTight, row_at}
 use Rattle.encoding_tables.proofs.SearchLemmas.{second_at_place, none_at_place}
@@ -14,11 +13,8 @@ returns-then-below-eq1 c =
     let directory : IsDirectory rows begins = rw (rows_is, begins_is) c.self.invariant.1 in
     let tight : IsTight rows begins = rw (rows_is, begins_is) c.self.invariant.2 in
     let inside : c.args.first + 1 < length begins = omega (arith, c.if-first-begins.false) in
-    let place : ℕ = get_or begins c.args.first 0 in
-    let stands : place < length rows = tight.stands c.args.first inside in
-    let same : c.row-row.result ≡ row_at rows place = c.row-row.ensures ∙ c.index-rows-begins.is ∙ get_or_default rows place c.index-rows-begins.result (0, 0) stands in
-    let found = second_at_place rows c.args.first place _ c.row-row.result (directory.ranks c.args.first (omega (arith, inside))) stands same c.search-below.ensures.rank c.if-below-eq1.true in
-    subst (λ list. IsSecond list c.args.first (Some c.row-row.result.1)) (rows_is ∙ c.self.view_is) found
+    let found = second_at_place rows c.args.first _ _ (directory.ranks c.args.first (omega (arith, inside))) (tight.stands c.args.first inside) c.search-below.ensures.rank c.if-below-eq1.true in
+    subst (λ list. IsSecond list c.args.first (Some (row_at rows (get_or begins c.args.first 0)).1)) (rows_is ∙ c.self.view_is) found
 
 pub returns-else-below-eq1 : goal.returns-else-below-eq1
 returns-else-below-eq1 c =
@@ -30,8 +26,5 @@ returns-else-below-eq1 c =
     let directory : IsDirectory rows begins = rw (rows_is, begins_is) c.self.invariant.1 in
     let tight : IsTight rows begins = rw (rows_is, begins_is) c.self.invariant.2 in
     let inside : c.args.first + 1 < length begins = omega (arith, c.if-first-begins.false) in
-    let place : ℕ = get_or begins c.args.first 0 in
-    let stands : place < length rows = tight.stands c.args.first inside in
-    let same : c.row-row.result ≡ row_at rows place = c.row-row.ensures ∙ c.index-rows-begins.is ∙ get_or_default rows place c.index-rows-begins.result (0, 0) stands in
-    let none = none_at_place rows c.args.first place _ c.row-row.result rising (directory.ranks c.args.first (omega (arith, inside))) stands same c.search-below.ensures.rank c.if-below-eq1.false in
+    let none = none_at_place rows c.args.first _ _ rising (directory.ranks c.args.first (omega (arith, inside))) (tight.stands c.args.first inside) c.search-below.ensures.rank c.if-below-eq1.false in
     subst (λ list. IsSecond list c.args.first None) (rows_is ∙ c.self.view_is) none

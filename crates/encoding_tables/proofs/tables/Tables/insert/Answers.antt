@@ -4,18 +4,12 @@ use Rattle.std.proofs.Math.ListN.{set}
 use Rattle.encoding_tables.specs.laws.Kinds.{index-put, index-others, accepted-put, no_fault}
 use Rattle.encoding_tables.specs.laws.TableFaults.{is_index}
 use Rattle.encoding_tables.proofs.KindLemmas.{size_is_small}
-use Rattle.encoding_tables.proofs.RowNumberLemmas.{index_planes}
 use Rattle.encoding_tables.proofs.tables.Tables.insert.Goals as goal
 
-pub from_list-requires-clause-small : goal.from_list-requires-clause-small
-from_list-requires-clause-small c =
+pub from_list-requires : goal.from_list-requires
+from_list-requires c =
     let index = is_index c.args.kind c.args.flat.now (no_fault _ c.args.kind c.args.flat.now (sym c.fault_of_flat.ensures ∙ c.in_default.is)) in
     omega (arith, index.size, size_is_small c.args.kind)
-
-pub from_list-requires-clause-planes : goal.from_list-requires-clause-planes
-from_list-requires-clause-planes c =
-    let index = is_index c.args.kind c.args.flat.now (no_fault _ c.args.kind c.args.flat.now (sym c.fault_of_flat.ensures ∙ c.in_default.is)) in
-    index_planes c.args.kind c.args.flat.now index
 
 pub returns-in-Ok-clause-taken : goal.returns-in-Ok-clause-taken
 returns-in-Ok-clause-taken c = index-put c.self.inside.flats c.slot.result (Some c.in-Ok.index) c.args.kind c.slot.ensures.value (omega arith) ∙ ap Some c.in-Ok.ensures

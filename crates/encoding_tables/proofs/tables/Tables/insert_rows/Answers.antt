@@ -4,18 +4,11 @@ use Rattle.std.proofs.Math.ListN.{set}
 use Rattle.encoding_tables.specs.laws.Kinds.{index-put, index-others, accepted-put, no_fault}
 use Rattle.encoding_tables.specs.Kinds.{index_size}
 use Rattle.encoding_tables.specs.PackedRows.{flat_list}
-use Rattle.encoding_tables.specs.laws.TableFaults.{is_index}
 use Rattle.encoding_tables.proofs.KindLemmas.{size_is_small}
-use Rattle.encoding_tables.proofs.RowNumberLemmas.{index_planes}
 use Rattle.encoding_tables.proofs.tables.Tables.insert_rows.Goals as goal
 
 pub from_rows-requires-clause-small : goal.from_rows-requires-clause-small
 from_rows-requires-clause-small c = omega (arith, c.size.ensures, size_is_small c.args.kind)
-
-pub from_rows-requires-clause-planes : goal.from_rows-requires-clause-planes
-from_rows-requires-clause-planes c =
-    let index = is_index c.args.kind (flat_list (index_size c.args.kind) c.args.rows.now) (no_fault _ c.args.kind (flat_list (index_size c.args.kind) c.args.rows.now) (sym c.fault_of_rows.ensures ∙ c.in_default.is)) in
-    rw c.size.ensures (index_planes c.args.kind (flat_list (index_size c.args.kind) c.args.rows.now) index)
 
 pub returns-in-Ok-clause-taken : goal.returns-in-Ok-clause-taken
 returns-in-Ok-clause-taken c = index-put c.self.inside.flats c.slot.result (Some c.in-Ok.index) c.args.kind c.slot.ensures.value (omega arith) ∙ ap Some (c.in-Ok.ensures ∙ ap (λ n. flat_list n c.args.rows.now) c.size.ensures)
