@@ -5,12 +5,13 @@
 //! There are also programs as users write them: `stream_faults`, `stream_losses`, `whole_runs` and
 //! `whole_texts`. Each loads its indexes and uses them in one function. `decoded_texts` and
 //! `lost_characters` have functions whose contracts users prove from the contracts and laws of the
-//! libraries.
+//! libraries, `own_texts` a sink and a source of a user's own.
 #![tactic(auto)]
 
 mod conversions;
 mod decoded_texts;
 mod lost_characters;
+mod own_texts;
 mod places;
 mod reports;
 mod stream_faults;
@@ -22,6 +23,7 @@ mod whole_texts;
 
 use anyhow::{bail, ensure};
 use encoding_front::X_USER_DEFINED;
+use encoding_mem::is_ascii;
 use encoding_tables::Tables;
 use std::io::Write;
 
@@ -39,6 +41,21 @@ fn print(rt: HostRuntime, name: &str, is_as_told: bool) -> anyhow::Result<()> {
 const JIS0208: &[u8] = b"422\t0x30CF\n";
 
 const JIS0212: &[u8] = b"565\t0x0402\n";
+
+// A text that a sink counts, and one that a source has in capitals.
+fn run_own_texts(rt: HostRuntime) -> anyhow::Result<()> {
+    let whole = own_texts::count_characters("A\u{30CF}\u{1F4A9}".as_bytes());
+    let broken = own_texts::count_characters(b"A\xFF");
+    println!(rt; "{whole:?} {broken:?}")?;
+    let text = b"Cafe 1".as_slice();
+    let mut capitals = [0; 6];
+    ensure!(is_ascii(text), "the text is not ASCII");
+    ensure!(text.len() <= 6, "the text is too long");
+    own_texts::put_capitals(text, &mut capitals);
+    rt.stdout().write_all(&capitals)?;
+    println!(rt; "")?;
+    Ok(())
+}
 
 fn run_programs(rt: HostRuntime) -> anyhow::Result<()> {
     whole_texts::decode_text(rt, JIS0208, b"A\x83\x6E\xFF")?;
@@ -72,7 +89,7 @@ fn run_programs(rt: HostRuntime) -> anyhow::Result<()> {
         Some(lost) => println!(rt; "{lost} lost")?,
         None => bail!("there is no room"),
     }
-    Ok(())
+    run_own_texts(rt)
 }
 
 fn main(rt: HostRuntime) -> anyhow::Result<()> {
