@@ -1,15 +1,18 @@
 -- The first fault of the list that rows stand for, by the rows.
-use Rattle.std.proofs.Common.{◌≡◌, ◌≢◌, ℕ, ◌+◌, ◌-◌, ◌<◌, ◌≤◌, Bool, true, false, List, length, get_or, inl, inr, refl, ◌∙◌, ap, arith, None, Some, drop, length-drop, length-take}
+use Rattle.std.proofs.Common.{◌≡◌, ◌≢◌, ℕ, ◌+◌, ◌-◌, ◌<◌, ◌≤◌, Bool, true, false, cond, List, length, get_or, inl, inr, refl, ◌∙◌, ap, arith, Option, None, Some, drop, length-drop, length-take}
 use Rattle.std.specs.Prelude.{not, ◌==◌, slice_range, min}
 use Rattle.std.specs.List.{position}
-use Rattle.std.specs.Option.{option_map}
+use Rattle.std.specs.Option.{option_map, option_or}
 use Rattle.std.proofs.lemmas.Bool.{cases_lt, cases_eq, lt-ltb, le-ltb, eq-eqb, ne_eqb}
 use Rattle.std.proofs.lemmas.List.Edits.{get_or-between}
 use Rattle.std.proofs.lemmas.List.Sums.{position_or_len_is}
 use Rattle.encoding_tables.specs.calls.SortedRows.{row_at}
 use Rattle.encoding_tables.specs.PackedRows.{flat_list, packed_entry, PointersRise, PointersAreBelow}
 use Rattle.encoding_tables.specs.Kinds.{index_size}
-use Rattle.encoding_tables.specs.TableFaults.{first_reserved, flat_fault, entry_fault}
+use Rattle.encoding_tables.specs.TableFaults.{is_same_kind, first_bad_entry, first_reserved, flat_fault, entry_fault}
+use Rattle.encoding_tables.specs.declared.table_fault.TableFault.{TableFault}
+use Rattle.encoding_tables.specs.declared.table_fault.TableFault.TheVariants.{Present, Size, Entry, Memory, Reserved}
+use Rattle.encoding_tables.specs.declared.index_kind.IndexKind.TheVariants.{Jis0208}
 use Rattle.encoding_tables.specs.declared.index_kind.IndexKind.{IndexKind}
 use Rattle.encoding_tables.proofs.RowLemmas.{length-flat_list, entry_within, entry_past, entry_at_row, row_of_entry, pointers_far}
 
@@ -106,3 +109,32 @@ no_reserved_row size rows none =
 -- the size of the list is the kind's
 pub fault_of_flat_list : (kind : IndexKind) (rows : List (ℕ × ℕ)) → flat_fault false kind (flat_list (index_size kind) rows) ≡ entry_fault kind (flat_list (index_size kind) rows)
 fault_of_flat_list kind rows = rw (eq-eqb (length (flat_list (index_size kind) rows)) (index_size kind) (length-flat_list (index_size kind) rows)) refl
+
+-- ---- memory is no fault of a list
+
+-- a fault, if there is one, is another than `Memory`
+abbrev IsOther : Option TableFault → Type 0
+IsOther o = o ≢ Some Memory
+
+of_entry : (o : Option ℕ) → IsOther (option_map Entry o)
+of_entry None = λ e. absurd (cc)
+of_entry (Some p) = λ e. absurd (cc)
+
+of_reserved : (o : Option ℕ) → IsOther (option_map Reserved o)
+of_reserved None = λ e. absurd (cc)
+of_reserved (Some p) = λ e. absurd (cc)
+
+of_either : (t : Bool) (a b : Option TableFault) → IsOther a → IsOther b → IsOther (cond t a b)
+of_either true a b h k = h
+of_either false a b h k = k
+
+of_first : (a b : Option TableFault) → IsOther a → IsOther b → IsOther (option_or a b)
+of_first None b h k = k
+of_first (Some f) b h k = h
+
+pub memory_is_no_fault : (there : Bool) (kind : IndexKind) (flat : List ℕ) → flat_fault there kind flat ≢ Some Memory
+memory_is_no_fault there kind flat =
+    of_either there (Some Present) _ (λ e. absurd (cc)) (
+    of_either (not (length flat == index_size kind)) (Some Size) _ (λ e. absurd (cc)) (
+    of_first (option_map Entry (first_bad_entry kind flat)) _ (of_entry (first_bad_entry kind flat))
+    (of_either (is_same_kind kind Jis0208) (option_map Reserved (first_reserved flat)) None (of_reserved (first_reserved flat)) (λ e. absurd (cc)))))

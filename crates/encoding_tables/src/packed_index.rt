@@ -1,6 +1,6 @@
 //! An index as rows, in memory of its own: by pointer for decoders, and by entry for encoders.
 
-ghost use Rattle.std.specs.Prelude.{◌≡◌, ℕ, ◌+◌, ◌^◌, ◌<◌, List, length, IfOk};
+ghost use Rattle.std.specs.Prelude.{◌≡◌, ℕ, ◌+◌, ◌^◌, ◌<◌, List, [], length, IfOk, IsOk};
 ghost use Rattle.std.specs.Prelude.{not, ◌==◌};
 ghost use Rattle.std.specs.List.{list_all};
 ghost use Rattle.encoding_tables.specs.Lookups.{AreEntries};
@@ -44,7 +44,8 @@ impl PackedIndex {
         PackedIndex::new(alloc, list.len(), &rows)
     }
 
-    /// The index of a list with these entries and 0 elsewhere.
+    /// The index of a list with these entries and 0 elsewhere. Asks for no memory if there are no
+    /// rows.
     pub(crate) fn from_rows(
         alloc: Global,
         size: usize,
@@ -53,13 +54,28 @@ impl PackedIndex {
         requires rise { PointersRise rows.now }
         requires below { PointersAreBelow size rows.now }
         requires small { size < 2 ^ 16 }
-        ensures { IfOk result (λ index. index ≡ flat_list size rows.now) }
+        ensures index { IfOk result (λ index. index ≡ flat_list size rows.now) }
+        ensures grows { rows.now ≡ [] → IsOk result }
     {
+        if rows.is_empty() {
+            return Ok(PackedIndex::empty(alloc, size));
+        }
         if are_mapped(rows) {
             return PackedIndex::new(alloc, size, rows);
         }
         let mapped = rows_with_entry(alloc, rows)?;
         PackedIndex::new(alloc, size, &mapped)
+    }
+
+    // The index of a list of zeros. Asks for no memory.
+    fn empty(alloc: Global, size: usize) -> Self
+        ensures { result ≡ flat_list size [] }
+    {
+        PackedIndex {
+            size,
+            by_pointer: PointerRows::empty(alloc),
+            by_entry: SortedRows::with_directory(Vec::new(alloc), Vec::new(alloc)),
+        }
     }
 
     // The index of mapped rows.

@@ -1,7 +1,7 @@
 //! Rows of an index in the order of their pointers, with a directory that names the one row in
 //! which a pointer can stand.
 
-ghost use Rattle.std.specs.Prelude.{◌≡◌, ◌<◌, ◌^◌, List, ℕ, length, IfOk};
+ghost use Rattle.std.specs.Prelude.{◌≡◌, ◌<◌, ◌^◌, List, [], ℕ, length, IfOk};
 ghost use Rattle.encoding_tables.specs.calls.PackedLists.{IsSecond};
 ghost use Rattle.encoding_tables.specs.PackedRows.{PointersAreBelow};
 ghost use Rattle.encoding_tables.specs.calls.SortedRows.{AreRising, IsDirectory, IsTight};
@@ -28,6 +28,16 @@ impl Model for PointerRows {
 }
 
 impl PointerRows {
+    /// No rows. Asks for no memory.
+    pub(crate) fn empty(alloc: Global) -> Self
+        ensures { result ≡ [] }
+    {
+        PointerRows {
+            rows: Vec::new(alloc),
+            begins: Vec::new(alloc),
+        }
+    }
+
     /// Rows in order.
     pub(crate) fn new(alloc: Global, rows: &[(u32, u32)]) -> Result<Self, AllocError>
         requires rising { AreRising rows.now }
@@ -42,9 +52,9 @@ impl PointerRows {
 
     /// The second number of the row with this first number, or `None` if no row has it.
     ///
-    /// The rows before the place that the directory names are below the number, and those from
-    /// there on are not. So if a row has the number, it is the one at this place, and the search
-    /// says whether it is below the next number.
+    /// The directory decides which row can have the number: the rows before the place that it names
+    /// are below the number, and those from there on are not. The search looks at this row alone,
+    /// and decides whether it has the number: whether it is below the next number.
     #[inline(always)]
     pub(crate) fn second(&self, first: u32) -> Option<u32>
         ensures { IsSecond self.now first result }

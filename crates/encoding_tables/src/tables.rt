@@ -118,6 +118,7 @@ impl Tables {
     /// Takes the list of a kind by its rows, each a pointer and an entry: the list has 0 at the pointers of
     /// no row, so no rows stand for the list of zeros. Accepts and refuses as [`Tables::insert`] does for
     /// that list, whose size is right: the fault is any but `Size` and `Ranges`, and then nothing changes.
+    /// If there are no rows, it asks for no memory.
     ///
     /// The kind is one for which [`IndexKind::is_ranges`] is false. Pointers rise from row to row, which
     /// `rows.windows(2).all(|pair| pair[0].0 < pair[1].0)` tests, and are below the kind's size, which
@@ -129,6 +130,7 @@ impl Tables {
         ensures fault { MatchOption
             (flat_fault (has self.old kind) kind (flat_list (index_size kind) rows.now))
             ((result ≡ Ok tt) ⊎ (result ≡ Err TableFault.Memory)) (λ f. result ≡ Err f) }
+        ensures grows { rows.now ≡ [] → result ≢ Err TableFault.Memory }
         ensures taken { OnOk result
             (flat_of self.new kind ≡ Some (flat_list (index_size kind) rows.now)) }
         ensures others { (other : IndexKind) → other ≢ kind

@@ -128,9 +128,6 @@ cuts_by_lead first after is h a x =
 
 -- ---- room
 
-pub basic_bytes : (c : ℕ) → c < 0x10000 → (len_utf8 c ≤ 3 * 1) × (len_utf16 c ≤ 1)
-basic_bytes c basic = (grind (arith, nat_tests), grind (arith, nat_tests))
-
 pub modest_cond : (t : Bool) (F G : FirstPiece) → IsModest F → IsModest G → IsModest (cond t F G)
 modest_cond true F G h k = h
 modest_cond false F G h k = k
@@ -147,21 +144,6 @@ modest_trail n (TwoChars c d) b some is = (is.2, is.3, omega arith)
 pub modest_after : (n : ℕ) (value : ℕ → PairValue) (x : List ℕ) (last : Bool) → 0 < n → ((b : ℕ) → IsPairValue (value b)) → IsModest (decide_after n value x last)
 modest_after n value [] last some is = modest_cut n last some
 modest_after n value (b ∷ x) last some is = modest_trail n (value b) b some (is b)
-
-modest_first : (o : FirstByte) (F : FirstPiece) → IsFirstByte o → (o ≡ Lead → IsModest F) → IsModest (decide_of_first o F)
-modest_first (Alone c) F is h = basic_bytes c is.1
-modest_first Lead F is h = h refl
-modest_first Unused F is h = omega arith
-
-pub modest_by_lead : (first : ℕ → FirstByte) (decide : ℕ → List ℕ → Bool → FirstPiece) → ((a : ℕ) → IsFirstByte (first a))
-    → ((a : ℕ) (x : List ℕ) (last : Bool) → first a ≡ Lead → IsModest (decide a x last))
-    → (x : List ℕ) (last : Bool) → IsModest (decide_by_lead first decide x last)
-modest_by_lead first decide is h [] last = tt
-modest_by_lead first decide is h (a ∷ x) last = low (nat_lt a 0x80) refl
-  where
-    low : (t : Bool) → nat_lt a 0x80 ≡ t → IsModest (cond t (One a 1) (decide_of_first (first a) (decide a x last)))
-    low true e = let below : a < 0x80 = ltb-true a 0x80 e in basic_bytes a (omega arith)
-    low false e = modest_first (first a) (decide a x last) (is a) (h a x last)
 
 -- ASCII is itself, whatever follows
 pub lead_ascii : (first : ℕ → FirstByte) (after : ℕ → List ℕ → Piece) (a : ℕ) (x : List ℕ) → a < 0x80 → first_piece_by_lead first after (a ∷ x) ≡ well_formed 1 (a ∷ [])
@@ -186,10 +168,6 @@ pub rule_first_piece : (first : ℕ → FirstByte) (after : ℕ → List ℕ →
 rule_first_piece first after decide is x last some =
     shows_first_piece (first_piece_by_lead first after) (cuts_rule first after decide is) x last (decide_by_lead first decide x last) some
     (shows_by_lead first after decide is.shows x last some)
-
-pub modest_rule : (first : ℕ → FirstByte) (after : ℕ → List ℕ → Piece) (decide : ℕ → List ℕ → Bool → FirstPiece) → IsLeadByteRule first after decide
-    → (x : List ℕ) (last : Bool) → IsModest (decide_by_lead first decide x last)
-modest_rule first after decide is = modest_by_lead first decide is.firsts is.modest
 
 -- that of an encoding of one and two bytes
 pub two_byte_rule : (e : TwoByteRule) → IsTwoByte e → IsLeadByteRule e.first (λ a. after_bytes 1 (e.pair a)) (λ a. decide_after 1 (e.pair a))

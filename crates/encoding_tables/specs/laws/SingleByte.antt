@@ -38,18 +38,6 @@ scalar_of_byte flat scalars b = elim (cases_lt b 0x80) [
     ascii : (b : ℕ) → b < 0x80 → IsScalar b
     ascii b low = grind (arith, nat_tests)
 
-basic_value : (flat : List ℕ) → AreBasic flat → (p : ℕ) → IfSome (value_of flat p) (λ c. c < 0x10000)
-basic_value flat basic p = elim (cases_eq (slice_index flat p) 0) [
-  | inl none ↦ rw (eq-eqb (slice_index flat p) 0 none) tt
-  | inr mapped ↦ rw (ne_eqb (slice_index flat p) 0 mapped) (basic p)
-]
-
-pub basic_of_byte : (flat : List ℕ) → AreBasic flat → (b : ℕ) → IfSome (char_of_byte flat b) (λ c. c < 0x10000)
-basic_of_byte flat basic b = elim (cases_lt b 0x80) [
-  | inl low ↦ rw (lt-ltb b 0x80 low) (omega arith)
-  | inr high ↦ rw (le-ltb b 0x80 high) (basic_value flat basic (b - 0x80))
-]
-
 pub cuts_single_byte : (flat : List ℕ) → AreEntries flat → CutsEach (first_piece_single_byte flat)
 cuts_single_byte flat scalars = cuts_by_byte (char_of_byte flat) (scalar_of_byte flat scalars)
 
@@ -57,11 +45,6 @@ cuts_single_byte flat scalars = cuts_by_byte (char_of_byte flat) (scalar_of_byte
 pub single_byte_first_piece : (flat : List ℕ) → AreEntries flat → (x : List ℕ) (last : Bool) → 0 < length x
     → TellsFirstPiece (pieces_single_byte flat) (pieces_single_byte flat) x last (first_piece_of_byte (char_of_byte flat (slice_index x 0)))
 single_byte_first_piece flat scalars = first_piece_by_first (char_of_byte flat) (scalar_of_byte flat scalars)
-
--- one scalar of the basic plane, or a malformed byte
-pub basic_prefix : (o : Option ℕ) → IfSome o (λ c. c < 0x10000) → IsBasic (first_piece_of_byte o)
-basic_prefix None basic = lit< tt
-basic_prefix (Some c) basic = (basic, lit< tt)
 
 -- a target of one byte a character
 pub single_byte_laws : (flat : List ℕ) → IsCoding 1 (single_byte_coding flat)

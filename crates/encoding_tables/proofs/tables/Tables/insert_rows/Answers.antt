@@ -5,13 +5,14 @@ use Rattle.encoding_tables.specs.laws.Kinds.{index-put, index-others, accepted-p
 use Rattle.encoding_tables.specs.Kinds.{index_size}
 use Rattle.encoding_tables.specs.PackedRows.{flat_list}
 use Rattle.encoding_tables.proofs.KindLemmas.{size_is_small}
+use Rattle.encoding_tables.proofs.RowFaultLemmas.{memory_is_no_fault}
 use Rattle.encoding_tables.proofs.tables.Tables.insert_rows.Goals as goal
 
 pub from_rows-requires-clause-small : goal.from_rows-requires-clause-small
 from_rows-requires-clause-small c = omega (arith, c.size.ensures, size_is_small c.args.kind)
 
 pub returns-in-Ok-clause-taken : goal.returns-in-Ok-clause-taken
-returns-in-Ok-clause-taken c = index-put c.self.inside.flats c.slot.result (Some c.in-Ok.index) c.args.kind c.slot.ensures.value (omega arith) ∙ ap Some (c.in-Ok.ensures ∙ ap (λ n. flat_list n c.args.rows.now) c.size.ensures)
+returns-in-Ok-clause-taken c = index-put c.self.inside.flats c.slot.result (Some c.in-Ok.index) c.args.kind c.slot.ensures.value (omega arith) ∙ ap Some (c.in-Ok.ensures.index ∙ ap (λ n. flat_list n c.args.rows.now) c.size.ensures)
 
 pub returns-in-Ok-clause-others : goal.returns-in-Ok-clause-others
 returns-in-Ok-clause-others c = λ k h. index-others c.self.inside.flats c.slot.result (Some c.in-Ok.index) c.args.kind k c.slot.ensures.value h ∙ ap (λ v. flat_at v.flats k) c.self.view_is
@@ -19,7 +20,10 @@ returns-in-Ok-clause-others c = λ k h. index-others c.self.inside.flats c.slot.
 pub invariant_of-self : goal.invariant_of-self
 invariant_of-self c =
     let well_formed = no_fault _ c.args.kind (flat_list (index_size c.args.kind) c.args.rows.now) (sym c.fault_of_rows.ensures ∙ c.in_default.is) in (
-      subst (λ list. AreAccepted (set c.self.inside.flats c.slot.result (Some list))) (sym (c.in-Ok.ensures ∙ ap (λ n. flat_list n c.args.rows.now) c.size.ensures))
+      subst (λ list. AreAccepted (set c.self.inside.flats c.slot.result (Some list))) (sym (c.in-Ok.ensures.index ∙ ap (λ n. flat_list n c.args.rows.now) c.size.ensures))
           (accepted-put c.self.inside.flats c.slot.result c.args.kind (flat_list (index_size c.args.kind) c.args.rows.now) c.slot.ensures.value (omega arith) well_formed c.self.invariant.0),
       c.self.invariant.1,
     )
+
+pub returns-in-Some-clause-grows : goal.returns-in-Some-clause-grows
+returns-in-Some-clause-grows c = λ empty memory. memory_is_no_fault _ c.args.kind _ (sym c.fault_of_rows.ensures ∙ c.in-Some.is ∙ ap Some (cc))
