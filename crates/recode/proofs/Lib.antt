@@ -22,3 +22,7 @@ pub mod LatencyLemmas
 pub mod TextLemmas
 pub mod ChunkLemmas
 pub mod LoadLemmas
+pub mod TurnLemmas
+pub mod ConvertLemmas
+pub mod ShellLemmas
+pub mod ConverterLemmas

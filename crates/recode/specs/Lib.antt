@@ -8,6 +8,7 @@ pub mod State
 pub mod Job
 pub mod Step
 pub mod Session
+pub mod Converter
 pub mod ReadBackJobs
 pub mod Runs
 pub mod Latency

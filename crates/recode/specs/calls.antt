@@ -3,7 +3,6 @@ pub mod Buffers
 pub mod Character
 pub mod Chunk
 pub mod CodecCalls
-pub mod EngineState
 pub mod Held
 pub mod Lent
 pub mod PivotText
@@ -14,3 +13,6 @@ pub mod TraceToWrite
 pub mod Verdict
 pub mod VerdictView
 pub mod Writers
+pub mod Turns
+pub mod EngineView
+pub mod ConverterView

@@ -1,6 +1,6 @@
 //! The calls of codecs over text in a pivot, and that text: what form it has is known here alone.
 
-ghost use Rattle.std.specs.Prelude.{◌≡◌, ◌↔◌, ℕ, ◌++◌, ◌+◌, ◌-◌, IsTrue, List, MatchOption, []};
+ghost use Rattle.std.specs.Prelude.{◌≤◌, ◌≡◌, ◌↔◌, ℕ, ◌++◌, ◌+◌, ◌-◌, IsTrue, List, MatchOption, [], ◌∷◌};
 ghost use Rattle.std.specs.Prelude.{count_by, drop, encode_utf8_all, false, length, take, true};
 ghost use Rattle.std.specs.Str.{all_scalars, chars};
 ghost use Rattle.encoding_mem.specs.calls.Decoding.{StateLaw};
@@ -12,6 +12,8 @@ ghost use Rattle.recode.specs.calls.Buffers.{HoldsAnyCharacter, KeepsRoom, is_wi
 ghost use Rattle.recode.specs.calls.Character.{begins_character};
 ghost use Rattle.recode.specs.calls.CodecCalls.{DecodeCallEndsWith};
 ghost use Rattle.recode.specs.Work.{IsCounted};
+ghost use Rattle.recode.specs.calls.EngineView.{HoldsBetween, chars_between};
+ghost use Rattle.recode.specs.calls.PivotText.{element_count};
 ghost use Rattle.recode.specs.calls.PivotText.{BeginsWith, Holds, HoldsText, IsCutInto};
 ghost use Rattle.recode.specs.calls.PivotText.{IsLeftBehind, IsWholeText, is_in_units, pivot_chars};
 
@@ -40,6 +42,16 @@ impl<'p> PivotText<'p> {
         match self {
             PivotText::Utf8(text) => text.is_empty(),
             PivotText::Utf16(units) => units.is_empty(),
+        }
+    }
+
+    /// How many bytes or units it has.
+    pub fn len(self) -> usize
+        ensures { result ≡ element_count self.entry }
+    {
+        match self {
+            PivotText::Utf8(text) => text.len(),
+            PivotText::Utf16(units) => units.len(),
         }
     }
 
@@ -83,6 +95,56 @@ pub fn text_in<'p>(pivot: &'p Pivot<'_>, len: usize) -> PivotText<'p>
     }
 }
 
+/// The text in a pivot between two places.
+pub fn text_between<'p>(pivot: &'p Pivot<'_>, from: usize, to: usize) -> PivotText<'p>
+    requires { HoldsBetween pivot.now from to }
+    ensures chars { pivot_chars result ≡ chars_between pivot.now from to }
+    ensures text { IsWholeText result }
+    ensures form { is_in_units result ≡ is_wide pivot.now }
+    ensures len { element_count result ≡ to - from }
+{
+    match pivot {
+        // A decoder wrote text, and an encoder reads whole characters: no second check.
+        Pivot::Utf8(bytes) => {
+            PivotText::Utf8(unsafe { std::str::from_utf8_unchecked(&bytes[from..to]) })
+        }
+        Pivot::Utf16(units) => PivotText::Utf16(&units[from..to]),
+    }
+}
+
+// Writes U+FFFD to the start of these bytes. Returns how many it has.
+fn replace_in_bytes(dst: &mut [u8]) -> usize
+    requires { 4 ≤ length dst.old }
+    ensures { Adds dst.old 0 (encode_utf8_all (0xFFFD ∷ [])) dst.new result }
+{
+    let mut sink = Utf8Sink::new(dst);
+    sink.put('\u{FFFD}');
+    sink.written()
+}
+
+// Writes U+FFFD to the start of these units. Returns how many it has.
+fn replace_in_units(dst: &mut [u16]) -> usize
+    requires { 2 ≤ length dst.old }
+    ensures { Adds dst.old 0 (encode_utf16_all (0xFFFD ∷ [])) dst.new result }
+{
+    let mut sink = Utf16Sink::new(dst);
+    sink.put('\u{FFFD}');
+    sink.written()
+}
+
+/// Writes U+FFFD to the start of a pivot. Returns how many elements it has.
+pub fn write_replacement(pivot: &mut Pivot<'_>) -> usize
+    requires { HoldsAnyCharacter pivot.old }
+    ensures chars { chars_between pivot.new 0 result ≡ 0xFFFD ∷ [] }
+    ensures holds { HoldsBetween pivot.new 0 result }
+    ensures pivot { KeepsRoom pivot.old pivot.new }
+{
+    match pivot {
+        Pivot::Utf8(bytes) => replace_in_bytes(bytes),
+        Pivot::Utf16(units) => replace_in_units(units),
+    }
+}
+
 // Counts a call of a codec. The count stops at the greatest number.
 fn count_call(calls: &mut u64)
     ensures { IsCounted 1 1 calls.old calls.new }
@@ -98,18 +160,6 @@ pub struct DecodeCall {
     pub read: usize,
     /// The elements of the pivot that were written.
     pub written: usize,
-}
-
-impl DecodeCall {
-    ghost use Rattle.std.specs.Prelude.{◌≡◌};
-    ghost use Rattle.recode.specs.calls.CodecCalls.{reads_all};
-
-    /// Whether all bytes are read, and all that they give is written.
-    pub fn is_done(&self) -> bool
-        ensures { result ≡ reads_all self.now.answer }
-    {
-        matches!(self.answer, DecoderResult::InputEmpty)
-    }
 }
 
 // Decodes to UTF-8. Returns how the call ended, the bytes read and the elements written.
@@ -201,18 +251,6 @@ pub struct EncodeCall<'p> {
     pub read: PivotText<'p>,
     /// The text that was not read.
     pub rest: PivotText<'p>,
-}
-
-impl<'p> EncodeCall<'p> {
-    ghost use Rattle.std.specs.Prelude.{◌≡◌};
-    ghost use Rattle.recode.specs.calls.CodecCalls.{writes_all};
-
-    /// Whether all of the text is read, and all that it gives is written.
-    pub fn is_done(&self) -> bool
-        ensures { result ≡ writes_all self.now.answer }
-    {
-        matches!(self.answer, EncoderResult::InputEmpty)
-    }
 }
 
 /// One call of an encoder, which reads text of a pivot. It is counted: no encoder is called but

@@ -43,8 +43,10 @@
 //! false: the input ends in a lone surrogate.
 #![tactic(auto)]
 
+mod chunk;
 mod codec_calls;
 pub mod conversion;
+mod converter;
 mod engine;
 mod entry;
 mod indexes;

@@ -1,25 +1,24 @@
 //! A conversion step by step, and a run, which is the loop over its steps.
 
-ghost use Rattle.std.specs.Prelude.{◌≡◌, ◌≤◌, ◌<◌, ◌^◌, ◌-◌, ◌↔◌, ◌==◌, IsTrue, IsSome, IfOk};
+ghost use Rattle.std.specs.Prelude.{◌≡◌, ◌≤◌, ◌<◌, ◌^◌, ◌-◌, ◌↔◌, ◌==◌, IsTrue, IsSome, IfOk, None};
 ghost use Rattle.std.specs.Prelude.{IfErr, IfSome, true, false};
 ghost use Rattle.std.specs.Io.KnownBytes.{IsAtEnd};
 ghost use Rattle.recode_log.specs.Counted.{failures_of, inner_of};
 ghost use Rattle.recode.specs.Job.{IsValidJob};
 ghost use Rattle.recode.specs.calls.Buffers.{AreEnough, KeepSizes};
 ghost use Rattle.recode.specs.calls.Chunk.{CanConvert};
-ghost use Rattle.recode.specs.calls.EngineState.{engine_state};
+ghost use Rattle.recode.specs.calls.EngineView.{engine_state};
 ghost use Rattle.recode.specs.Session.{View, IsOver, IsNewSession, IsStepped, Tells, Completes};
 ghost use Rattle.recode.specs.Session.{Fails};
 ghost use Rattle.recode.specs.declared.session.Phase.TheVariants.{Open};
 ghost use Rattle.recode.specs.Step.{Finishes, Stops, StepsOn};
 ghost use Rattle.recode.specs.Devices.{CountsFault, devices_in};
 
+use crate::chunk::write_chunk;
 use crate::engine::Engine;
 use crate::job::{Buffers, Fault, Job, Pivot, Progress, Report};
-use crate::target::{Counts, Target};
-use crate::verdict::Verdict;
 use crate::writers::Writers;
-use encoding_front::{Decoder, Mark, StreamDecoder, VariantEncoder};
+use encoding_front::{Decoder, StreamDecoder, VariantEncoder};
 use encoding_mem::RawEncoder;
 use recode_log::counted::Counted;
 use std::io::{Read, Write};
@@ -51,7 +50,8 @@ pub struct Session<'t> {
     ghost ready: { phase ≡ Open → CanConvert (engine_state
         ⟦<Decoder<'static> as StreamDecoder>⟧.view
         ⟦<VariantEncoder<'static> as RawEncoder>⟧.parts job.policy engine) },
-    ghost within: { phase ≡ Open → engine.target.counts.read ≤ job.limit },
+    ghost rests: { phase ≡ Open → engine.answer ≡ None },
+    ghost within: { phase ≡ Open → engine.counts.read ≤ job.limit },
 }
 
 impl<'t> Viewed for Session<'t> {
@@ -73,24 +73,7 @@ impl<'t> Session<'t> {
         ensures { IsNewSession (view_of result) job.entry }
     {
         Session {
-            engine: Engine {
-                decoder: Decoder::new(job.from, job.mark, job.tables),
-                target: Target {
-                    encoder: VariantEncoder::new(job.to, job.tables),
-                    verdict: Verdict {
-                        reader: Decoder::new(job.to.output_encoding(), Mark::Keep, job.tables),
-                        by_log: job.to.keeps_characters(),
-                        faithful: true,
-                    },
-                    counts: Counts {
-                        read: 0,
-                        index: 0,
-                        bad: 0,
-                        lost: 0,
-                        calls: 0,
-                    },
-                },
-            },
+            engine: Engine::new(job),
             job,
             phase: Phase::Open,
         }
@@ -121,14 +104,14 @@ impl<'t> Session<'t> {
     fn totals(&self) -> Report
         ensures { Tells (view_of self.now) result }
     {
-        let counts = self.engine.target.counts;
+        let counts = self.engine.counts;
         Report {
             read: counts.read,
             bad: counts.bad,
             lost: counts.lost,
             calls: counts.calls,
             encoding: self.engine.decoder.encoding(),
-            faithful: self.engine.target.verdict.faithful,
+            faithful: self.engine.verdict.faithful,
         }
     }
 
@@ -186,7 +169,7 @@ impl<'t> Session<'t> {
         let Ok(read) = reader.read(buffers.input) else {
             return Err(Fault::Read);
         };
-        if read as u64 > self.job.limit - self.engine.target.counts.read {
+        if read as u64 > self.job.limit - self.engine.counts.read {
             return Err(Fault::TooLong);
         }
         let mut writers = Writers {
@@ -198,7 +181,8 @@ impl<'t> Session<'t> {
             policy: self.job.policy,
         };
         // Lent as `&mut`, since the borrow checker refuses `&` beside the other buffers.
-        self.engine.decode_chunk(
+        write_chunk(
+            &mut self.engine,
             &mut writers,
             &mut buffers.input[..read],
             &mut buffers.pivot,

@@ -4,9 +4,10 @@ ghost use Rattle.std.specs.Prelude.{◌≡◌, ◌≤◌, take};
 ghost use Rattle.recode.specs.calls.Held.{held_line_bytes};
 ghost use Rattle.recode.specs.calls.Writers.{HasValidLine};
 
-use crate::codec_calls::{EncodeCall, PivotText, encode_from_pivot};
-use crate::job::{Fault, Policy};
-use encoding_front::{Reference, write_reference};
+use crate::converter::ConverterResult;
+use crate::engine::Engine;
+use crate::job::{Fault, Pivot, Policy};
+use encoding_front::{Reference, StreamDecoder, write_reference};
 use encoding_mem::RawEncoder;
 use encoding_mem::encode::put_all;
 use recode_log::counted::Counted;
@@ -57,6 +58,17 @@ impl<'w, W: Write, L: Write> Writers<'w, W, L> {
     ghost use Rattle.recode.specs.calls.PivotText.{IsCutInto, IsWholeText, pivot_chars};
     ghost use Rattle.recode.specs.calls.Writers.{AreReady, AreTheSame, CountsWriterFault};
     ghost use Rattle.recode.specs.calls.Writers.{HoldNothing, last_held, writers_view};
+    ghost use Rattle.std.specs.Prelude.{◌*◌, ◌^◌, drop};
+    ghost use Rattle.recode_log.specs.declared.line.LogLine.TheVariants.{Lost};
+    ghost use Rattle.recode.specs.Policy.{reference_form};
+    ghost use Rattle.recode.specs.WrittenItems.{IsSpared};
+    ghost use Rattle.recode.specs.calls.Buffers.{KeepsRoom};
+    ghost use Rattle.recode.specs.calls.EngineView.{HoldsBetween, standing};
+    ghost use Rattle.recode.specs.calls.Lent.{AreLent};
+    ghost use Rattle.recode.specs.calls.Turns.{CanGoOn, ConvertEndsWith, Turns, end_count};
+    ghost use Rattle.recode.specs.Converter.{found_items};
+    ghost use Rattle.recode.specs.declared.converter.ConverterResult.{ConverterResult};
+    ghost use Rattle.recode.specs.declared.job.Policy.{Policy};
 
     // Delivers the line that is held, if there is one, all of it or a prefix.
     fn deliver_line(&mut self) -> Result<(), Fault>
@@ -112,46 +124,90 @@ impl<'w, W: Write, L: Write> Writers<'w, W, L> {
         }
     }
 
-    /// One call of an encoder, which writes after the bytes that are held: what it writes is held,
+    /// One call of the engine, which writes after the bytes that are held: what it writes is held,
     /// too.
-    pub fn encode<'p, E: RawEncoder>(
+    pub fn convert<D: StreamDecoder, E: RawEncoder>(
         &mut self,
-        encoder: &mut E,
-        text: PivotText<'p>,
+        engine: &mut Engine<D, E>,
+        src: &[u8],
+        pivot: &mut Pivot<'_>,
+        check: &mut Pivot<'_>,
         last: bool,
-        calls: &mut u64,
-    ) -> EncodeCall<'p>
-        requires ready { AreReady self.old }
-        ensures passed { result.characters + length (pivot_chars result.rest)
-            ≡ length (pivot_chars text.entry) }
-        ensures parts { IsWholeText text.entry → IsCutInto text.entry result.read result.rest }
-        ensures room { result.written ≤ length self.new.buffer.now - self.old.held }
-        ensures held { self.new.held ≡ self.old.held + result.written }
+    ) -> (ConverterResult, usize, usize)
+        requires writers { AreReady self.old }
+        requires ready { CanGoOn
+            (standing D.view E.parts Policy.Decimal engine.old pivot.old) src.now last }
+        requires holds { HoldsBetween pivot.old engine.old.from engine.old.to }
+        requires lent { AreLent pivot.old check.old }
+        ensures law { (p : Policy) → Turns (standing D.view E.parts p engine.old pivot.old)
+            (standing D.view E.parts p engine.new pivot.new) last src.now
+            (drop result.1 src.now) (map Byte (last_held self.new result.2)
+            ++ found_items (reference_form p) result.0)
+            (3 * end_count result.0) (2 * end_count result.0) }
+        ensures ends { (p : Policy) → ConvertEndsWith
+            (standing D.view E.parts p engine.new pivot.new)
+            (drop result.1 src.now) last (length self.new.buffer.now - self.new.held) result.0 }
         ensures bytes { PassesBytes (writers_view W.contents L.contents self.old)
-            (writers_view W.contents L.contents self.new)
-            (last_held self.new result.written) }
-        ensures call { EncoderCall (E.parts encoder.old) (E.parts encoder.new) last result.answer
-            (pivot_chars text.entry) (last_held self.new result.written)
-            (pivot_chars result.rest) (length self.new.buffer.now - self.new.held) }
-        ensures calls { IsCounted 1 1 calls.old calls.new }
+            (writers_view W.contents L.contents self.new) (last_held self.new result.2) }
+        ensures held { self.new.held ≡ self.old.held + result.2 }
+        ensures count { length (last_held self.new result.2) ≡ result.2 }
+        ensures within { result.1 ≤ length src.now }
+        ensures hold { HoldsBetween pivot.new engine.new.from engine.new.to }
         ensures output { self.new.output ≡ self.old.output }
         ensures log { self.new.log ≡ self.old.log }
         ensures same { AreTheSame self.old self.new }
+        ensures pivot { KeepsRoom pivot.old pivot.new }
+        ensures check { KeepsRoom check.old check.new }
     {
         let held = self.held;
         let room = &mut self.buffer[held..];
-        let call = encode_from_pivot(encoder, text, room, last, calls);
-        self.held += call.written;
-        call
+        let (result, read, written) = engine.convert(src, room, pivot, check, last);
+        self.held += written;
+        (result, read, written)
     }
 
-    /// The bytes that are held last, so many of them.
-    pub fn last_held(&self, count: usize) -> &[u8]
-        requires held { count ≤ self.now.held }
-        requires within { self.now.held ≤ length self.now.buffer.now }
-        ensures { result.now ≡ last_held self.now count }
+    /// Logs a lost character, and holds its reference, or stops.
+    pub fn log_lost(&mut self, index: u64, scalar: char) -> Result<(), Fault>
+        requires valid { index ≤ 2 ^ 48 }
+        requires ready { AreReady self.old }
+        ensures ok { OnOk result (Passes (writers_view W.contents L.contents self.old)
+            (writers_view W.contents L.contents self.new)
+            (found_items (reference_form self.old.policy)
+            (ConverterResult.Found (Lost index scalar)))) }
+        ensures spared { OnOk result (¬ (self.old.policy ≡ Policy.Stop)) }
+        ensures err { IfErr result (λ f. (to_write : List Item) → LeavesPrefix
+            (writers_view W.contents L.contents self.old)
+            (writers_view W.contents L.contents self.new) self.old.policy f
+            (found_items (reference_form self.old.policy)
+            (ConverterResult.Found (Lost index scalar)) ++ to_write)) }
+        ensures failures { CountsWriterFault self.old self.new result }
     {
-        &self.buffer[self.held - count..self.held]
+        self.log_line(LogLine::Lost { index, scalar })?;
+        let form = self.policy.reference_at(index, scalar)?;
+        self.put_reference(scalar, form)
+    }
+
+    /// Takes what the engine found: the line of a malformed sequence is held, a lost character is
+    /// logged.
+    pub fn take_found(&mut self, line: LogLine) -> Result<(), Fault>
+        requires valid { IsValid line }
+        requires ready { AreReady self.old }
+        ensures ok { OnOk result (Passes (writers_view W.contents L.contents self.old)
+            (writers_view W.contents L.contents self.new)
+            (found_items (reference_form self.old.policy) (ConverterResult.Found line))) }
+        ensures spared { OnOk result (IsSpared self.old.policy
+            (found_items (reference_form self.old.policy) (ConverterResult.Found line))) }
+        ensures err { IfErr result (λ f. (to_write : List Item) → LeavesPrefix
+            (writers_view W.contents L.contents self.old)
+            (writers_view W.contents L.contents self.new) self.old.policy f
+            (found_items (reference_form self.old.policy) (ConverterResult.Found line)
+            ++ to_write)) }
+        ensures failures { CountsWriterFault self.old self.new result }
+    {
+        match line {
+            LogLine::Bad { offset, length } => self.hold_line(MalformedLine { offset, length }),
+            LogLine::Lost { index, scalar } => self.log_lost(index, scalar),
+        }
     }
 
     // Delivers what is held if there are bytes among it, so that no more than a line is held.

@@ -1,12 +1,12 @@
 -- What the calls for a chunk of the input do.
-use Rattle.std.specs.Prelude.{◌≡◌, ◌↔◌, IsTrue, ℕ, ◌+◌, ◌-◌, ◌*◌, ◌<◌, ◌≤◌, List, [], ◌++◌, drop, length, Bool, true, false}
+use Rattle.std.specs.Prelude.{◌≡◌, ◌↔◌, IsTrue, ℕ, ◌+◌, ◌-◌, ◌*◌, List, [], ◌++◌, length, Bool, true, false}
 use Rattle.recode.specs.State.{State, WillBeFaithful, to_write}
 use Rattle.recode.specs.Step.{Advances, IsNearlyDecided}
 use Rattle.recode.specs.Devices.{Written}
 use Rattle.recode.specs.calls.Held.{PassesItemsFor, WritersView, holding_none}
 use Rattle.recode.specs.calls.TraceToWrite.{AreSound}
 use Rattle.recode.specs.calls.Verdict.{CanTell}
-use Rattle.recode.specs.Work.{TakesAtLeast, TakesCalls, ended_count}
+use Rattle.recode.specs.Work.{TakesAtLeast, TakesCalls}
 
 -- More bytes can be converted.
 pub record CanConvert (s : State) : Type 0 where
@@ -37,13 +37,6 @@ pub record IsDoneWith (s : State) (last : Bool) : Type 0 where
   pub ready : last ≡ false → CanConvert s
   pub end : last ≡ true → to_write s [] ≡ []
   pub told : last ≡ true → WillBeFaithful s [] ↔ IsTrue s.verdict.faithful
-
--- One call of the decoder, and all that follows from it.
-pub record DecodesPart (before after : WritersView) (s s' : State) (chunk : List ℕ) (last : Bool) (read : ℕ) (is_done : Bool) : Type 0 where
-  pub within : read ≤ length chunk
-  pub converts : ConvertsTo before after s s' last chunk (drop read chunk) (ended_count is_done)
-  pub more : is_done ≡ false → CanConvert s' × (length (s'.decoder.pieces (drop read chunk)) < length (s.decoder.pieces chunk))
-  pub done : is_done ≡ true → (drop read chunk ≡ []) × IsDoneWith s' last
 
 -- All calls for a chunk: nothing is held before or after.
 pub record DecodesChunk (before after : Written) (s s' : State) (chunk : List ℕ) (last : Bool) : Type 0 where

@@ -18,6 +18,11 @@ abbrev pub is_in_units : PivotText → Bool
 is_in_units (Utf8 text) = false
 is_in_units (Utf16 units) = true
 
+-- how many bytes or units a text has
+abbrev pub element_count : PivotText → ℕ
+element_count (Utf8 text) = length text.now
+element_count (Utf16 units) = length units.now
+
 -- the text's bytes or units are these characters, encoded: no surrogate stands alone
 abbrev pub Spells : PivotText → List ℕ → Type 0
 Spells (Utf8 text) t = text.now ≡ encode_utf8_all t

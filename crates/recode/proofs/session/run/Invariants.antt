@@ -21,4 +21,4 @@ invariant-run g l = record {
 }
 
 abbrev pub decreases-run : goal.decreases-run
-decreases-run g l = l.job.limit - l.session.engine.target.counts.read
+decreases-run g l = l.job.limit - l.session.engine.counts.read

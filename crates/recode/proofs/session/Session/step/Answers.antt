@@ -12,19 +12,19 @@ pub returns-then-read-self-clause-fault : goal.returns-then-read-self-clause-fau
 returns-then-read-self-clause-fault g c = stops_refused _ _ _ _ _ _ _ _ c.in-Ok.ensures.bytes.0 (search rules)
     (omega (arith, c.in-Ok.ensures.bound.1, c.if-read-self.true))
 
-pub returns-in_err-decode_chunk-clause-fault : goal.returns-in_err-decode_chunk-clause-fault
-returns-in_err-decode_chunk-clause-fault g c =
-    let within : c.args.self.now.engine.target.counts.read ≤ c.args.self.now.job.limit = search rules in
+pub returns-in_err-write_chunk-clause-fault : goal.returns-in_err-write_chunk-clause-fault
+returns-in_err-write_chunk-clause-fault g c =
+    let within : c.args.self.now.engine.counts.read ≤ c.args.self.now.job.limit = search rules in
     handed_on _ _ _ c.from_residual.ensures.1 (stops_under _ _ _ _ _ _ _
     c.in-Ok.ensures.bytes.0
     (λ h. c.in-Ok.ensures.bytes.1 (c.in-Ok.ensures.bound.1 ∙ eqb-true _ 0 h) (omega (arith, c.read.auto.buf, c.requires.buffers.input)))
-    (is_writing (Unit {0}) _ c.in_err-decode_chunk.ensures.failures.not_other)
+    (is_writing (Unit {0}) _ c.in_err-write_chunk.ensures.failures.not_other)
     (omega (arith, c.in-Ok.ensures.bound.1, c.if-read-self.false, within))
     (search rules))
 
 pub returns-else-read-eq0-clause-more : goal.returns-else-read-eq0-clause-more
 returns-else-read-eq0-clause-more g c e =
-    let k = c.in_ok-decode_chunk.ensures in
+    let k = c.in_ok-write_chunk.ensures in
     let on = ne_eqb (length (take c.in-Ok.read c.read.new.buf)) 0 (omega (arith, c.in-Ok.ensures.bound.1, c.if-read-eq0.false)) in
     steps_on _ _ _ _ _ _ _ c.in-Ok.ensures.bytes.0 (omega (arith, c.in-Ok.ensures.bound.1, c.if-read-eq0.false))
     (omega (arith, k.chunk.converts.counted, c.in-Ok.ensures.bound.1, c.if-read-self.false)) (search rules) on (search rules)

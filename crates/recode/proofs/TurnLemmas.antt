@@ -1,0 +1,392 @@
+-- How turns of an engine add up, and what each is.
+use Rattle.std.proofs.Common.{◌≡◌, ◌↔◌, inl, inr, ℕ, ◌+◌, ◌-◌, ◌*◌, ◌≤◌, Bool, true, false, IsTrue, List, [], ◌∷◌, ◌++◌, length, drop, None, Some, refl, sym, ◌∙◌, ap, subst, arith, append_assoc, append-nil, length-append, length-drop}
+use Rattle.std.proofs.lemmas.Bool.{false≢true}
+use Rattle.encoding_front.specs.declared.encoding.Encoding.{Encoding}
+use Rattle.encoding_mem.specs.Coding.{Coding, last_set}
+use Rattle.encoding_mem.specs.Items.{Item, MalformedAt, open_items, trace_from, whole_items}
+use Rattle.encoding_mem.specs.Piece.{AreWellFormed, Piece, malformed, malformed_count, scalars, sizes, text, well_formed}
+use Rattle.encoding_mem.specs.calls.Decoding.{DecoderState}
+use Rattle.encoding_mem.specs.calls.ReadCalls.{ReadsWhole}
+use Rattle.encoding_mem.specs.declared.decoder_result.DecoderResult.{DecoderResult}
+use Rattle.encoding_mem.specs.declared.decoder_result.DecoderResult.TheVariants.{InputEmpty, Malformed, OutputFull}
+use Rattle.encoding_mem.specs.declared.form.EscapeState.{EscapeState}
+use Rattle.encoding_mem.specs.declared.reference.Reference.{Reference}
+use Rattle.encoding_mem.specs.laws.EncoderCalls.{last_set-append}
+use Rattle.encoding_mem.specs.laws.Piece.{sizes-append, text-append}
+use Rattle.recode.specs.Policy.{reference_form}
+use Rattle.recode.specs.State.{State}
+use Rattle.recode.specs.Work.{IsCounted}
+use Rattle.recode.specs.calls.Text.{TargetState, text_items}
+use Rattle.recode.specs.calls.Turns.{AreCountedSoundly, EncodesTurn, Standing, Turns, WillBeKept, due, owed, reported, spare, text_pieces, waiting}
+use Rattle.recode.specs.calls.Verdict.{IsFaithfulFor, VerdictIsKept, VerdictView, to_read}
+use Rattle.recode.specs.declared.target.Counts.{Counts}
+use Rattle.recode.proofs.DecoderCallLemmas.{trace_well_formed}
+use Rattle.recode.proofs.TraceLemmas.{AreCounted-trans}
+use Rattle.recode.proofs.VerdictLemmas.{both_ways, true_or_false}
+
+-- ---- text as pieces
+
+pub text_pieces_fine : (t : List ℕ) → AreWellFormed (text_pieces t)
+text_pieces_fine [] = tt
+text_pieces_fine (c ∷ t) = (tt, text_pieces_fine t)
+
+pub text_pieces_scalars : (t : List ℕ) → scalars (text_pieces t) ≡ t
+text_pieces_scalars [] = refl
+text_pieces_scalars (c ∷ t) = ap (λ x. c ∷ x) (text_pieces_scalars t)
+
+pub text_pieces_text : (t : List ℕ) → text (text_pieces t) ≡ t
+text_pieces_text [] = refl
+text_pieces_text (c ∷ t) = ap (λ x. c ∷ x) (text_pieces_text t)
+
+pub text_pieces_size : (t : List ℕ) → sizes (text_pieces t) ≡ length t
+text_pieces_size [] = refl
+text_pieces_size (c ∷ t) = omega (arith, text_pieces_size t)
+
+-- what waits
+pub waiting_text : (t : List ℕ) (ps : List Piece) → text (text_pieces t ++ ps) ≡ t ++ text ps
+waiting_text t ps = text-append (text_pieces t) ps ∙ ap (λ x. x ++ text ps) (text_pieces_text t)
+
+pub waiting_size : (t : List ℕ) (ps : List Piece) → sizes (text_pieces t ++ ps) ≡ length t + sizes ps
+waiting_size t ps = omega (arith, sizes-append (text_pieces t) ps, text_pieces_size t)
+
+pub waiting_count : (t : List ℕ) (ps : List Piece) → length (text (text_pieces t ++ ps)) ≡ length t + length (text ps)
+waiting_count t ps = omega (arith, ap length (waiting_text t ps), length-append t (text ps))
+
+pub waiting_bad : (t : List ℕ) (ps : List Piece) → malformed_count (text_pieces t ++ ps) ≡ malformed_count ps
+waiting_bad [] ps = refl
+waiting_bad (c ∷ t) ps = waiting_bad t ps
+
+waiting_fine : (t : List ℕ) (ps : List Piece) → AreWellFormed (text_pieces t ++ ps) ↔ AreWellFormed ps
+waiting_fine [] ps = (λ h. h, λ h. h)
+waiting_fine (c ∷ t) ps = let more = waiting_fine t ps in (λ h. more.0 h.1, λ h. (tt, more.1 h))
+
+fine_before : (ps qs : List Piece) → AreWellFormed ps → AreWellFormed (ps ++ qs) ↔ AreWellFormed qs
+fine_before [] qs h = (λ h. h, λ h. h)
+fine_before (p ∷ ps) qs h = let more = fine_before ps qs h.1 in (λ k. more.0 k.1, λ k. (h.0, more.1 k))
+
+fine_text : (ps : List Piece) → AreWellFormed ps → text ps ≡ scalars ps
+fine_text [] h = refl
+fine_text (well_formed n cs ∷ ps) h = ap (λ x. cs ++ x) (fine_text ps h.1)
+fine_text (malformed n ∷ ps) h = absurd h.0
+
+-- ---- traces
+
+-- of pieces with the same text
+swap_trace : (ref : Reference) (e : Coding) (s : EscapeState) (o o' i : ℕ) (ps qs tail : List Piece) → AreWellFormed ps → AreWellFormed qs → scalars ps ≡ scalars qs → o + sizes ps ≡ o' + sizes qs
+    → trace_from ref e s o i (ps ++ tail) ≡ trace_from ref e s o' i (qs ++ tail)
+swap_trace ref e s o o' i ps qs tail f g same at =
+    trace_well_formed ref e s o i ps tail f
+    ∙ ap (λ (t : List ℕ). open_items ref e s i t ++ trace_from ref e (last_set e s t) (o + sizes ps) (i + length t) tail) same
+    ∙ ap (λ (n : ℕ). open_items ref e s i (scalars qs) ++ trace_from ref e (last_set e s (scalars qs)) n (i + length (scalars qs)) tail) at
+    ∙ sym (trace_well_formed ref e s o' i qs tail g)
+
+-- of text that waits
+pub front_trace : (ref : Reference) (e : Coding) (s : EscapeState) (o i : ℕ) (t : List ℕ) (tail : List Piece)
+    → trace_from ref e s o i (text_pieces t ++ tail) ≡ open_items ref e s i t ++ trace_from ref e (last_set e s t) (o + length t) (i + length t) tail
+front_trace ref e s o i t tail =
+    trace_well_formed ref e s o i (text_pieces t) tail (text_pieces_fine t)
+    ∙ ap (λ (x : List ℕ). open_items ref e s i x ++ trace_from ref e (last_set e s x) (o + sizes (text_pieces t)) (i + length x) tail) (text_pieces_scalars t)
+    ∙ ap (λ (n : ℕ). open_items ref e s i t ++ trace_from ref e (last_set e s t) (o + n) (i + length t) tail) (text_pieces_size t)
+
+same_faithful : (ref : Reference) (v : VerdictView) (e : Coding) (s : EscapeState) (ps qs : List Piece) → AreWellFormed ps ↔ AreWellFormed qs → text ps ≡ text qs → IsFaithfulFor ref v e s ps ↔ IsFaithfulFor ref v e s qs
+same_faithful ref v e s ps qs fine same = (
+  λ h. (h.0, fine.0 h.1, subst (ReadsWhole ref e (to_read v) s) same h.2),
+  λ h. (h.0, fine.1 h.1, subst (ReadsWhole ref e (to_read v) s) (sym same) h.2),
+)
+
+-- ---- turns in a row
+
+pub turns_start : (c : Standing) (last : Bool) (bytes : List ℕ) → AreCountedSoundly c → Turns c c last bytes bytes [] 0 0
+turns_start c last bytes sound = record {
+  counted = refl;
+  target = refl;
+  policy = refl;
+  sound = sound;
+  lines = record { bad = omega arith; lost = omega arith };
+  source = λ r h. refl;
+  owes = λ r h. refl;
+  verdict = λ r h. (λ x. x, λ x. x);
+  calls = λ r h. omega arith;
+  least_calls = λ under. omega arith;
+  grows = λ under. omega arith;
+  advances = λ on. record { taken = []; rest_is = λ r. refl; set = refl; index = omega arith };
+}
+
+pub turns_more : (c c1 c2 : Standing) (last : Bool) (x y z : List ℕ) (a b : List Item) (m n k l : ℕ) → Turns c c1 last x y a m k → Turns c1 c2 last y z b n l → Turns c c2 last x z (a ++ b) (m + n) (k + l)
+turns_more c c1 c2 last x y z a b m n k l p q = record {
+  counted = omega (arith, p.counted, q.counted);
+  target = q.target ∙ p.target;
+  policy = q.policy ∙ p.policy;
+  sound = q.sound;
+  lines = AreCounted-trans c.state.counts c1.state.counts c2.state.counts a b p.lines q.lines;
+  source = λ r h. p.source r h ∙ q.source r h;
+  owes = λ r h. p.owes r h ∙ ap (λ l. a ++ l) (q.owes r h) ∙ sym (append_assoc a b (owed c2 (z ++ r)));
+  verdict = λ r h. both_ways (p.verdict r h) (q.verdict r h);
+  calls = λ r h. omega (arith, p.calls r h, q.calls r h);
+  least_calls = λ under.
+      let later = q.least_calls under in
+      omega (arith, later, p.least_calls (omega (arith, under, q.grows under)));
+  grows = λ under. let later = q.grows under in omega (arith, later, p.grows (omega (arith, under, later)));
+  advances = λ on.
+      let f = p.advances on in
+      let g = q.advances on in
+      let e = c.state.coding in
+      record {
+        taken = f.taken ++ g.taken;
+        rest_is = λ r. f.rest_is r ∙ ap (λ l. f.taken ++ l) (g.rest_is r) ∙ sym (append_assoc f.taken g.taken (c2.state.decoder.pieces (z ++ r)));
+        set = subst (λ (e : Coding). last_set e c2.state.set (text (waiting c2)) ≡ last_set e (last_set e c1.state.set (text (waiting c1))) (text g.taken)) p.target g.set
+            ∙ ap (λ (s : EscapeState). last_set e s (text g.taken)) f.set
+            ∙ sym (last_set-append e (last_set e c.state.set (text (waiting c))) (text f.taken) (text g.taken))
+            ∙ ap (last_set e (last_set e c.state.set (text (waiting c)))) (sym (text-append f.taken g.taken));
+        index = omega (arith, f.index, g.index, ap length (text-append f.taken g.taken), length-append (text f.taken) (text g.taken));
+      };
+}
+
+-- ---- the decoder
+
+-- where a conversion stands after a call of the decoder
+abbrev pub decoded_state : State → DecoderState → Bool → (List ℕ → Encoding) → (read calls : ℕ) → State
+decoded_state s d finished source read calls = record s { decoder = d; finished = finished; source = source; counts = record s.counts { read = s.counts.read + read; calls = calls } }
+
+-- nothing waits
+abbrev pub nothing_waits : State → Standing
+nothing_waits s = record { state = s; answer = None; text = [] }
+
+-- what a call of the decoder took: pieces with this text, then what it reported
+pub record IsDecoded (before after : DecoderState) (src : List ℕ) (last : Bool) (read : ℕ) (answer : DecoderResult) (t : List ℕ) : Type 0 where
+  pub front : List Piece
+  pub fine : AreWellFormed front
+  pub text_is : t ≡ scalars front
+  pub within : read ≤ length src
+  pub fits : length t ≤ sizes front
+  pub counted : before.pending + read ≡ sizes front + sizes (reported (Some answer)) + after.pending
+  pub rest : (r : List ℕ) → (last ≡ true → r ≡ []) → before.pieces (src ++ r) ≡ front ++ (reported (Some answer) ++ after.pieces (drop read src ++ r))
+  pub spared : spare (Some answer) ≤ 3 * (length t + length (text (reported (Some answer))))
+  pub owing : 3 * malformed_count (reported (Some answer)) ≤ due (Some answer)
+
+module _ (s : State) (d : DecoderState) (finished : Bool) (source : List ℕ → Encoding) (src : List ℕ) (last : Bool) (read calls : ℕ) (answer : DecoderResult) (t : List ℕ)
+    (sound : AreCountedSoundly (nothing_waits s)) (k : IsDecoded s.decoder d src last read answer t) (one : IsCounted 1 1 s.counts.calls calls)
+    (same_source : (r : List ℕ) → (last ≡ true → r ≡ []) → s.source (src ++ r) ≡ source (drop read src ++ r)) where
+  turn_owes : (r : List ℕ) → (last ≡ true → r ≡ []) → owed (nothing_waits s) (src ++ r) ≡ owed (record { state = decoded_state s d finished source read calls; answer = Some answer; text = t }) (drop read src ++ r)
+  turn_owes r h =
+      let tail = reported (Some answer) ++ d.pieces (drop read src ++ r) in
+      let o = s.counts.read - (0 + s.decoder.pending) in
+      let o' = s.counts.read + read - (sizes (text_pieces t ++ reported (Some answer)) + d.pending) in
+      ap (trace_from (reference_form s.policy) s.coding s.set o s.counts.index) (k.rest r h)
+      ∙ swap_trace (reference_form s.policy) s.coding s.set o o' s.counts.index k.front (text_pieces t) tail k.fine (text_pieces_fine t) (sym k.text_is ∙ sym (text_pieces_scalars t))
+      (omega (arith, sound.index, k.counted, k.fits, waiting_size t (reported (Some answer)), text_pieces_size t))
+      ∙ ap (trace_from (reference_form s.policy) s.coding s.set o' s.counts.index) (sym (append_assoc (text_pieces t) (reported (Some answer)) (d.pieces (drop read src ++ r))))
+
+  turn_verdict : (r : List ℕ) → (last ≡ true → r ≡ []) → WillBeKept (nothing_waits s) (src ++ r) ↔ WillBeKept (record { state = decoded_state s d finished source read calls; answer = Some answer; text = t }) (drop read src ++ r)
+  turn_verdict r h =
+      let tail = reported (Some answer) ++ d.pieces (drop read src ++ r) in
+      let now = append_assoc (text_pieces t) (reported (Some answer)) (d.pieces (drop read src ++ r)) in
+      same_faithful (reference_form s.policy) s.verdict s.coding s.set (s.decoder.pieces (src ++ r)) ((text_pieces t ++ reported (Some answer)) ++ d.pieces (drop read src ++ r))
+      (subst (λ ps. AreWellFormed ps ↔ AreWellFormed ((text_pieces t ++ reported (Some answer)) ++ d.pieces (drop read src ++ r))) (sym (k.rest r h))
+      (subst (λ ps. AreWellFormed (k.front ++ tail) ↔ AreWellFormed ps) (sym now)
+      (both_ways (fine_before k.front tail k.fine) (let w = waiting_fine t tail in (w.1, w.0)))))
+      (ap text (k.rest r h) ∙ text-append k.front tail ∙ ap (λ x. x ++ text tail) (fine_text k.front k.fine ∙ sym k.text_is) ∙ sym (waiting_text t tail) ∙ ap text (sym now))
+
+  pub decode_turn : Turns (nothing_waits s) (record { state = decoded_state s d finished source read calls; answer = Some answer; text = t }) last src (drop read src) [] 0 0
+  decode_turn = record {
+    counted = omega (arith, length-drop read src, k.within);
+    target = refl;
+    policy = refl;
+    sound = record {
+      index = omega (arith, sound.index, k.counted, k.fits, waiting_size t (reported (Some answer)));
+      bad = omega (arith, sound.bad);
+      lost = sound.lost;
+    };
+    lines = record { bad = omega arith; lost = omega arith };
+    source = same_source;
+    owes = turn_owes;
+    verdict = turn_verdict;
+    calls = λ r h. omega (arith, one.at_most, k.spared, waiting_count t (reported (Some answer)), ap length (turn_owes r h));
+    grows = λ under. omega (arith, one.at_least under);
+    least_calls = λ under. omega (arith, one.at_least under, k.owing, waiting_bad t (reported (Some answer)));
+    advances = λ on. record {
+      taken = k.front ++ reported (Some answer);
+      rest_is = λ r. k.rest r (λ last_one. absurd (false≢true (sym on ∙ last_one))) ∙ sym (append_assoc k.front (reported (Some answer)) (d.pieces (drop read src ++ r)));
+      set = ap (last_set s.coding s.set) (waiting_text t (reported (Some answer)) ∙ ap (λ x. x ++ text (reported (Some answer))) (k.text_is ∙ sym (fine_text k.front k.fine)) ∙ sym (text-append k.front (reported (Some answer))));
+      index = omega (arith, waiting_count t (reported (Some answer)), ap length (text-append k.front (reported (Some answer))), length-append (text k.front) (text (reported (Some answer))), ap length (k.text_is ∙ sym (fine_text k.front k.fine)));
+    };
+  }
+
+-- ---- the encoder
+
+abbrev pub encoded_state : State → TargetState → State
+encoded_state s t = record s { set = t.set; verdict = t.verdict; counts = t.counts }
+
+abbrev pub target_of_state : State → TargetState
+target_of_state s = record { coding = s.coding; set = s.set; policy = s.policy; verdict = s.verdict; counts = s.counts }
+
+front_faithful : (ref : Reference) (e : Coding) (last : Bool) (v v' : VerdictView) (s s' : EscapeState) (t rest : List ℕ) (tail : List Piece) → VerdictIsKept e last v s t v' s' rest → (IsTrue last → text tail ≡ [])
+    → IsFaithfulFor ref v e s (text_pieces t ++ tail) ↔ IsFaithfulFor ref v' e s' (text_pieces rest ++ tail)
+front_faithful ref e last v v' s s' t rest tail keeps ends =
+    let both = keeps ref (text tail) ends in
+    let fine = waiting_fine t tail in
+    let fine' = waiting_fine rest tail in (
+      λ h.
+          let on = both.0 (h.0, subst (ReadsWhole ref e (to_read v) s) (waiting_text t tail) h.2) in
+          (on.0, fine'.1 (fine.0 h.1), subst (ReadsWhole ref e (to_read v') s') (sym (waiting_text rest tail)) on.1),
+      λ h.
+          let on = both.1 (h.0, subst (ReadsWhole ref e (to_read v') s') (waiting_text rest tail) h.2) in
+          (on.0, fine.1 (fine'.0 h.1), subst (ReadsWhole ref e (to_read v) s) (sym (waiting_text t tail)) on.1),
+    )
+
+-- what is owed for a text that waits, and what comes after it
+front_owed : (ref : Reference) (e : Coding) (ended : Bool) (s s' : EscapeState) (i i' o o' : ℕ) (t rest : List ℕ) (tail : List Piece) (items : List Item) → whole_items ref e ended s i t ≡ items ++ whole_items ref e ended s' i' rest
+    → i' + length rest ≡ i + length t → o + length t ≡ o' + length rest → (ended ≡ false → last_set e s t ≡ last_set e s' rest) → (ended ≡ true → tail ≡ [])
+    → trace_from ref e s o i (text_pieces t ++ tail) ≡ items ++ trace_from ref e s' o' i' (text_pieces rest ++ tail)
+front_owed ref e false s s' i i' o o' t rest tail items owes index at set none =
+    let open_ : open_items ref e s i t ≡ items ++ open_items ref e s' i' rest =
+    sym (append-nil (open_items ref e s i t)) ∙ owes ∙ ap (λ l. items ++ l) (append-nil (open_items ref e s' i' rest)) in
+    let end_ = trace_from ref e (last_set e s' rest) (o' + length rest) (i' + length rest) tail in
+    front_trace ref e s o i t tail
+    ∙ ap (λ (q : EscapeState). open_items ref e s i t ++ trace_from ref e q (o + length t) (i + length t) tail) (set refl)
+    ∙ ap (λ (n : ℕ). open_items ref e s i t ++ trace_from ref e (last_set e s' rest) n (i + length t) tail) at
+    ∙ ap (λ (n : ℕ). open_items ref e s i t ++ trace_from ref e (last_set e s' rest) (o' + length rest) n tail) (sym index)
+    ∙ ap (λ l. l ++ end_) open_
+    ∙ append_assoc items (open_items ref e s' i' rest) end_
+    ∙ ap (λ l. items ++ l) (sym (front_trace ref e s' o' i' rest tail))
+front_owed ref e true s s' i i' o o' t rest tail items owes index at set none =
+    ap (λ l. trace_from ref e s o i (text_pieces t ++ l)) (none refl)
+    ∙ front_trace ref e s o i t []
+    ∙ owes
+    ∙ ap (λ l. items ++ l) (sym (front_trace ref e s' o' i' rest []) ∙ ap (λ l. trace_from ref e s' o' i' (text_pieces rest ++ l)) (sym (none refl)))
+
+abbrev pub target_with : State → EscapeState → VerdictView → Counts → TargetState
+target_with s set verdict counts = record { coding = s.coding; set = set; policy = s.policy; verdict = verdict; counts = counts }
+
+-- one call of the encoder on the text that waits
+module _ (s : State) (answer : DecoderResult) (set : EscapeState) (v : VerdictView) (x : Counts) (ended last : Bool) (src t rest : List ℕ) (items : List Item) (n : ℕ)
+    (sound : AreCountedSoundly (record { state = s; answer = Some answer; text = t })) (e : EncodesTurn (target_of_state s) (target_with s set v x) ended t rest items n)
+    (tail_is : ended ≡ true → (r : List ℕ) → (last ≡ true → r ≡ []) → reported (Some answer) ++ s.decoder.pieces (src ++ r) ≡ []) (ends : ended ≡ true → last ≡ true) where
+  encode_owes : (r : List ℕ) → (last ≡ true → r ≡ []) → owed (record { state = s; answer = Some answer; text = t }) (src ++ r) ≡ items ++ owed (record { state = record s { set = set; verdict = v; counts = x }; answer = Some answer; text = rest }) (src ++ r)
+  encode_owes r h =
+      let ref = reference_form s.policy in
+      let tail = reported (Some answer) ++ s.decoder.pieces (src ++ r) in
+      let o = s.counts.read - (sizes (text_pieces t ++ reported (Some answer)) + s.decoder.pending) in
+      let o' = x.read - (sizes (text_pieces rest ++ reported (Some answer)) + s.decoder.pending) in
+      ap (trace_from ref s.coding s.set o s.counts.index) (append_assoc (text_pieces t) (reported (Some answer)) (s.decoder.pieces (src ++ r)))
+      ∙ front_owed ref s.coding ended s.set set s.counts.index x.index o o' t rest tail items e.owes e.index
+      (omega (arith, sound.index, waiting_size t (reported (Some answer)), waiting_size rest (reported (Some answer)), e.read, e.index)) e.set (λ end. tail_is end r h)
+      ∙ ap (λ ps. items ++ trace_from ref s.coding set o' x.index ps) (sym (append_assoc (text_pieces rest) (reported (Some answer)) (s.decoder.pieces (src ++ r))))
+
+  encode_verdict : (r : List ℕ) → (last ≡ true → r ≡ []) → WillBeKept (record { state = s; answer = Some answer; text = t }) (src ++ r) ↔ WillBeKept (record { state = record s { set = set; verdict = v; counts = x }; answer = Some answer; text = rest }) (src ++ r)
+  encode_verdict r h =
+      let ref = reference_form s.policy in
+      let tail = reported (Some answer) ++ s.decoder.pieces (src ++ r) in
+      subst (λ ps. IsFaithfulFor ref s.verdict s.coding s.set ps ↔ IsFaithfulFor ref v s.coding set ((text_pieces rest ++ reported (Some answer)) ++ s.decoder.pieces (src ++ r))) (sym (append_assoc (text_pieces t) (reported (Some answer)) (s.decoder.pieces (src ++ r))))
+      (subst (λ ps. IsFaithfulFor ref s.verdict s.coding s.set (text_pieces t ++ tail) ↔ IsFaithfulFor ref v s.coding set ps) (sym (append_assoc (text_pieces rest) (reported (Some answer)) (s.decoder.pieces (src ++ r))))
+      (front_faithful ref s.coding ended s.verdict v s.set set t rest tail e.verdict (λ end. ap text (tail_is end r h))))
+
+  not_ended : last ≡ false → ended ≡ false
+  not_ended on = elim (true_or_false ended) [ inl end ↦ absurd (false≢true (sym on ∙ ends end)) | inr not ↦ not ]
+
+  pub encode_turn : Turns (record { state = s; answer = Some answer; text = t }) (record { state = record s { set = set; verdict = v; counts = x }; answer = Some answer; text = rest }) last src src items (2 * n) n
+  encode_turn = record {
+    counted = omega (arith, e.read);
+    target = refl;
+    policy = refl;
+    sound = record {
+      index = omega (arith, sound.index, waiting_size t (reported (Some answer)), waiting_size rest (reported (Some answer)), e.read, e.index);
+      bad = omega (arith, sound.bad, e.bad, e.index);
+      lost = e.lost;
+    };
+    lines = e.lines;
+    source = λ r h. refl;
+    owes = encode_owes;
+    verdict = encode_verdict;
+    calls = λ r h. omega (
+      arith,
+      e.calls,
+      e.index,
+      waiting_count t (reported (Some answer)),
+      waiting_count rest (reported (Some answer)),
+      ap length (encode_owes r h),
+      ap length e.owes,
+      length-append items (owed (record { state = record s { set = set; verdict = v; counts = x }; answer = Some answer; text = rest }) (src ++ r)),
+      length-append items (text_items (target_with s set v x) ended rest),
+    );
+    grows = λ under. omega (arith, e.least under, e.lines.lost);
+    least_calls = λ under. omega (arith, e.least under, e.bad, waiting_bad t (reported (Some answer)), waiting_bad rest (reported (Some answer)));
+    advances = λ on. record {
+      taken = [];
+      rest_is = λ r. refl;
+      set = ap (last_set s.coding set) (waiting_text rest (reported (Some answer)))
+          ∙ last_set-append s.coding set rest (text (reported (Some answer)))
+          ∙ ap (λ (q : EscapeState). last_set s.coding q (text (reported (Some answer)))) (sym (e.set (not_ended on)))
+          ∙ sym (last_set-append s.coding s.set t (text (reported (Some answer))))
+          ∙ ap (last_set s.coding s.set) (sym (waiting_text t (reported (Some answer))));
+      index = omega (arith, e.index, waiting_count t (reported (Some answer)), waiting_count rest (reported (Some answer)));
+    };
+  }
+
+-- ---- the end of a text
+
+-- all of it is encoded, and the decoder is asked next
+pub finish_full : (c : Standing) (s : State) (last : Bool) (x y : List ℕ) (items : List Item) → Turns c (record { state = s; answer = Some OutputFull; text = [] }) last x y items 2 1 → Turns c (record { state = s; answer = None; text = [] }) last x y items 0 0
+finish_full c s last x y items p = record {
+  counted = p.counted;
+  target = p.target;
+  policy = p.policy;
+  sound = record { index = p.sound.index; bad = p.sound.bad; lost = p.sound.lost };
+  lines = p.lines;
+  source = p.source;
+  owes = p.owes;
+  verdict = p.verdict;
+  calls = λ r h. omega (arith, p.calls r h);
+  grows = p.grows;
+  least_calls = λ under. omega (arith, p.least_calls under);
+  advances = λ on. let a = p.advances on in record { taken = a.taken; rest_is = a.rest_is; set = a.set; index = a.index };
+}
+
+-- or all is read
+pub finish_empty : (c : Standing) (s : State) (last : Bool) (x y : List ℕ) (items : List Item) → Turns c (record { state = s; answer = Some InputEmpty; text = [] }) last x y items 2 1 → Turns c (record { state = s; answer = None; text = [] }) last x y items 3 2
+finish_empty c s last x y items p = record {
+  counted = p.counted;
+  target = p.target;
+  policy = p.policy;
+  sound = record { index = p.sound.index; bad = p.sound.bad; lost = p.sound.lost };
+  lines = p.lines;
+  source = p.source;
+  owes = p.owes;
+  verdict = p.verdict;
+  calls = λ r h. omega (arith, p.calls r h);
+  grows = p.grows;
+  least_calls = λ under. omega (arith, p.least_calls under);
+  advances = λ on. let a = p.advances on in record { taken = a.taken; rest_is = a.rest_is; set = a.set; index = a.index };
+}
+
+-- ---- a malformed sequence
+
+-- something is lost, and U+FFFD waits
+abbrev pub replaced_state : State → State
+replaced_state s = record s { verdict = record s.verdict { faithful = false }; counts = record s.counts { bad = s.counts.bad + 1 } }
+
+pub replace_turn : (c : Standing) (s : State) (a b : ℕ) (last : Bool) (x y : List ℕ) (items : List Item) → 1 ≤ a → Turns c (record { state = s; answer = Some (Malformed a b); text = [] }) last x y items 2 1
+    → Turns c (record { state = replaced_state s; answer = Some OutputFull; text = 0xFFFD ∷ [] }) last x y (items ++ MalformedAt (s.counts.read - s.decoder.pending - a) a ∷ []) 0 0
+replace_turn c s a b last x y items some p =
+    let now : Standing = record { state = s; answer = Some (Malformed a b); text = [] } in
+    let next : Standing = record { state = replaced_state s; answer = Some OutputFull; text = 0xFFFD ∷ [] } in
+    let ref = reference_form s.policy in
+    let owes : (r : List ℕ) → owed now (y ++ r) ≡ (MalformedAt (s.counts.read - s.decoder.pending - a) a ∷ []) ++ owed next (y ++ r) = λ r.
+    let at : s.counts.read - (a + 0 + s.decoder.pending) ≡ s.counts.read - s.decoder.pending - a = omega (arith, p.sound.index) in
+    let next_at : s.counts.read - (a + 0 + s.decoder.pending) + a ≡ s.counts.read - (1 + 0 + s.decoder.pending) + 1 = omega (arith, p.sound.index, some) in
+    ap (λ (n : ℕ). MalformedAt n a ∷ (open_items ref s.coding s.set s.counts.index (0xFFFD ∷ []) ++ trace_from ref s.coding (s.coding.set s.set 0xFFFD) (s.counts.read - (a + 0 + s.decoder.pending) + a) (s.counts.index + 1) (s.decoder.pieces (y ++ r)))) at
+    ∙ ap (λ (n : ℕ). MalformedAt (s.counts.read - s.decoder.pending - a) a ∷ (open_items ref s.coding s.set s.counts.index (0xFFFD ∷ []) ++ trace_from ref s.coding (s.coding.set s.set 0xFFFD) n (s.counts.index + 1) (s.decoder.pieces (y ++ r)))) next_at in
+    record {
+      counted = p.counted;
+      target = p.target;
+      policy = p.policy;
+      sound = record { index = omega (arith, p.sound.index, some); bad = omega (arith, p.sound.bad); lost = p.sound.lost };
+      lines = AreCounted-trans c.state.counts s.counts (replaced_state s).counts items (MalformedAt (s.counts.read - s.decoder.pending - a) a ∷ []) p.lines (record { bad = omega arith; lost = omega arith });
+      source = p.source;
+      owes = λ r h. p.owes r h ∙ ap (λ l. items ++ l) (owes r) ∙ sym (append_assoc items (MalformedAt (s.counts.read - s.decoder.pending - a) a ∷ []) (owed next (y ++ r)));
+      verdict = λ r h. both_ways (p.verdict r h) (λ never. absurd never.1.0, λ never. absurd (false≢true never.0));
+      calls = λ r h. omega (arith, p.calls r h, ap length (owes r));
+      grows = p.grows;
+      least_calls = λ under. omega (arith, p.least_calls under);
+      advances = λ on. let f = p.advances on in record { taken = f.taken; rest_is = f.rest_is; set = f.set; index = f.index };
+    }

@@ -1,0 +1,25 @@
+use Rattle.std.proofs.Common.{◌+◌, ◌*◌, ◌≤◌, length, drop, take, map}
+use Rattle.encoding_mem.specs.Items.{Byte}
+use Rattle.encoding_mem.specs.calls.EncoderRule.{WritesBytes}
+use Rattle.recode.specs.calls.Buffers.{KeepsRoom}
+use Rattle.recode.specs.calls.EngineView.{HoldsBetween, standing}
+use Rattle.recode.specs.calls.Turns.{CanGoOn, Turns, waits}
+use Rattle.recode.specs.declared.job.Policy.{Policy}
+use Rattle.recode.proofs.engine.Engine.convert.Given as goal
+
+abbrev pub invariant-turns : goal.invariant-turns
+invariant-turns g l =
+    let view = g.D.StreamDecoder.view in
+    let parts = g.E.RawEncoder.parts in
+    record {
+      law : (p : Policy) → Turns (standing view parts p l.initial.self l.initial.pivot) (standing view parts p l.self l.pivot) l.last l.src (drop l.read l.src) (map Byte (take l.written l.dst)) 0 0;
+      ready : CanGoOn (standing view parts Policy.Decimal l.self l.pivot) (drop l.read l.src) l.last;
+      within : l.read ≤ length l.src;
+      wrote : WritesBytes l.initial.dst l.dst l.written;
+      holds : HoldsBetween l.pivot l.self.from l.self.to;
+      pivot : KeepsRoom l.initial.pivot l.pivot;
+      check : KeepsRoom l.initial.check l.check;
+    }
+
+abbrev pub decreases-turns : goal.decreases-turns
+decreases-turns g l = 2 * length ((g.D.StreamDecoder.view l.self.decoder).state.pieces (drop l.read l.src)) + waits l.self.answer

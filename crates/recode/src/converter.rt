@@ -1,0 +1,184 @@
+//! A converter: bytes of one encoding to bytes of another. It calls no device.
+
+ghost use Rattle.std.specs.Prelude.{◌≡◌, ◌+◌, ◌-◌, ◌≤◌, ◌<◌, ◌^◌, ◌++◌, ◌↔◌, Some, [], true, false};
+ghost use Rattle.std.specs.Prelude.{IsSome, IsTrue, IfSome, drop, length, map, take};
+ghost use Rattle.encoding_mem.specs.Items.{Byte};
+ghost use Rattle.encoding_mem.specs.calls.EncoderRule.{WritesBytes};
+ghost use Rattle.recode.specs.Converter.{ConverterView, ConvertsPart, EndsWith, IsNewConverter};
+ghost use Rattle.recode.specs.Converter.{found_items};
+ghost use Rattle.recode.specs.Job.{IsValidJob};
+ghost use Rattle.recode.specs.Policy.{reference_form};
+ghost use Rattle.recode.specs.calls.Buffers.{capacity, is_wide};
+ghost use Rattle.recode.specs.calls.EngineView.{HoldsBetween, converter_view, over_text, standing};
+ghost use Rattle.recode.specs.calls.EngineView.{text_of};
+ghost use Rattle.recode.specs.calls.Turns.{CanGoOn};
+ghost use Rattle.recode.specs.declared.job.Policy.{Policy};
+
+use crate::engine::Engine;
+use crate::job::{Job, Pivot, Report};
+use encoding_front::{Decoder, StreamDecoder, VariantEncoder};
+use encoding_mem::{DecoderResult, RawEncoder};
+use recode_log::line::LogLine;
+
+/// What a call of a converter ended with.
+#[derive(Clone, Copy, PartialEq, Eq, Debug)]
+pub enum ConverterResult {
+    /// All of `src` is read, and all that it decides is written.
+    InputEmpty,
+    /// Fewer than 4 bytes of `dst` are free.
+    OutputFull,
+    /// Something is lost, after what was written. For a lost character its reference, if one is to
+    /// be written, is the caller's to write.
+    Found(LogLine),
+}
+
+// How many bytes of text wait at most.
+const ROOM: usize = 1024;
+
+// What a value is to its callers.
+trait Viewed {
+    ghost view: { Self → ConverterView };
+}
+
+/// A conversion of a stream, bytes to bytes.
+#[derive(Drop)]
+pub struct Converter<'t> {
+    engine: Engine<Decoder<'t>, VariantEncoder<'t>>,
+    job: Job<'t>,
+    // The text that waits, in UTF-8, stands in it.
+    text: [u8; ROOM],
+    // Whether the end was read, and its text waits.
+    ended: bool,
+    // Whether all is written.
+    over: bool,
+    ghost small: { job.limit ≤ 2 ^ 48 },
+    ghost within: { engine.counts.read ≤ job.limit },
+    ghost holds: { HoldsBetween (over_text text) engine.from engine.to },
+    ghost waits: { ended ≡ true → engine.answer ≡ Some DecoderResult.InputEmpty },
+    ghost ready: { over ≡ false → CanGoOn (standing
+        ⟦<Decoder<'static> as StreamDecoder>⟧.view
+        ⟦<VariantEncoder<'static> as RawEncoder>⟧.parts Policy.Decimal engine
+        (over_text text)) [] ended },
+}
+
+impl<'t> Viewed for Converter<'t> {
+    ghost view = { λ c. converter_view ⟦<Decoder<'t> as StreamDecoder>⟧.view
+        ⟦<VariantEncoder<'t> as RawEncoder>⟧.parts c.job c.engine c.text c.ended c.over };
+}
+
+impl<'t> Converter<'t> {
+    ghost use Rattle.recode.specs.calls.ConverterView.{seen};
+
+    /// A converter that has read nothing. The condition, that the job is valid, is tested by
+    /// `Job::is_valid`.
+    pub fn new(job: Job<'t>) -> Self
+        requires { IsValidJob job }
+        ensures { IsNewConverter (seen result) job.entry }
+    {
+        Converter {
+            engine: Engine::new(job),
+            job,
+            text: [0; ROOM],
+            ended: false,
+            over: false,
+        }
+    }
+
+    /// Whether all was read and written. The test of a condition of `convert`.
+    pub fn is_over(&self) -> bool
+        ensures { result ≡ (seen self.now).over }
+    {
+        self.over
+    }
+
+    /// Whether the end was read, and what is left is to write what waits. The test of a condition of
+    /// `convert`.
+    pub fn is_ended(&self) -> bool
+        ensures { result ≡ (seen self.now).ended }
+    {
+        self.ended
+    }
+
+    /// How many more bytes the job's limit allows. The test of a condition of `convert`.
+    pub fn left(&self) -> u64
+        ensures { result + (seen self.now).state.counts.read ≡ (seen self.now).job.limit }
+    {
+        self.job.limit - self.engine.counts.read
+    }
+
+    // A call of the engine, with the text that waits.
+    fn pump(
+        &mut self,
+        src: &[u8],
+        dst: &mut [u8],
+        last: bool,
+    ) -> (ConverterResult, usize, usize)
+        requires ready { CanGoOn (standing
+            ⟦<Decoder<'static> as StreamDecoder>⟧.view
+            ⟦<VariantEncoder<'static> as RawEncoder>⟧.parts Policy.Decimal self.old.engine
+            (over_text self.old.text)) src.now last }
+        requires limit { self.old.engine.counts.read + length src.now ≤ self.old.job.limit }
+        ensures law { ConvertsPart (seen self.old) (seen self.new) last src.now
+            (drop result.1 src.now) (map Byte (take result.2 dst.new)
+            ++ found_items (reference_form self.old.job.policy) result.0) }
+        ensures ends { EndsWith (seen self.new) (drop result.1 src.now) last
+            (length dst.new - result.2) result.0 }
+        ensures within { result.1 ≤ length src.now }
+        ensures wrote { WritesBytes dst.old dst.new result.2 }
+    {
+        let mut text = self.text;
+        let mut again = [0; ROOM];
+        let mut pivot = Pivot::Utf8(&mut text);
+        let mut check = Pivot::Utf8(&mut again);
+        let (result, read, written) =
+            self.engine.convert(src, dst, &mut pivot, &mut check, last);
+        keep_text(&pivot, &mut self.text);
+        self.ended = self.engine.ends(last);
+        self.over = last && matches!(result, ConverterResult::InputEmpty);
+        (result, read, written)
+    }
+
+    /// Converts bytes of the input. Returns how the call ended, how many bytes it read and how many
+    /// it wrote.
+    pub fn convert(
+        &mut self,
+        src: &[u8],
+        dst: &mut [u8],
+        last: bool,
+    ) -> (ConverterResult, usize, usize)
+        requires over { (seen self.old).over ≡ false }
+        requires ended { (seen self.old).ended ≡ true → (src.now ≡ []) × (last ≡ true) }
+        requires limit { (seen self.old).state.counts.read + length src.now
+            ≤ (seen self.old).job.limit }
+        ensures law { ConvertsPart (seen self.old) (seen self.new) last src.now
+            (drop result.1 src.now) (map Byte (take result.2 dst.new)
+            ++ found_items (reference_form (seen self.old).job.policy) result.0) }
+        ensures ends { EndsWith (seen self.new) (drop result.1 src.now) last
+            (length dst.new - result.2) result.0 }
+        ensures within { result.1 ≤ length src.now }
+        ensures wrote { WritesBytes dst.old dst.new result.2 }
+    {
+        if !matches!(self.engine.answer, Some(DecoderResult::InputEmpty)) {
+            return self.pump(src, dst, last);
+        }
+        // Of the bytes that were read before, text waits that is written first.
+        let (result, _, front) = self.pump(&[], dst, self.ended);
+        if self.over || !matches!(result, ConverterResult::InputEmpty) {
+            return (result, 0, front);
+        }
+        let (result, read, written) = self.pump(src, &mut dst[front..], last);
+        (result, read, front + written)
+    }
+}
+
+// Copies the text of a pivot of UTF-8.
+fn keep_text(pivot: &Pivot<'_>, text: &mut [u8])
+    requires form { is_wide pivot.now ≡ false }
+    requires size { capacity pivot.now ≡ length text.old }
+    ensures { text.new ≡ text_of pivot.now }
+{
+    match pivot {
+        Pivot::Utf8(bytes) => text.copy_from_slice(bytes),
+        Pivot::Utf16(_) => {}
+    }
+}
