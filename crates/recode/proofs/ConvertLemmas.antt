@@ -30,7 +30,7 @@ use Rattle.recode.specs.calls.Turns.{AreCountedSoundly, CanGoOn, IsOpenFor, Stan
 use Rattle.recode.specs.calls.Verdict.{CanTell}
 use Rattle.recode.specs.declared.job.Pivot.{Pivot}
 use Rattle.recode.specs.declared.job.Pivot.TheVariants.{Utf8, Utf16}
-use Rattle.recode.proofs.DecoderCallLemmas.{IsText, empty_call, end_none, full_call, full_left, malformed_call}
+use Rattle.recode.proofs.DecoderCallLemmas.{IsText, empty_call, end_none, end_pending, full_call, full_left, malformed_call}
 use Rattle.recode.proofs.LatencyLemmas.{settled_of}
 use Rattle.recode.proofs.PivotLemmas.{bytes_text, text_of_bytes, text_of_units, units_text}
 use Rattle.recode.proofs.TurnLemmas.{IsDecoded, decode_turn, decoded_state, encode_turn, finish_empty, finish_full, nothing_waits, replace_turn, replaced_state, target_of_state, target_with, turns_more, waiting_size}
@@ -108,7 +108,7 @@ pub open_after : (before after : DecoderState) (src : List ℕ) (last : Bool) (r
     → StateLaw before after src last read W answer → IsText W t → DecodeCallEndsWith after (drop read src) last written answer → c.state.decoder ≡ after → c.state.finished ≡ finishes last answer
     → IsOpenFor (Some answer) c (drop read src) last
 open_after before after src last read written W t InputEmpty c law is ends d fin =
-    (ends.0, fin ∙ finishes_empty last, subst IsNearlyDecided (sym d) (settled_of after last ends.1), λ end. ap (λ (s : DecoderState). s.pieces []) d ∙ end_none last ends.1 end)
+    (ends.0, fin ∙ finishes_empty last, subst IsNearlyDecided (sym d) (settled_of after last ends.1), λ end. (ap (λ (s : DecoderState). s.pending) d ∙ end_pending last ends.1 end, ap (λ (s : DecoderState). s.pieces []) d ∙ end_none last ends.1 end))
 open_after before after src last read written W t OutputFull c law is ends d fin = fin ∙ finishes_not last OutputFull (λ h. cc)
 open_after before after src last read written W t (Malformed a b) c law is ends d fin =
     let k = malformed_call before after src last read a b W t law is in
@@ -223,7 +223,7 @@ encode_turn_some s s' a t rest last src items done is sound open_ once =
     (encode_turn s a s'.set s'.verdict s'.counts ended last src t rest items (ended_count done) sound e (tail_at_end a s t src last open_) (ends_last a last))
   where
     tail_at_end : (a : DecoderResult) (s : State) (t src : List ℕ) (last : Bool) → IsOpenFor (Some a) (record { state = s; answer = Some a; text = t }) src last → ends_with (Some a) last ≡ true → (r : List ℕ) → (last ≡ true → r ≡ []) → reported (Some a) ++ s.decoder.pieces (src ++ r) ≡ []
-    tail_at_end InputEmpty s t src last h end r none = ap s.decoder.pieces (ap (λ x. x ++ r) h.0 ∙ none end) ∙ h.3 end
+    tail_at_end InputEmpty s t src last h end r none = ap s.decoder.pieces (ap (λ x. x ++ r) h.0 ∙ none end) ∙ (h.3 end).1
     tail_at_end OutputFull s t src last h end r none = absurd (false≢true end)
     tail_at_end (Malformed a b) s t src last h end r none = absurd (false≢true end)
 
@@ -260,7 +260,7 @@ pub open_still : (a : DecoderResult) (c c' : Standing) (src : List ℕ) (last : 
 open_still a c c' src last some same d f h = subst (λ x. IsOpenFor x c' src last) (sym (same ∙ some)) (still a c c' src last d f (subst (λ x. IsOpenFor x c src last) some h))
   where
     still : (a : DecoderResult) (c c' : Standing) (src : List ℕ) (last : Bool) → c'.state.decoder ≡ c.state.decoder → c'.state.finished ≡ c.state.finished → IsOpenFor (Some a) c src last → IsOpenFor (Some a) c' src last
-    still InputEmpty c c' src last d f h = (h.0, f ∙ h.1, subst IsNearlyDecided (sym d) h.2, λ end. ap (λ (s : DecoderState). s.pieces []) d ∙ h.3 end)
+    still InputEmpty c c' src last d f h = (h.0, f ∙ h.1, subst IsNearlyDecided (sym d) h.2, λ end. (ap (λ (s : DecoderState). s.pending) d ∙ (h.3 end).0, ap (λ (s : DecoderState). s.pieces []) d ∙ (h.3 end).1))
     still OutputFull c c' src last d f h = f ∙ h
     still (Malformed a b) c c' src last d f h = (f ∙ h.0, h.1, h.2, ap (λ (s : DecoderState). s.pending) d ∙ h.3)
 
@@ -322,8 +322,8 @@ pub done_with : (s : State) (last : Bool) (need : ℕ) → IsCoding need s.codin
 done_with s last need law open_ sound closed tells told = record {
   settled = open_.2;
   ready = λ on. record { open_ = open_.1 ∙ on; sound = record { index = omega (arith, sound.index); bad = omega (arith, sound.bad); lost = sound.lost }; tells = tells on };
-  end = λ end. none_owed (reference_form s.policy) s.decoder s.coding s.set s.counts law (closed end) (open_.3 end);
-  told = λ end. verdict_told (reference_form s.policy) s.coding need law s.verdict s.set (s.decoder.pieces []) (open_.3 end) (closed end) (told end);
+  end = λ end. none_owed (reference_form s.policy) s.decoder s.coding s.set s.counts law (closed end) (open_.3 end).1;
+  told = λ end. verdict_told (reference_form s.policy) s.coding need law s.verdict s.set (s.decoder.pieces []) (open_.3 end).1 (closed end) (told end);
 }
 
 -- the text that waits is within what was read

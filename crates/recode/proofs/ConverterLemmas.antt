@@ -1,38 +1,34 @@
 -- What the calls of a converter are, by those of its engine.
-use Rattle.std.proofs.Common.{◌≡◌, ◌↔◌, ℕ, ◌+◌, ◌-◌, ◌<◌, ◌≤◌, ◌^◌, Bool, true, false, List, [], ◌++◌, length, Option, None, Some, refl, sym, ◌∙◌, ap, subst, arith, append_assoc}
+use Rattle.std.proofs.Common.{◌≡◌, ◌↔◌, ℕ, ◌+◌, ◌-◌, ◌<◌, ◌≤◌, ◌^◌, Bool, true, false, List, [], ◌∷◌, ◌++◌, length, Option, None, Some, inl, refl, sym, ◌∙◌, ap, subst, arith}
 use Rattle.std.specs.Prelude.{◌&&◌}
-use Rattle.encoding_mem.specs.Items.{Item}
+use Rattle.encoding_mem.specs.Items.{Item, trace_from}
+use Rattle.encoding_mem.specs.Piece.{Piece, sizes}
 use Rattle.encoding_mem.specs.declared.decoder_result.DecoderResult.{DecoderResult}
 use Rattle.encoding_mem.specs.declared.decoder_result.DecoderResult.TheVariants as decoded
 use Rattle.recode_log.specs.declared.line.LogLine.{LogLine}
-use Rattle.recode.specs.Converter.{ConverterView, ConvertsPart, EndsWith, IsConverted, IsWhole, owes}
-use Rattle.recode.specs.State.{State}
+use Rattle.recode.specs.Converter.{ConverterView, ConvertsPart, EndsWith, IsConverted, IsWhole, is_input_empty, owed_after}
+use Rattle.recode.specs.Policy.{reference_form}
+use Rattle.recode.specs.State.{State, to_write}
 use Rattle.recode.specs.calls.Chunk.{CanConvert, IsDoneWith}
-use Rattle.recode.specs.calls.EngineView.{HoldsBetween, chars_between, over_text, text_of}
+use Rattle.recode.specs.calls.EngineView.{HoldsBetween, over_text, standing, text_of}
+use Rattle.encoding_front.specs.calls.Stream.{DecoderView}
+use Rattle.encoding_mem.specs.calls.EncoderRule.{EncoderParts}
+use Rattle.recode.specs.declared.engine.Engine.{Engine}
+use Rattle.recode.specs.declared.job.Policy.{Policy}
 use Rattle.recode.specs.calls.Buffers.{capacity, is_wide}
-use Rattle.recode.specs.calls.Turns.{CanGoOn, ConvertEndsWith, IsOpenFor, Standing, Turns, ends_with, waiting}
+use Rattle.recode.specs.calls.Turns.{AreCountedSoundly, CanGoOn, ConvertEndsWith, IsAtRest, IsOpenFor, Standing, Turns, ends_with, reported, settled, text_pieces, waiting}
 use Rattle.recode.specs.declared.converter.ConverterResult.{ConverterResult}
 use Rattle.recode.specs.declared.converter.ConverterResult.TheVariants.{Found, InputEmpty, OutputFull}
 use Rattle.recode.specs.declared.job.Job.{Job}
 use Rattle.recode.specs.declared.job.Pivot.{Pivot}
 use Rattle.recode.specs.declared.job.Pivot.TheVariants.{Utf8, Utf16}
 use Rattle.recode.proofs.ShellLemmas.{ready_start}
-use Rattle.recode.proofs.TraceLemmas.{AreCounted-trans}
-use Rattle.recode.proofs.VerdictLemmas.{both_ways}
 
 -- ---- the text that waits, in a pivot and out of it
 
-pub text_kept : (p : Pivot) (from to : ℕ) → is_wide p ≡ false → chars_between p from to ≡ chars_between (over_text (text_of p)) from to
-text_kept (Utf8 bytes) from to form = refl
-text_kept (Utf16 units) from to form = absurd (cc)
-
-pub holds_kept : (p : Pivot) (from to : ℕ) → is_wide p ≡ false → HoldsBetween p from to → HoldsBetween (over_text (text_of p)) from to
-holds_kept (Utf8 bytes) from to form h = record { order = h.order; within = h.within; scalars = h.scalars; whole = h.whole }
-holds_kept (Utf16 units) from to form h = absurd (cc)
-
--- a standing with another pivot
-pub with_text : (c : Standing) (t t' : List ℕ) → t ≡ t' → record c { text = t } ≡ record c { text = t' }
-with_text c t t' same = ap (λ (x : List ℕ). record c { text = x }) same
+pub holds_kept : (p : Pivot) (text : List ℕ) (from to : ℕ) → is_wide p ≡ false → text ≡ text_of p → HoldsBetween p from to → HoldsBetween (over_text text) from to
+holds_kept (Utf8 bytes) text from to form same h = subst (λ t. HoldsBetween (over_text t) from to) (sym same) (record { order = h.order; within = h.within; scalars = h.scalars; whole = h.whole })
+holds_kept (Utf16 units) text from to form same h = absurd (cc)
 
 -- ---- a converter by its standing
 
@@ -40,102 +36,137 @@ with_text c t t' same = ap (λ (x : List ℕ). record c { text = x }) same
 abbrev pub view_at : Job → Standing → (ended over : Bool) → ConverterView
 view_at j c ended over = record { job = j; state = c.state; waiting = waiting c; ended = ended; over = over }
 
-pub part_of : (j : Job) (c c' : Standing) (e o e' o' last : Bool) (bytes rest : List ℕ) (items : List Item) (m l : ℕ) → Turns c c' last bytes rest items m l → (e' ≡ true → (last ≡ true) × (rest ≡ []))
-    → ConvertsPart (view_at j c e o) (view_at j c' e' o') last bytes rest items
-part_of j c c' e o e' o' last bytes rest items m l t ended = record {
+-- ---- when a call can be made
+
+not_ended : (ended : Bool) → (ended ≡ true → ⊥) → ended ≡ false
+not_ended true h = absurd (h refl)
+not_ended false h = refl
+
+is_ended : (ended : Bool) → (ended ≡ false → ⊥) → ended ≡ true
+is_ended true h = refl
+is_ended false h = absurd (h refl)
+
+empty_of : (ps : List Piece) → length ps ≡ 0 → ps ≡ []
+empty_of [] e = refl
+empty_of (p ∷ ps) e = absurd (omega (arith, e))
+
+open_from : (a : Option DecoderResult) (c : Standing) (ended : Bool) (src : List ℕ) (last : Bool) → c.answer ≡ a → IsAtRest c ended → (ended ≡ true → (src ≡ []) × (last ≡ true)) → IsOpenFor a c src last
+open_from None c ended src last is h with_end = (h.none is, h.finished ∙ not_ended ended (λ e. absurd (cc (sym is ∙ (h.end e).0))))
+open_from (Some decoded.OutputFull) c ended src last is h with_end = h.finished ∙ not_ended ended (λ e. absurd (cc (sym is ∙ (h.end e).0)))
+open_from (Some (decoded.Malformed a b)) c ended src last is h with_end =
+    let size = h.malformed a b is in
+    (h.finished ∙ not_ended ended (λ e. absurd (cc (sym is ∙ (h.end e).0))), size.0, size.1, size.2)
+open_from (Some decoded.InputEmpty) c ended src last is h with_end =
+    let end : ended ≡ true = is_ended ended (λ e. absurd (cc (sym (ap (λ x. ends_with x true) is) ∙ h.more e))) in
+    let none = empty_of (c.state.decoder.pieces []) (h.end end).2 in
+    ((with_end end).0, h.finished ∙ end ∙ sym (with_end end).1, inl ((h.end end).1, none), λ _. ((h.end end).1, none))
+
+pub can_go_on : (c : Standing) (ended : Bool) (src : List ℕ) (last : Bool) → IsAtRest c ended → (ended ≡ true → (src ≡ []) × (last ≡ true)) → c.state.counts.read + length src ≤ 2 ^ 48 → CanGoOn c src last
+can_go_on c ended src last h with_end limit = record {
+  sound = h.sound;
+  limit = limit;
+  tells = h.tells;
+  open_ = open_from c.answer c ended src last refl h with_end;
+}
+
+-- ---- what is left by a call
+
+same_reported : (a : Option DecoderResult) (last : Bool) → reported (settled a last) ≡ reported a
+same_reported None last = refl
+same_reported (Some decoded.InputEmpty) true = refl
+same_reported (Some decoded.InputEmpty) false = refl
+same_reported (Some decoded.OutputFull) last = refl
+same_reported (Some (decoded.Malformed a b)) last = refl
+
+-- an engine after a call
+abbrev pub after_call : Standing → Bool → Standing
+after_call c last = record { state = c.state; answer = settled c.answer last; text = c.text }
+
+pub view_after : (j : Job) (c : Standing) (last e o : Bool) → view_at j (after_call c last) e o ≡ view_at j c e o
+view_after j c last e o = ap (λ (ps : List Piece). record { job = j; state = c.state; waiting = text_pieces c.text ++ ps; ended = e; over = o }) (same_reported c.answer last)
+
+sound_after : (c : Standing) (last : Bool) → AreCountedSoundly c → AreCountedSoundly (after_call c last)
+sound_after c last h = record { index = omega (arith, h.index, ap (λ ps. sizes (text_pieces c.text ++ ps)) (same_reported c.answer last)); bad = h.bad; lost = h.lost }
+
+never_ends : (a : Option DecoderResult) (last : Bool) → ends_with a last ≡ false → ends_with (settled a last) true ≡ false
+never_ends None last e = refl
+never_ends (Some decoded.InputEmpty) true e = absurd (cc)
+never_ends (Some decoded.InputEmpty) false e = refl
+never_ends (Some decoded.OutputFull) last e = refl
+never_ends (Some (decoded.Malformed a b)) last e = refl
+
+none_before : (a : Option DecoderResult) (last : Bool) → settled a last ≡ None → a ≡ None
+none_before None last e = refl
+none_before (Some decoded.InputEmpty) true e = absurd (cc)
+none_before (Some decoded.InputEmpty) false e = absurd (cc)
+none_before (Some decoded.OutputFull) last e = absurd (cc)
+none_before (Some (decoded.Malformed a b)) last e = absurd (cc)
+
+malformed_before : (o : Option DecoderResult) (last : Bool) (a b : ℕ) → settled o last ≡ Some (decoded.Malformed a b) → o ≡ Some (decoded.Malformed a b)
+malformed_before None last a b e = absurd (cc)
+malformed_before (Some decoded.InputEmpty) true a b e = absurd (cc)
+malformed_before (Some decoded.InputEmpty) false a b e = absurd (cc)
+malformed_before (Some decoded.OutputFull) last a b e = absurd (cc)
+malformed_before (Some (decoded.Malformed c d)) last a b e = e
+
+end_after : (a : Option DecoderResult) (last : Bool) → ends_with a last ≡ true → settled a last ≡ Some decoded.InputEmpty
+end_after None last e = absurd (cc)
+end_after (Some decoded.InputEmpty) true e = refl
+end_after (Some decoded.InputEmpty) false e = absurd (cc)
+end_after (Some decoded.OutputFull) last e = absurd (cc)
+end_after (Some (decoded.Malformed a b)) last e = absurd (cc)
+
+-- what a call may go on with, by how the decoder's call ended
+none_open : (o : Option DecoderResult) (c : Standing) (x : List ℕ) (last : Bool) → o ≡ None → IsOpenFor o c x last → c.text ≡ []
+none_open None c x last e h = h.0
+none_open (Some a) c x last e h = absurd (cc)
+
+malformed_open : (o : Option DecoderResult) (c : Standing) (x : List ℕ) (last : Bool) (a b : ℕ) → o ≡ Some (decoded.Malformed a b) → IsOpenFor o c x last → (1 ≤ a) × (a ≤ 4) × (c.state.decoder.pending ≡ b)
+malformed_open o c x last a b e h = let found = subst (λ z. IsOpenFor z c x last) e h in (found.1, found.2, found.3)
+
+finished_open : (o : Option DecoderResult) (c : Standing) (x : List ℕ) (last : Bool) → IsOpenFor o c x last → c.state.finished ≡ ends_with o last
+finished_open None c x last h = h.1
+finished_open (Some decoded.InputEmpty) c x last h = h.1
+finished_open (Some decoded.OutputFull) c x last h = h
+finished_open (Some (decoded.Malformed a b)) c x last h = h.0
+
+end_open : (o : Option DecoderResult) (c : Standing) (x : List ℕ) (last : Bool) → ends_with o last ≡ true → IsOpenFor o c x last
+    → (o ≡ Some decoded.InputEmpty) × (c.state.decoder.pending ≡ 0) × (length (c.state.decoder.pieces []) ≡ 0) × (last ≡ true) × (x ≡ [])
+end_open None c x last e h = absurd (cc)
+end_open (Some decoded.OutputFull) c x last e h = absurd (cc)
+end_open (Some (decoded.Malformed a b)) c x last e h = absurd (cc)
+end_open (Some decoded.InputEmpty) c x last e h = (refl, (h.3 e).0, ap length (h.3 e).1, e, h.0)
+
+pub rests_after : (c : Standing) (x : List ℕ) (last : Bool) → CanGoOn c x last → IsAtRest (after_call c last) (ends_with c.answer last)
+rests_after c x last h = record {
+  sound = sound_after c last h.sound;
+  tells = h.tells;
+  finished = finished_open c.answer c x last h.open_;
+  none = λ e. none_open c.answer c x last (none_before c.answer last e) h.open_;
+  malformed = λ a b e. malformed_open c.answer c x last a b (malformed_before c.answer last a b e) h.open_;
+  end = λ e. let is = end_open c.answer c x last e h.open_ in (end_after c.answer last e, is.1, is.2);
+  more = never_ends c.answer last;
+}
+
+-- ---- how a call ends
+
+pub ended_with : (c : Standing) (x : List ℕ) (last : Bool) (free : ℕ) (result : ConverterResult) → ConvertEndsWith c x last free result → ends_with c.answer last ≡ true → (last ≡ true) × (x ≡ [])
+ended_with c x last free InputEmpty h e = absurd (cc (sym e ∙ ap (λ a. ends_with a last) h.1))
+ended_with c x last free OutputFull h e = let end = end_open c.answer c x last e h.1.open_ in (end.3, end.4)
+ended_with c x last free (Found line) h e = let end = end_open c.answer c x last e h.1.open_ in (end.3, end.4)
+
+-- the law of a converter's call, by that of its engine
+pub part_of : (j : Job) (c c' : Standing) (e o e' o' last : Bool) (bytes rest : List ℕ) (items : List Item) (m l free : ℕ) (result : ConverterResult) → Turns c c' last bytes rest items m l → ConvertEndsWith c' rest last free result → e' ≡ ends_with c'.answer last
+    → ConvertsPart (view_at j c e o) (view_at j (after_call c' last) e' o') last bytes rest items
+part_of j c c' e o e' o' last bytes rest items m l free result t ends is = subst (λ v. ConvertsPart (view_at j c e o) v last bytes rest items) (sym (view_after j c' last e' o')) (record {
   job = refl;
   owed = t.owes;
   verdict = t.verdict;
   source = t.source;
   counted = t.counted;
   lines = t.lines;
-  ended = ended;
-}
-
--- nothing was converted
-pub part_then : (v v1 v2 : ConverterView) (last : Bool) (x y z : List ℕ) (a b : List Item) → ConvertsPart v v1 last x y a → ConvertsPart v1 v2 last y z b → ConvertsPart v v2 last x z (a ++ b)
-part_then v v1 v2 last x y z a b p q = record {
-  job = q.job ∙ p.job;
-  owed = λ r h. p.owed r h ∙ ap (λ l. a ++ l) (q.owed r h) ∙ sym (append_assoc a b (owes v2 (z ++ r)));
-  verdict = λ r h. both_ways (p.verdict r h) (q.verdict r h);
-  source = λ r h. p.source r h ∙ q.source r h;
-  counted = omega (arith, p.counted, q.counted);
-  lines = AreCounted-trans v.state.counts v1.state.counts v2.state.counts a b p.lines q.lines;
-  ended = q.ended;
-}
-
--- what waited was written before these bytes
-pub part_before : (v v1 : ConverterView) (ended last : Bool) (src : List ℕ) (items : List Item) → ConvertsPart v v1 ended [] [] items → (ended ≡ true → (src ≡ []) × (last ≡ true)) → ConvertsPart v v1 last src src items
-part_before v v1 ended last src items p with_end = record {
-  job = p.job;
-  owed = λ r h. p.owed (src ++ r) (none r h);
-  verdict = λ r h. p.verdict (src ++ r) (none r h);
-  source = λ r h. p.source (src ++ r) (none r h);
-  counted = omega (arith, p.counted);
-  lines = p.lines;
-  ended = λ e. ((with_end (p.ended e).0).1, (with_end (p.ended e).0).0);
-}
-  where
-    none : (r : List ℕ) → (last ≡ true → r ≡ []) → ended ≡ true → src ++ r ≡ []
-    none r h e = ap (λ l. l ++ r) (with_end e).0 ∙ h (with_end e).1
-
--- ---- when a call can be made
-
--- with other bytes, if what waits is not all that the bytes before decided
-pub open_anew : (a : Option DecoderResult) (c : Standing) (x y : List ℕ) (e last : Bool) → ends_with a true ≡ false → IsOpenFor a c x e → IsOpenFor a c y last
-open_anew None c x y e last other h = h
-open_anew (Some decoded.OutputFull) c x y e last other h = h
-open_anew (Some (decoded.Malformed a b)) c x y e last other h = h
-open_anew (Some decoded.InputEmpty) c x y e last other h = absurd (cc)
-
-pub go_on_anew : (c : Standing) (y : List ℕ) (e last : Bool) → ends_with c.answer true ≡ false → c.state.counts.read + length y ≤ 2 ^ 48 → CanGoOn c [] e → CanGoOn c y last
-go_on_anew c y e last other limit h = record {
-  sound = h.sound;
-  limit = limit;
-  tells = h.tells;
-  open_ = open_anew c.answer c [] y e last other h.open_;
-}
-
--- with none, and the same end
-pub open_again : (a : Option DecoderResult) (c : Standing) (x : List ℕ) (last : Bool) → IsOpenFor a c x last → IsOpenFor a c [] (ends_with a last)
-open_again None c x last h = h
-open_again (Some decoded.OutputFull) c x last h = h
-open_again (Some (decoded.Malformed a b)) c x last h = h
-open_again (Some decoded.InputEmpty) c x last h = (refl, h.1, h.2, h.3)
-
-pub go_on_again : (c : Standing) (x : List ℕ) (last : Bool) → CanGoOn c x last → CanGoOn c [] (ends_with c.answer last)
-go_on_again c x last h = record {
-  sound = h.sound;
-  limit = omega (arith, h.limit);
-  tells = h.tells;
-  open_ = open_again c.answer c x last h.open_;
-}
-
--- the end waits
-pub end_waits : (a : Option DecoderResult) (last : Bool) → ends_with a last ≡ true → a ≡ Some decoded.InputEmpty
-end_waits None last e = absurd (cc)
-end_waits (Some decoded.OutputFull) last e = absurd (cc)
-end_waits (Some (decoded.Malformed a b)) last e = absurd (cc)
-end_waits (Some decoded.InputEmpty) last e = refl
-
-end_of : (a : Option DecoderResult) (c : Standing) (x : List ℕ) (last : Bool) → ends_with a last ≡ true → IsOpenFor a c x last → (last ≡ true) × (x ≡ [])
-end_of None c x last e h = absurd (cc)
-end_of (Some decoded.OutputFull) c x last e h = absurd (cc)
-end_of (Some (decoded.Malformed a b)) c x last e h = absurd (cc)
-end_of (Some decoded.InputEmpty) c x last e h = (e, h.0)
-
--- ---- how a call ends
-
--- whether a call ended with all converted
-abbrev pub is_all : ConverterResult → Bool
-is_all InputEmpty = true
-is_all OutputFull = false
-is_all (Found line) = false
-
-pub ended_with : (c : Standing) (x : List ℕ) (last : Bool) (free : ℕ) (result : ConverterResult) → ConvertEndsWith c x last free result → ends_with c.answer last ≡ true → (last ≡ true) × (x ≡ [])
-ended_with c x last free InputEmpty h e = absurd (cc (sym e ∙ ap (λ a. ends_with a last) h.1))
-ended_with c x last free OutputFull h e = end_of c.answer c x last e h.1.open_
-ended_with c x last free (Found line) h e = end_of c.answer c x last e h.1.open_
+  ended = λ end. ended_with c' rest last free result ends (sym is ∙ end);
+})
 
 and_true : (t : Bool) → (t && true) ≡ t
 and_true true = refl
@@ -148,24 +179,44 @@ and_false false = refl
 none_waits : (c : Standing) → c.answer ≡ None → c.text ≡ [] → waiting c ≡ []
 none_waits c none empty = rw (none, empty) refl
 
-pub ends_of : (j : Job) (c : Standing) (x : List ℕ) (last : Bool) (free : ℕ) (result : ConverterResult) → ConvertEndsWith c x last free result → EndsWith (view_at j c (ends_with c.answer last) (last && is_all result)) x last free result
-ends_of j c x last free InputEmpty h = record {
+none_owed : (s : State) → to_write s [] ≡ [] → owed_after [] s [] ≡ []
+none_owed s h = ap (λ (n : ℕ). trace_from (reference_form s.policy) s.coding s.set (s.counts.read - n) s.counts.index (s.decoder.pieces [])) (omega arith) ∙ h
+
+ends_in : (j : Job) (c : Standing) (x : List ℕ) (last : Bool) (free : ℕ) (result : ConverterResult) → ConvertEndsWith c x last free result → EndsWith (view_at j c (ends_with c.answer last) (last && is_input_empty result)) x last free result
+ends_in j c x last free InputEmpty h = record {
   all = h.0;
   none = none_waits c h.1 h.2;
   settled = h.3.settled;
   over = and_true last;
   ended = ap (λ a. ends_with a last) h.1;
-  whole = λ e. record { written = rw (none_waits c h.1 h.2) (h.3.end e); told = rw (none_waits c h.1 h.2) (h.3.told e) };
+  whole = λ e. record { written = rw (none_waits c h.1 h.2) (none_owed c.state (h.3.end e)); told = rw (none_waits c h.1 h.2) (h.3.told e) };
 }
-ends_of j c x last free OutputFull h = (h.0, and_false last)
-ends_of j c x last free (Found line) h = (h.0, and_false last)
+ends_in j c x last free OutputFull h = (h.0, and_false last)
+ends_in j c x last free (Found line) h = (h.0, and_false last)
 
--- after a call that did not end it a converter can go on
-pub goes_on : (c : Standing) (x : List ℕ) (last : Bool) (free : ℕ) (result : ConverterResult) → c.state.counts.read ≤ 2 ^ 48 → ConvertEndsWith c x last free result → (last && is_all result) ≡ false → CanGoOn c [] (ends_with c.answer last)
-goes_on c x last free InputEmpty within h open_ = ready_start c [] (ends_with c.answer last) h.1 h.2 (omega (arith, within)) (h.3.ready (open_last last open_))
-  where
-    open_last : (last : Bool) → (last && true) ≡ false → last ≡ false
-    open_last true e = absurd (cc)
-    open_last false e = refl
-goes_on c x last free OutputFull within h open_ = go_on_again c x last h.1
-goes_on c x last free (Found line) within h open_ = go_on_again c x last h.1
+pub ends_of : (j : Job) (c : Standing) (x : List ℕ) (last : Bool) (free : ℕ) (result : ConverterResult) (e o : Bool) → ConvertEndsWith c x last free result → e ≡ ends_with c.answer last → o ≡ (last && is_input_empty result)
+    → EndsWith (view_at j (after_call c last) e o) x last free result
+ends_of j c x last free result e o h is all =
+    subst (λ v. EndsWith v x last free result) (sym (view_after j c last e o))
+    (subst (λ (e : Bool). EndsWith (view_at j c e o) x last free result) (sym is)
+    (subst (λ (o : Bool). EndsWith (view_at j c (ends_with c.answer last) o) x last free result) (sym all) (ends_in j c x last free result h)))
+
+open_last : (last : Bool) → (last && true) ≡ false → last ≡ false
+open_last true e = absurd (cc)
+open_last false e = refl
+
+goes_on : (c : Standing) (x : List ℕ) (last : Bool) (free : ℕ) (result : ConverterResult) → c.state.counts.read ≤ 2 ^ 48 → ConvertEndsWith c x last free result → (last && is_input_empty result) ≡ false → CanGoOn c x last
+goes_on c x last free InputEmpty within h open_ = ready_start c x last h.1 h.2 (omega (arith, within, ap length h.0)) (h.3.ready (open_last last open_))
+goes_on c x last free OutputFull within h open_ = h.1
+goes_on c x last free (Found line) within h open_ = h.1
+
+-- a converter rests after a call that did not end it
+pub rests_of : (c : Standing) (x : List ℕ) (last : Bool) (free : ℕ) (result : ConverterResult) (e o : Bool) → c.state.counts.read ≤ 2 ^ 48 → ConvertEndsWith c x last free result → e ≡ ends_with c.answer last → o ≡ (last && is_input_empty result) → o ≡ false
+    → IsAtRest (after_call c last) e
+rests_of c x last free result e o within h is all open_ = subst (IsAtRest (after_call c last)) (sym is) (rests_after c x last (goes_on c x last free result within h (sym all ∙ open_)))
+
+-- ---- the standing of an engine over the text that was kept
+pub standing_kept : {D E : Type 0} (view : D → DecoderView) (parts : E → EncoderParts) (p : Policy) (e : Engine D E) (pivot : Pivot) (text : List ℕ) → is_wide pivot ≡ false → text ≡ text_of pivot
+    → standing view parts p e pivot ≡ standing view parts p e (over_text text)
+standing_kept view parts p e (Utf8 bytes) text form same = ap (λ t. standing view parts p e (over_text t)) (sym same)
+standing_kept view parts p e (Utf16 units) text form same = absurd (cc)

@@ -141,6 +141,11 @@ pub end_none : {A P B : Type 0} (last : Bool) → (A × P) ⊎ ((last ≡ false)
 end_none last (inl h) e = h.1
 end_none last (inr h) e = absurd (false≢true (sym h.0 ∙ e))
 
+-- nor a byte
+pub end_pending : {A P B : Type 0} (last : Bool) → (A × P) ⊎ ((last ≡ false) × B) → last ≡ true → A
+end_pending last (inl h) e = h.0
+end_pending last (inr h) e = absurd (false≢true (sym h.0 ∙ e))
+
 pub full_some : (before after : DecoderState) (src : List ℕ) (last : Bool) (read : ℕ) (W : List ℕ → Type 0) (text : List ℕ) (outcome : DecoderResult)
     → StateLaw before after src last read W outcome → IsText W text → ((t : List ℕ) → W t → 0 < length t) → 0 < length text
 full_some before after src last read W text outcome k e some =

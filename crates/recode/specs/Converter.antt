@@ -64,6 +64,12 @@ found_items ref OutputFull = []
 found_items ref (Found (Bad offset size)) = MalformedAt offset size ∷ []
 found_items ref (Found (Lost index scalar)) = LostAt index scalar ∷ map Byte (reference_bytes ref scalar)
 
+-- whether a call ended with all converted
+abbrev pub is_input_empty : ConverterResult → Bool
+is_input_empty InputEmpty = true
+is_input_empty OutputFull = false
+is_input_empty (Found line) = false
+
 -- THE LAW. Of these bytes the rest is left. Whatever comes after them, nothing after the last: what was owed is these
 -- items, then what is owed now.
 pub record ConvertsPart (v v' : ConverterView) (last : Bool) (bytes rest : List ℕ) (items : List Item) : Type 0 where

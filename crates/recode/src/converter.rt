@@ -11,13 +11,13 @@ ghost use Rattle.recode.specs.Policy.{reference_form};
 ghost use Rattle.recode.specs.calls.Buffers.{capacity, is_wide};
 ghost use Rattle.recode.specs.calls.EngineView.{HoldsBetween, converter_view, over_text, standing};
 ghost use Rattle.recode.specs.calls.EngineView.{text_of};
-ghost use Rattle.recode.specs.calls.Turns.{CanGoOn};
+ghost use Rattle.recode.specs.calls.Turns.{IsAtRest};
 ghost use Rattle.recode.specs.declared.job.Policy.{Policy};
 
 use crate::engine::Engine;
-use crate::job::{Job, Pivot, Report};
+use crate::job::{Job, Pivot};
 use encoding_front::{Decoder, StreamDecoder, VariantEncoder};
-use encoding_mem::{DecoderResult, RawEncoder};
+use encoding_mem::RawEncoder;
 use recode_log::line::LogLine;
 
 /// What a call of a converter ended with.
@@ -30,6 +30,21 @@ pub enum ConverterResult {
     /// Something is lost, after what was written. For a lost character its reference, if one is to
     /// be written, is the caller's to write.
     Found(LogLine),
+}
+
+impl ConverterResult {
+    ghost use Rattle.std.specs.Prelude.{◌≡◌, ◌&&◌};
+    ghost use Rattle.recode.specs.Converter.{is_input_empty};
+
+    // Whether all is converted, and nothing comes after it.
+    fn ends(self, last: bool) -> bool
+        ensures { result ≡ (last && is_input_empty self) }
+    {
+        match self {
+            ConverterResult::InputEmpty => last,
+            ConverterResult::OutputFull | ConverterResult::Found(_) => false,
+        }
+    }
 }
 
 // How many bytes of text wait at most.
@@ -54,11 +69,10 @@ pub struct Converter<'t> {
     ghost small: { job.limit ≤ 2 ^ 48 },
     ghost within: { engine.counts.read ≤ job.limit },
     ghost holds: { HoldsBetween (over_text text) engine.from engine.to },
-    ghost waits: { ended ≡ true → engine.answer ≡ Some DecoderResult.InputEmpty },
-    ghost ready: { over ≡ false → CanGoOn (standing
+    ghost rests: { over ≡ false → IsAtRest (standing
         ⟦<Decoder<'static> as StreamDecoder>⟧.view
         ⟦<VariantEncoder<'static> as RawEncoder>⟧.parts Policy.Decimal engine
-        (over_text text)) [] ended },
+        (over_text text)) ended },
 }
 
 impl<'t> Viewed for Converter<'t> {
@@ -106,38 +120,6 @@ impl<'t> Converter<'t> {
         self.job.limit - self.engine.counts.read
     }
 
-    // A call of the engine, with the text that waits.
-    fn pump(
-        &mut self,
-        src: &[u8],
-        dst: &mut [u8],
-        last: bool,
-    ) -> (ConverterResult, usize, usize)
-        requires ready { CanGoOn (standing
-            ⟦<Decoder<'static> as StreamDecoder>⟧.view
-            ⟦<VariantEncoder<'static> as RawEncoder>⟧.parts Policy.Decimal self.old.engine
-            (over_text self.old.text)) src.now last }
-        requires limit { self.old.engine.counts.read + length src.now ≤ self.old.job.limit }
-        ensures law { ConvertsPart (seen self.old) (seen self.new) last src.now
-            (drop result.1 src.now) (map Byte (take result.2 dst.new)
-            ++ found_items (reference_form self.old.job.policy) result.0) }
-        ensures ends { EndsWith (seen self.new) (drop result.1 src.now) last
-            (length dst.new - result.2) result.0 }
-        ensures within { result.1 ≤ length src.now }
-        ensures wrote { WritesBytes dst.old dst.new result.2 }
-    {
-        let mut text = self.text;
-        let mut again = [0; ROOM];
-        let mut pivot = Pivot::Utf8(&mut text);
-        let mut check = Pivot::Utf8(&mut again);
-        let (result, read, written) =
-            self.engine.convert(src, dst, &mut pivot, &mut check, last);
-        keep_text(&pivot, &mut self.text);
-        self.ended = self.engine.ends(last);
-        self.over = last && matches!(result, ConverterResult::InputEmpty);
-        (result, read, written)
-    }
-
     /// Converts bytes of the input. Returns how the call ended, how many bytes it read and how many
     /// it wrote.
     pub fn convert(
@@ -158,16 +140,16 @@ impl<'t> Converter<'t> {
         ensures within { result.1 ≤ length src.now }
         ensures wrote { WritesBytes dst.old dst.new result.2 }
     {
-        if !matches!(self.engine.answer, Some(DecoderResult::InputEmpty)) {
-            return self.pump(src, dst, last);
-        }
-        // Of the bytes that were read before, text waits that is written first.
-        let (result, _, front) = self.pump(&[], dst, self.ended);
-        if self.over || !matches!(result, ConverterResult::InputEmpty) {
-            return (result, 0, front);
-        }
-        let (result, read, written) = self.pump(src, &mut dst[front..], last);
-        (result, read, front + written)
+        let mut text = self.text;
+        let mut again = [0; ROOM];
+        let mut pivot = Pivot::Utf8(&mut text);
+        let mut check = Pivot::Utf8(&mut again);
+        let (result, read, written) =
+            self.engine.convert(src, dst, &mut pivot, &mut check, last);
+        keep_text(&pivot, &mut self.text);
+        self.ended = self.engine.settle(last);
+        self.over = result.ends(last);
+        (result, read, written)
     }
 }
 

@@ -89,7 +89,7 @@ impl<D: StreamDecoder, E: RawEncoder> Engine<D, E> {
     ghost use Rattle.recode.specs.calls.Text.{CanEncode};
     ghost use Rattle.recode.specs.calls.Turns.{CanGoOn, ConvertEndsWith, EncodesOnce, Turns};
     ghost use Rattle.recode.specs.Converter.{found_items};
-    ghost use Rattle.recode.specs.calls.Turns.{end_count, ends_with, stop_count};
+    ghost use Rattle.recode.specs.calls.Turns.{end_count, ends_with, settled, stop_count};
     ghost use Rattle.recode.specs.calls.Turns.{stop_items, waits};
     ghost use Rattle.recode.specs.declared.job.Policy.{Policy};
 
@@ -195,11 +195,28 @@ impl<D: StreamDecoder, E: RawEncoder> Engine<D, E> {
         }
     }
 
-    /// Whether the text that waits is the last.
-    pub fn ends(&self, last: bool) -> bool
+    // Whether the text that waits is the last.
+    fn ends(&self, last: bool) -> bool
         ensures { result ≡ ends_with self.now.answer last }
     {
         last && matches!(self.answer, Some(DecoderResult::InputEmpty))
+    }
+
+    /// Ends a call, so that more bytes can come: the decoder is asked again after the text that waits,
+    /// unless it is the last. Returns whether it is.
+    pub fn settle(&mut self, last: bool) -> bool
+        ensures ends { result ≡ ends_with self.old.answer last }
+        ensures same { self.new ≡ record self.old { answer = settled self.old.answer last } }
+    {
+        match self.answer {
+            Some(DecoderResult::InputEmpty) => {
+                if !last {
+                    self.answer = Some(DecoderResult::OutputFull);
+                }
+                last
+            }
+            _ => false,
+        }
     }
 
     // Asks the decoder, if no text waits. Returns how many bytes it read.

@@ -114,7 +114,8 @@ IsOpenFor None c src last = (c.text ≡ []) × (c.state.finished ≡ false)
 IsOpenFor (Some decoded.OutputFull) c src last = c.state.finished ≡ false
 IsOpenFor (Some (decoded.Malformed a b)) c src last = (c.state.finished ≡ false) × (1 ≤ a) × (a ≤ 4) × (c.state.decoder.pending ≡ b)
 IsOpenFor (Some decoded.InputEmpty) c src last =
-    (src ≡ []) × (c.state.finished ≡ last) × IsNearlyDecided c.state.decoder × (last ≡ true → c.state.decoder.pieces [] ≡ [])
+    (src ≡ []) × (c.state.finished ≡ last) × IsNearlyDecided c.state.decoder
+    × (last ≡ true → (c.state.decoder.pending ≡ 0) × (c.state.decoder.pieces [] ≡ []))
 
 -- A call can be made with these bytes.
 pub record CanGoOn (c : Standing) (src : List ℕ) (last : Bool) : Type 0 where
@@ -122,6 +123,32 @@ pub record CanGoOn (c : Standing) (src : List ℕ) (last : Bool) : Type 0 where
   pub limit : c.state.counts.read + length src ≤ 2 ^ 48
   pub tells : CanTell c.state.verdict c.state.coding c.state.set c.text
   pub open_ : IsOpenFor c.answer c src last
+
+-- whether the text that waits is the last
+abbrev pub ends_with : Option DecoderResult → Bool → Bool
+ends_with None last = false
+ends_with (Some decoded.InputEmpty) last = last
+ends_with (Some decoded.OutputFull) last = false
+ends_with (Some (decoded.Malformed a b)) last = false
+
+-- after a call: if the text that waits is not the last, the decoder is asked again after it
+abbrev pub settled : Option DecoderResult → Bool → Option DecoderResult
+settled None last = None
+settled (Some decoded.InputEmpty) true = Some decoded.InputEmpty
+settled (Some decoded.InputEmpty) false = Some decoded.OutputFull
+settled (Some decoded.OutputFull) last = Some decoded.OutputFull
+settled (Some (decoded.Malformed a b)) last = Some (decoded.Malformed a b)
+
+-- Between two calls of a converter, before all is written: the text that waits is the last if the end was read; otherwise
+-- the decoder is asked again after it.
+pub record IsAtRest (c : Standing) (ended : Bool) : Type 0 where
+  pub sound : AreCountedSoundly c
+  pub tells : CanTell c.state.verdict c.state.coding c.state.set c.text
+  pub finished : c.state.finished ≡ ended
+  pub none : c.answer ≡ None → c.text ≡ []
+  pub malformed : (a b : ℕ) → c.answer ≡ Some (decoded.Malformed a b) → (1 ≤ a) × (a ≤ 4) × (c.state.decoder.pending ≡ b)
+  pub end : ended ≡ true → (c.answer ≡ Some decoded.InputEmpty) × (c.state.decoder.pending ≡ 0) × (length (c.state.decoder.pieces []) ≡ 0)
+  pub more : ended ≡ false → ends_with c.answer true ≡ false
 
 -- 1 if all that was handed in is converted
 abbrev pub end_count : ConverterResult → ℕ
@@ -143,13 +170,6 @@ stop_items ref (Some result) = found_items ref result
 abbrev pub stop_count : Option ConverterResult → ℕ
 stop_count None = 0
 stop_count (Some result) = end_count result
-
--- whether the text that waits is the last
-abbrev pub ends_with : Option DecoderResult → Bool → Bool
-ends_with None last = false
-ends_with (Some decoded.InputEmpty) last = last
-ends_with (Some decoded.OutputFull) last = false
-ends_with (Some (decoded.Malformed a b)) last = false
 
 -- 1 if text waits
 abbrev pub waits : Option DecoderResult → ℕ
