@@ -10,7 +10,7 @@ use Rattle.recode.specs.Converter.{ConverterView, ConvertsPart, EndsWith, IsConv
 use Rattle.recode.specs.Policy.{reference_form}
 use Rattle.recode.specs.State.{State, to_write}
 use Rattle.recode.specs.calls.Chunk.{CanConvert, IsDoneWith}
-use Rattle.recode.specs.calls.EngineView.{HoldsBetween, over_text, standing, text_of}
+use Rattle.recode.specs.calls.EngineView.{HoldsBetween, chars_between, engine_state, over_text, standing, text_of}
 use Rattle.encoding_front.specs.calls.Stream.{DecoderView}
 use Rattle.encoding_mem.specs.calls.EncoderRule.{EncoderParts}
 use Rattle.recode.specs.declared.engine.Engine.{Engine}
@@ -22,7 +22,8 @@ use Rattle.recode.specs.declared.converter.ConverterResult.TheVariants.{Found, I
 use Rattle.recode.specs.declared.job.Job.{Job}
 use Rattle.recode.specs.declared.job.Pivot.{Pivot}
 use Rattle.recode.specs.declared.job.Pivot.TheVariants.{Utf8, Utf16}
-use Rattle.recode.proofs.ShellLemmas.{ready_start}
+use Rattle.recode.proofs.ShellLemmas.{between_none, holds_none, ready_start, sound_start}
+use Rattle.recode.specs.calls.Verdict.{CanTell}
 
 -- ---- the text that waits, in a pivot and out of it
 
@@ -220,3 +221,24 @@ pub standing_kept : {D E : Type 0} (view : D → DecoderView) (parts : E → Enc
     → standing view parts p e pivot ≡ standing view parts p e (over_text text)
 standing_kept view parts p e (Utf8 bytes) text form same = ap (λ t. standing view parts p e (over_text t)) (sym same)
 standing_kept view parts p e (Utf16 units) text form same = absurd (cc)
+
+-- an engine of which nothing is read
+new_rests : (c : Standing) → c.answer ≡ None → c.text ≡ [] → CanConvert c.state → IsAtRest c false
+new_rests c none empty h = record {
+  sound = sound_start c none empty h.sound;
+  tells = subst (CanTell c.state.verdict c.state.coding c.state.set) (sym empty) h.tells;
+  finished = h.open_;
+  none = λ _. empty;
+  malformed = λ a b e. absurd (cc (sym none ∙ e));
+  end = λ e. absurd (cc);
+  more = λ _. ap (λ a. ends_with a true) none;
+}
+
+-- no text stands between a place and itself
+pub none_between : (p : Pivot) (from to : ℕ) → from ≡ 0 → to ≡ 0 → (chars_between p from to ≡ []) × HoldsBetween p from to
+none_between p from to is ends = rw (is, ends) (between_none p, holds_none p)
+
+pub new_engine_rests : {D E : Type 0} (view : D → DecoderView) (parts : E → EncoderParts) (e : Engine D E) (text : List ℕ) → e.answer ≡ None → e.from ≡ 0 → e.to ≡ 0 → CanConvert (engine_state view parts Policy.Decimal e)
+    → IsAtRest (standing view parts Policy.Decimal e (over_text text)) false
+new_engine_rests view parts e text none from to h =
+    new_rests (standing view parts Policy.Decimal e (over_text text)) none (none_between (over_text text) e.from e.to from to).0 h

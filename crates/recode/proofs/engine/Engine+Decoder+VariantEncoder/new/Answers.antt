@@ -1,16 +1,16 @@
 use Rattle.std.proofs.Common.{arith, refl, rules}
 use Rattle.recode.proofs.NewVerdictLemmas.{new_can_tell, new_verdict}
-use Rattle.recode.proofs.session.Session.new.Goals as goal
+use Rattle.recode.proofs.engine.Engine+Decoder+VariantEncoder.new.Goals as goal
 
-pub invariant_of-result-clause-ready : goal.invariant_of-result-clause-ready
-invariant_of-result-clause-ready c = λ open_. record {
+pub returns-clause-ready : goal.returns-clause-ready
+returns-clause-ready c = record {
   open_ = search rules;
   sound = record { index = omega (arith, c.new.ensures.begins.pending); bad = omega arith; lost = omega arith };
   tells = rw (c.new-2.ensures.coding, c.new-2.ensures.set) (new_can_tell c.args.job c.requires _ (rw c.output_encoding.ensures at c.new-3.ensures.begins) _ c.keeps_characters.ensures);
 }
 
-pub returns : goal.returns
-returns c = record {
+pub returns-clause-begins : goal.returns-clause-begins
+returns-clause-begins c = record {
   job = refl;
   open_ = refl;
   source = c.new.ensures.begins.source;
