@@ -62,14 +62,18 @@ pub record IsNewSession (v : View) (j : Job) : Type 0 where
   pub owes_trace : (x : List ℕ) → to_write v.state x ≡ whole_trace j x
   pub verdict : (x : List ℕ) → WillBeFaithful v.state x ↔ Faithful j x
 
+-- what is reported of a conversion that has read all
+pub record IsTold (s : State) (p : Report) : Type 0 where
+  pub read : p.read ≡ s.counts.read
+  pub bad : p.bad ≡ s.counts.bad
+  pub lost : p.lost ≡ s.counts.lost
+  pub calls : p.calls ≡ s.counts.calls
+  pub encoding : p.encoding ≡ s.source []
+  pub verdict : p.faithful ≡ s.verdict.faithful
+
 -- what a session says once it has read all
-pub record Tells (v : View) (p : Report) : Type 0 where
-  pub read : p.read ≡ v.state.counts.read
-  pub bad : p.bad ≡ v.state.counts.bad
-  pub lost : p.lost ≡ v.state.counts.lost
-  pub calls : p.calls ≡ v.state.counts.calls
-  pub encoding : p.encoding ≡ v.state.source []
-  pub verdict : p.faithful ≡ v.state.verdict.faithful
+abbrev pub Tells : View → Report → Type 0
+Tells v p = IsTold v.state p
 
 -- the report on the conversion of an input x: its counts, its source encoding and its verdict
 pub record IsReport (j : Job) (x : List ℕ) (p : Report) : Type 0 where

@@ -8,6 +8,7 @@ ghost use Rattle.recode.specs.Converter.{ConverterView, ConvertsPart, EndsWith, 
 ghost use Rattle.recode.specs.Converter.{found_items};
 ghost use Rattle.recode.specs.Job.{IsValidJob};
 ghost use Rattle.recode.specs.Policy.{reference_form};
+ghost use Rattle.recode.specs.Session.{IsTold};
 ghost use Rattle.recode.specs.calls.Buffers.{capacity, is_wide};
 ghost use Rattle.recode.specs.calls.EngineView.{HoldsBetween, converter_view, over_text, standing};
 ghost use Rattle.recode.specs.calls.EngineView.{text_of};
@@ -15,7 +16,7 @@ ghost use Rattle.recode.specs.calls.Turns.{IsAtRest};
 ghost use Rattle.recode.specs.declared.job.Policy.{Policy};
 
 use crate::engine::Engine;
-use crate::job::{Job, Pivot};
+use crate::job::{Job, Pivot, Report};
 use encoding_front::{Decoder, StreamDecoder, VariantEncoder};
 use encoding_mem::RawEncoder;
 use recode_log::line::LogLine;
@@ -111,6 +112,21 @@ impl<'t> Converter<'t> {
         ensures { result ≡ (seen self.now).ended }
     {
         self.ended
+    }
+
+    /// What the conversion reports, once all was read and written; `None` before that.
+    ///
+    /// `Report::calls` counts the calls of codecs, and has no bound here: it depends on the sizes of
+    /// `src` and `dst`.
+    pub fn report(&self) -> Option<Report>
+        ensures done { IsSome result ↔ ((seen self.now).over ≡ true) }
+        ensures tells { IfSome result (IsTold (seen self.now).state) }
+    {
+        if self.over {
+            Some(self.engine.report())
+        } else {
+            None
+        }
     }
 
     /// How many more bytes the job's limit allows. The test of a condition of `convert`.

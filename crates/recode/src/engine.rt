@@ -5,7 +5,7 @@ use crate::codec_calls::{
     PivotText, decode_to_pivot, encode_from_pivot, text_between, write_replacement,
 };
 use crate::converter::ConverterResult;
-use crate::job::{Job, Pivot};
+use crate::job::{Job, Pivot, Report};
 use crate::target::Counts;
 use crate::verdict::Verdict;
 use encoding_front::{Decoder, Mark, StreamDecoder, VariantEncoder};
@@ -32,7 +32,8 @@ pub struct Engine<D, E> {
 impl<'t> Engine<Decoder<'t>, VariantEncoder<'t>> {
     ghost use Rattle.std.specs.Prelude.{◌≡◌, None};
     ghost use Rattle.recode.specs.Job.{IsValidJob};
-    ghost use Rattle.recode.specs.Session.{IsNewSession};
+    ghost use Rattle.recode.specs.Session.{IsNewSession, IsTold};
+    ghost use Rattle.recode.specs.declared.job.Policy.{Policy};
     ghost use Rattle.recode.specs.calls.Chunk.{CanConvert};
     ghost use Rattle.recode.specs.calls.EngineView.{engine_state};
     ghost use Rattle.recode.specs.declared.session.Phase.TheVariants.{Open};
@@ -70,6 +71,21 @@ impl<'t> Engine<Decoder<'t>, VariantEncoder<'t>> {
             answer: None,
             from: 0,
             to: 0,
+        }
+    }
+
+    /// The report on what was converted, if all was read and written.
+    pub fn report(&self) -> Report
+        ensures { (p : Policy) → IsTold (engine_state ⟦<Decoder<'t> as StreamDecoder>⟧.view
+            ⟦<VariantEncoder<'t> as RawEncoder>⟧.parts p self.now) result }
+    {
+        Report {
+            read: self.counts.read,
+            bad: self.counts.bad,
+            lost: self.counts.lost,
+            calls: self.counts.calls,
+            encoding: self.decoder.encoding(),
+            faithful: self.verdict.faithful,
         }
     }
 }

@@ -46,7 +46,7 @@
 mod chunk;
 mod codec_calls;
 pub mod conversion;
-mod converter;
+pub mod converter;
 mod engine;
 mod entry;
 mod indexes;
@@ -59,6 +59,7 @@ mod verdict;
 mod writers;
 
 pub use conversion::{FAITHFUL, FAULT, NOT_FAITHFUL, convert};
+pub use converter::{Converter, ConverterResult};
 pub use encoding_front::{DecoderResult, EncoderResult, Encoding, Mark, Reference};
 pub use encoding_tables::Tables;
 pub use entry::{NOT_STARTED, REFUSED, program};

@@ -96,22 +96,8 @@ impl<'t> Session<'t> {
         ensures tells { IfSome result (Tells (view_of self.now)) }
     {
         match self.phase {
-            Phase::Done => Some(self.totals()),
+            Phase::Done => Some(self.engine.report()),
             Phase::Open | Phase::Stopped => None,
-        }
-    }
-
-    fn totals(&self) -> Report
-        ensures { Tells (view_of self.now) result }
-    {
-        let counts = self.engine.counts;
-        Report {
-            read: counts.read,
-            bad: counts.bad,
-            lost: counts.lost,
-            calls: counts.calls,
-            encoding: self.engine.decoder.encoding(),
-            faithful: self.engine.verdict.faithful,
         }
     }
 
@@ -246,7 +232,7 @@ pub fn run<R: Read, W: Write, L: Write>(
     'run: loop {
         match session.step(reader, writer, log, buffers) {
             Ok(Progress::More) => {}
-            Ok(Progress::Done) => return Ok(session.totals()),
+            Ok(Progress::Done) => return Ok(session.engine.report()),
             Err(fault) => return Err(fault),
         }
     }

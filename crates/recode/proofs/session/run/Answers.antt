@@ -54,7 +54,7 @@ returns-in-Ok-Done-clause-completes g c =
     let e = c.in-Ok-Done.ensures in
     completes _ _ c.args.job (view_of c.new-session.result) (view_of c.step.new.self) _ c.requires.job c.new-session.ensures
     (goes_on_finish _ _ _ _ _ _ _ c.run.invariant.ran (finishes_within _ _ (ap (λ (j : Job). j.limit) c.run.invariant.job) (e.done (ap Ok c.in-Ok-Done.field-0-is))))
-    c.totals.ensures
+    (c.report.ensures _)
 
 pub returns-in-Err-clause-fails : goal.returns-in-Err-clause-fails
 returns-in-Err-clause-fails g c =
