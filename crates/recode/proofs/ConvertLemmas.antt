@@ -58,7 +58,7 @@ use Rattle.encoding_mem.specs.declared.encoder_result.EncoderResult.{EncoderResu
 use Rattle.encoding_mem.specs.declared.encoder_result.EncoderResult.TheVariants.{Unmappable}
 use Rattle.encoding_mem.specs.declared.reference.Reference.{Reference}
 use Rattle.recode.specs.WrittenItems.{AreCounted, bad_line_count, lost_line_count}
-use Rattle.recode.specs.declared.target.Counts.{Counts}
+use Rattle.recode.specs.declared.counts.Counts.{Counts}
 
 -- ---- a pivot
 

@@ -16,7 +16,7 @@ use Rattle.encoding_mem.specs.declared.decoder_result.DecoderResult.TheVariants.
 use Rattle.encoding_mem.specs.laws.Piece.{scalars-append, sizes-append}
 use Rattle.encoding_mem.specs.laws.EncoderCalls.{last_set-append}
 use Rattle.recode.specs.calls.TraceToWrite.{trace_to_write, AreSound}
-use Rattle.recode.specs.declared.target.Counts.{Counts}
+use Rattle.recode.specs.declared.counts.Counts.{Counts}
 
 -- of texts in a row
 pub open_items-append : (ref : Reference) (e : Coding) (s : EscapeState) (i : ℕ) (a b : List ℕ) → open_items ref e s i (a ++ b) ≡ open_items ref e s i a ++ open_items ref e (last_set e s a) (i + length a) b

@@ -16,7 +16,7 @@ use Rattle.recode.specs.calls.Held.{LeavesPrefix, LeavesPrefixFor, Passes, Passe
 use Rattle.recode.specs.declared.job.Fault.{Fault}
 use Rattle.recode.specs.declared.job.Fault.TheVariants.{Write, Log, Unmappable}
 use Rattle.recode.specs.declared.job.Policy.{Policy}
-use Rattle.recode.specs.declared.target.Counts.{Counts}
+use Rattle.recode.specs.declared.counts.Counts.{Counts}
 use Rattle.recode.specs.declared.writers.MalformedLine.{MalformedLine}
 use Rattle.recode.proofs.TraceLemmas.{AreCounted-trans, Wrote-nil, Wrote-trans, WritesPrefix-of, WritesPrefixFor-of, bad_line_count-bytes, handed_on, left_behind, lost_line_count-append, lost_line_count-bytes, spared_append, spared_nil, tagged-append, under_bytes, under_lines, written_first, written_spared, wrote_bytes, wrote_line}
 

@@ -29,7 +29,7 @@ use Rattle.recode.specs.Devices.{Devices, KeepsWritten, Written}
 use Rattle.recode.specs.TaggedByte.{IsPrefix, log_bytes, tagged, output_bytes}
 use Rattle.recode.specs.calls.TraceToWrite.{AreSound, trace_to_write}
 use Rattle.recode.specs.Session.{IsNewSession, View}
-use Rattle.recode.specs.declared.target.Counts.{Counts}
+use Rattle.recode.specs.declared.counts.Counts.{Counts}
 use Rattle.recode.specs.declared.job.Job.{Job}
 use Rattle.recode.specs.declared.job.Policy.{Policy}
 use Rattle.recode.proofs.DecoderCallLemmas.{MalformedCall, WellFormedCall}

@@ -18,7 +18,7 @@ use Rattle.recode.specs.declared.job.Policy.{Policy}
 use Rattle.encoding_mem.specs.Coding.{Coding, IsCoding, open_from, whole_from, last_set, lost_count, unmapped_count, reference_bytes, AllMapped, IsMapped}
 use Rattle.encoding_mem.specs.declared.form.EscapeState.{EscapeState}
 use Rattle.encoding_mem.specs.declared.form.EscapeState.TheVariants.{Ascii}
-use Rattle.recode.specs.declared.target.Counts.{Counts}
+use Rattle.recode.specs.declared.counts.Counts.{Counts}
 use Rattle.std.specs.List.{flat_map}
 use Rattle.encoding_mem.specs.Piece.{Piece, well_formed, malformed, text, malformed_count, AreWellFormed}
 use Rattle.encoding_mem.specs.laws.EncoderCalls.{item_bytes-append, item_bytes-bytes, item_bytes-open_items, all_mapped-append, last_set-append, open_from-append}

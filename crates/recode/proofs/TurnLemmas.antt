@@ -19,7 +19,7 @@ use Rattle.recode.specs.Work.{IsCounted}
 use Rattle.recode.specs.calls.Text.{TargetState, text_items}
 use Rattle.recode.specs.calls.Turns.{AreCountedSoundly, EncodesTurn, Standing, Turns, WillBeKept, due, owed, reported, spare, text_pieces, waiting}
 use Rattle.recode.specs.calls.Verdict.{IsFaithfulFor, VerdictIsKept, VerdictView, to_read}
-use Rattle.recode.specs.declared.target.Counts.{Counts}
+use Rattle.recode.specs.declared.counts.Counts.{Counts}
 use Rattle.recode.proofs.DecoderCallLemmas.{trace_well_formed}
 use Rattle.recode.proofs.TraceLemmas.{AreCounted-trans}
 use Rattle.recode.proofs.VerdictLemmas.{both_ways, true_or_false}

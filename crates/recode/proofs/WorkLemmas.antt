@@ -6,7 +6,7 @@ use Rattle.recode_log.specs.declared.line.LogLine.TheVariants.{Bad, Lost}
 use Rattle.recode.specs.TaggedByte.{Line, output_bytes, tagged}
 use Rattle.recode.specs.Work.{IsCounted, TakesCalls}
 use Rattle.recode.specs.WrittenItems.{bad_line_count, lost_line_count}
-use Rattle.recode.specs.declared.target.Counts.{Counts}
+use Rattle.recode.specs.declared.counts.Counts.{Counts}
 use Rattle.recode.proofs.TraceLemmas.{output_bytes-append, output_bytes-lines}
 
 -- Calls of a decoder, then of an encoder: what was still to be written is this, then what is still to be written now.

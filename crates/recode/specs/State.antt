@@ -9,7 +9,7 @@ use Rattle.recode.specs.Policy.{reference_form}
 use Rattle.recode.specs.calls.TraceToWrite.{trace_to_write}
 use Rattle.recode.specs.calls.Verdict.{IsFaithfulFor, VerdictView}
 use Rattle.recode.specs.declared.job.Policy.{Policy}
-use Rattle.recode.specs.declared.target.Counts.{Counts}
+use Rattle.recode.specs.declared.counts.Counts.{Counts}
 
 -- The pieces of the bytes to come, whether the decoder has ended, and the encoding that the input turns out to be in
 -- with them; the target's rule and the set in force, and what is done about characters without bytes; whether something

@@ -1,7 +1,7 @@
 -- How many calls of codecs a conversion takes.
 use Rattle.std.specs.Prelude.{ℕ, ◌+◌, ◌*◌, ◌^◌, ◌-◌, ◌<◌, ◌≤◌, Bool, true, false, List, length, min}
 use Rattle.encoding_mem.specs.Items.{Item}
-use Rattle.recode.specs.declared.target.Counts.{Counts}
+use Rattle.recode.specs.declared.counts.Counts.{Counts}
 
 -- As many calls were counted, at least and at most. The count stops at the greatest number.
 pub record IsCounted (least most calls calls' : ℕ) : Type 0 where

@@ -7,7 +7,7 @@ use Rattle.recode.specs.TaggedByte.{TaggedByte, Wrote, IsPrefix, tagged}
 use Rattle.recode.specs.declared.job.Fault.{Fault}
 use Rattle.recode.specs.declared.job.Fault.TheVariants.{Read, Write, Log, TooLong, Unmappable}
 use Rattle.recode.specs.declared.job.Policy.{Policy}
-use Rattle.recode.specs.declared.target.Counts.{Counts}
+use Rattle.recode.specs.declared.counts.Counts.{Counts}
 
 -- how many of the items are lines of malformed sequences
 abbrev pub bad_line_count : List Item → ℕ

@@ -160,8 +160,7 @@ impl<'t> Converter<'t> {
         let mut again = [0; ROOM];
         let mut pivot = Pivot::Utf8(&mut text);
         let mut check = Pivot::Utf8(&mut again);
-        let (result, read, written) =
-            self.engine.convert(src, dst, &mut pivot, &mut check, last);
+        let (result, read, written) = self.engine.convert(src, dst, &mut pivot, &mut check, last);
         keep_text(&pivot, &mut self.text);
         self.ended = self.engine.settle(last);
         self.over = result.ends(last);

@@ -6,7 +6,7 @@ use crate::codec_calls::{
 };
 use crate::converter::ConverterResult;
 use crate::job::{Job, Pivot, Report};
-use crate::target::Counts;
+use crate::counts::Counts;
 use crate::verdict::Verdict;
 use encoding_front::{Decoder, Mark, StreamDecoder, VariantEncoder};
 use encoding_mem::{DecoderResult, EncoderResult, RawEncoder};

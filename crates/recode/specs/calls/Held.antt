@@ -9,7 +9,7 @@ use Rattle.recode.specs.TaggedByte.{Wrote, tagged}
 use Rattle.recode.specs.WrittenItems.{AreCounted, IsSpared, WritesPrefix, WritesPrefixFor}
 use Rattle.recode.specs.declared.job.Fault.{Fault}
 use Rattle.recode.specs.declared.job.Policy.{Policy}
-use Rattle.recode.specs.declared.target.Counts.{Counts}
+use Rattle.recode.specs.declared.counts.Counts.{Counts}
 use Rattle.recode.specs.declared.writers.MalformedLine.{MalformedLine}
 
 -- What a writer and a log have taken, and what is held: a line, if there is one, which the log is given next, and then

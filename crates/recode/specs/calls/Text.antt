@@ -7,7 +7,7 @@ use Rattle.encoding_mem.specs.declared.form.EscapeState.TheVariants.{Ascii}
 use Rattle.recode.specs.Policy.{reference_form}
 use Rattle.recode.specs.calls.Verdict.{CanTell, IsToldAtEnd, VerdictView}
 use Rattle.recode.specs.declared.job.Policy.{Policy}
-use Rattle.recode.specs.declared.target.Counts.{Counts}
+use Rattle.recode.specs.declared.counts.Counts.{Counts}
 
 -- What writes text, as contracts see it: the part of a state that does not speak of the decoder.
 pub record TargetState : Type 0 where

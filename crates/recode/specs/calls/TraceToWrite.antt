@@ -5,7 +5,7 @@ use Rattle.encoding_mem.specs.calls.Decoding.{DecoderState}
 use Rattle.encoding_mem.specs.Coding.{Coding}
 use Rattle.encoding_mem.specs.Items.{Item, trace_from}
 use Rattle.encoding_mem.specs.declared.form.EscapeState.{EscapeState}
-use Rattle.recode.specs.declared.target.Counts.{Counts}
+use Rattle.recode.specs.declared.counts.Counts.{Counts}
 
 -- the trace of the decoder's pieces, from the set of the encoder and the counts, with references of this form
 abbrev pub trace_to_write : Reference → DecoderState → Coding → EscapeState → Counts → List ℕ → List Item

@@ -3,7 +3,7 @@ use Rattle.std.specs.Prelude.{◌≡◌, ℕ, [], ◌∷◌, refl}
 use Rattle.std.proofs.Common.{arith}
 use Rattle.encoding_mem.specs.Items.{Byte, LostAt}
 use Rattle.recode.specs.Work.{IsCounted, TakesAtLeast, TakesCalls, ended_count, fewest_calls, most_calls}
-use Rattle.recode.specs.declared.target.Counts.{Counts}
+use Rattle.recode.specs.declared.counts.Counts.{Counts}
 use Rattle.std.specs.Prelude.{true, false}
 
 abbrev counts : (index calls : ℕ) → Counts

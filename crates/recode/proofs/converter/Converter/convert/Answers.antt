@@ -21,10 +21,10 @@ returns-clause-law c =
     let c1 = standing view-value.it parts-value.it j.policy k.new.self (over_text c.keep_text.new.text) in
     let kept = standing_kept view-value.it parts-value.it j.policy k.new.self k.new.pivot c.keep_text.new.text k.ensures.pivot.kind c.keep_text.ensures in
     rw (c.settle-self.ensures.same) (
-      part_of j c0 c1 _ _ _ _ c.args.last c.args.src.now _ _ (3 * end_count k.result.0) (2 * end_count k.result.0) _ k.result.0
-          (subst (λ z. Turns c0 z c.args.last c.args.src.now (drop k.result.1 c.args.src.now) (map Byte (take k.result.2 k.new.dst) ++ found_items (reference_form j.policy) k.result.0) (3 * end_count k.result.0) (2 * end_count k.result.0)) kept (k.ensures.law j.policy))
-          (subst (λ z. ConvertEndsWith z (drop k.result.1 c.args.src.now) c.args.last (length k.new.dst - k.result.2) k.result.0) kept (k.ensures.ends j.policy))
-          c.settle-self.ensures.ends)
+    part_of j c0 c1 _ _ _ _ c.args.last c.args.src.now _ _ (3 * end_count k.result.0) (2 * end_count k.result.0) _ k.result.0
+    (subst (λ z. Turns c0 z c.args.last c.args.src.now (drop k.result.1 c.args.src.now) (map Byte (take k.result.2 k.new.dst) ++ found_items (reference_form j.policy) k.result.0) (3 * end_count k.result.0) (2 * end_count k.result.0)) kept (k.ensures.law j.policy))
+    (subst (λ z. ConvertEndsWith z (drop k.result.1 c.args.src.now) c.args.last (length k.new.dst - k.result.2) k.result.0) kept (k.ensures.ends j.policy))
+    c.settle-self.ensures.ends)
 
 pub returns-clause-ends : goal.returns-clause-ends
 returns-clause-ends c =
@@ -32,9 +32,9 @@ returns-clause-ends c =
     let j = c.args.self.now.job in
     let kept = standing_kept view-value.it parts-value.it j.policy k.new.self k.new.pivot c.keep_text.new.text k.ensures.pivot.kind c.keep_text.ensures in
     rw (c.settle-self.ensures.same) (
-      ends_of j (standing view-value.it parts-value.it j.policy k.new.self (over_text c.keep_text.new.text)) _ c.args.last _ k.result.0 _ _
-          (subst (λ z. ConvertEndsWith z (drop k.result.1 c.args.src.now) c.args.last (length k.new.dst - k.result.2) k.result.0) kept (k.ensures.ends j.policy))
-          c.settle-self.ensures.ends c.ends-self.ensures)
+    ends_of j (standing view-value.it parts-value.it j.policy k.new.self (over_text c.keep_text.new.text)) _ c.args.last _ k.result.0 _ _
+    (subst (λ z. ConvertEndsWith z (drop k.result.1 c.args.src.now) c.args.last (length k.new.dst - k.result.2) k.result.0) kept (k.ensures.ends j.policy))
+    c.settle-self.ensures.ends c.ends-self.ensures)
 
 pub invariant_of-self-clause-holds : goal.invariant_of-self-clause-holds
 invariant_of-self-clause-holds c =
@@ -51,7 +51,7 @@ invariant_of-self-clause-rests c = λ open_.
     let k = c.convert-result in
     let kept = standing_kept view-value.it parts-value.it Policy.Decimal k.new.self k.new.pivot c.keep_text.new.text k.ensures.pivot.kind c.keep_text.ensures in
     rw (c.settle-self.ensures.same) (
-      rests_of (standing view-value.it parts-value.it Policy.Decimal k.new.self (over_text c.keep_text.new.text)) _ c.args.last _ k.result.0 _ _
-          (omega (arith, c.requires.limit, (k.ensures.law Policy.Decimal).counted, c.args.self.now.small))
-          (subst (λ z. ConvertEndsWith z (drop k.result.1 c.args.src.now) c.args.last (length k.new.dst - k.result.2) k.result.0) kept (k.ensures.ends Policy.Decimal))
-          c.settle-self.ensures.ends c.ends-self.ensures open_)
+    rests_of (standing view-value.it parts-value.it Policy.Decimal k.new.self (over_text c.keep_text.new.text)) _ c.args.last _ k.result.0 _ _
+    (omega (arith, c.requires.limit, (k.ensures.law Policy.Decimal).counted, c.args.self.now.small))
+    (subst (λ z. ConvertEndsWith z (drop k.result.1 c.args.src.now) c.args.last (length k.new.dst - k.result.2) k.result.0) kept (k.ensures.ends Policy.Decimal))
+    c.settle-self.ensures.ends c.ends-self.ensures open_)

@@ -3,7 +3,7 @@ use Rattle.encoding_mem.specs.Coding.{reference_bytes}
 use Rattle.encoding_mem.specs.Items.{Byte, LostAt}
 use Rattle.recode.specs.Policy.{reference_form}
 use Rattle.recode.specs.calls.Writers.{writers_view}
-use Rattle.recode.specs.declared.target.Counts.{Counts}
+use Rattle.recode.specs.declared.counts.Counts.{Counts}
 use Rattle.recode.proofs.HeldLemmas.{hands_each, passes_then, pays_lost, pays_under, stops_as}
 use Rattle.recode.proofs.PolicyLemmas.{form_written, goes_on_where_written, stops_where_none}
 use Rattle.recode.proofs.ShellLemmas.{err_map, ok_map}
