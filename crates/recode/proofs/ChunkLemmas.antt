@@ -5,7 +5,6 @@ use Rattle.recode.specs.State.{State, to_write}
 use Rattle.recode.specs.calls.Held.{LeavesPrefix, LeavesPrefixFor, Passes, WritersView, holding_none}
 use Rattle.recode.specs.WrittenItems.{WritesPrefixFor}
 use Rattle.recode.specs.declared.job.Fault.{Fault}
-use Rattle.recode.specs.declared.job.Policy.{Policy}
 use Rattle.encoding_mem.specs.Items.{Item}
 use Rattle.recode.proofs.HeldLemmas.{left_for_of, pays_for_held, pays_for_then, pays_for_under}
 
@@ -42,10 +41,6 @@ pub delivered_under : {T : Type 0} (r : Result T Fault) (w w1 w2 : WritersView) 
     → IfErr r (λ (f : Fault). (to_write : List Item) → LeavesPrefix w1 w2 s1.policy f to_write) → IfErr r (λ (f : Fault). WritesPrefixFor w.written w2.written s.policy f last (λ r. to_write s (a ++ r)))
 delivered_under r w w1 w2 s s1 last a b n none p h =
     subst (λ (v : WritersView). IfErr r (λ (f : Fault). LeavesPrefixFor v w2 s.policy f last (λ r. to_write s (a ++ r)))) none (delivered_part r w w1 w2 s s1 last a b n p h)
-
--- if nothing was held
-pub left_whole : (w w' : WritersView) (p : Policy) (f : Fault) (last : Bool) (a : List ℕ → List Item) → w ≡ holding_none w.written → LeavesPrefixFor w w' p f last a → WritesPrefixFor w.written w'.written p f last a
-left_whole w w' p f last a none h = subst (λ (v : WritersView). LeavesPrefixFor v w' p f last a) none h
 
 pub decodes_delivered : {T E : Type 0} (r : Result T E) (w w1 w2 : WritersView) (s s1 : State) (last : Bool) (chunk : List ℕ) (none : Type 0) → (none → w2 ≡ holding_none w2.written) → w ≡ holding_none w.written
     → ConvertsTo w w1 s s1 last chunk [] 1 → IsDoneWith s1 last → OnOk r (Passes w1 w2 []) → OnOk r none → OnOk r (DecodesChunk w.written w2.written s s1 chunk last)

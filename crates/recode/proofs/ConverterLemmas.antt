@@ -1,21 +1,20 @@
 -- What the calls of a converter are, by those of its engine.
-use Rattle.std.proofs.Common.{◌≡◌, ◌↔◌, ℕ, ◌+◌, ◌-◌, ◌<◌, ◌≤◌, ◌^◌, Bool, true, false, List, [], ◌∷◌, ◌++◌, length, Option, None, Some, inl, refl, sym, ◌∙◌, ap, subst, arith}
+use Rattle.std.proofs.Common.{◌≡◌, ℕ, ◌+◌, ◌-◌, ◌≤◌, ◌^◌, Bool, true, false, List, [], ◌∷◌, ◌++◌, length, Option, None, Some, inl, refl, sym, ◌∙◌, ap, subst, arith}
 use Rattle.std.specs.Prelude.{◌&&◌}
 use Rattle.encoding_mem.specs.Items.{Item, trace_from}
 use Rattle.encoding_mem.specs.Piece.{Piece, sizes}
 use Rattle.encoding_mem.specs.declared.decoder_result.DecoderResult.{DecoderResult}
 use Rattle.encoding_mem.specs.declared.decoder_result.DecoderResult.TheVariants as decoded
-use Rattle.recode_log.specs.declared.line.LogLine.{LogLine}
-use Rattle.recode.specs.Converter.{ConverterView, ConvertsPart, EndsWith, IsConverted, IsWhole, is_input_empty, owed_after}
+use Rattle.recode.specs.Converter.{ConverterView, ConvertsPart, EndsWith, is_input_empty, owed_after}
 use Rattle.recode.specs.Policy.{reference_form}
 use Rattle.recode.specs.State.{State, to_write}
-use Rattle.recode.specs.calls.Chunk.{CanConvert, IsDoneWith}
+use Rattle.recode.specs.calls.Chunk.{CanConvert}
 use Rattle.recode.specs.calls.EngineView.{HoldsBetween, chars_between, engine_state, over_text, standing, text_of}
 use Rattle.encoding_front.specs.calls.Stream.{DecoderView}
 use Rattle.encoding_mem.specs.calls.EncoderRule.{EncoderParts}
 use Rattle.recode.specs.declared.engine.Engine.{Engine}
 use Rattle.recode.specs.declared.job.Policy.{Policy}
-use Rattle.recode.specs.calls.Buffers.{capacity, is_wide}
+use Rattle.recode.specs.calls.Buffers.{is_wide}
 use Rattle.recode.specs.calls.Turns.{AreCountedSoundly, CanGoOn, ConvertEndsWith, IsAtRest, IsOpenFor, Standing, Turns, ends_with, reported, settled, text_pieces, waiting}
 use Rattle.recode.specs.declared.converter.ConverterResult.{ConverterResult}
 use Rattle.recode.specs.declared.converter.ConverterResult.TheVariants.{Found, InputEmpty, OutputFull}

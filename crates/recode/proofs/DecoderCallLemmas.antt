@@ -3,7 +3,7 @@
 use Rattle.std.proofs.Common.{◌≡◌, ℕ, suc, ◌+◌, ◌≤◌, Bool, true, false, ◌&&◌, List, [], ◌∷◌, ◌++◌, map, length, refl, sym, ◌∙◌, ap, arith, append_assoc, append-nil, length-append, add-zero, ◌-◌, ◌<◌, drop, subst, ◌⊎◌, inl, inr}
 use lib.Utf8.{scalar}
 use Rattle.std.proofs.lemmas.Bool.{false≢true}
-use Rattle.std.specs.Str.{chars, all_scalars}
+use Rattle.std.specs.Str.{all_scalars}
 use Rattle.encoding_mem.specs.declared.reference.Reference.{Reference}
 use Rattle.encoding_mem.specs.Piece.{Piece, well_formed, malformed, piece_scalars, sizes, scalars, AreWellFormed, ArePieces, piece_len}
 use Rattle.encoding_mem.specs.Coding.{Coding, last_set, IsCoding}
@@ -70,14 +70,6 @@ all_scalars-append (c ∷ a) b h k =
 pub scalars_are : (ps : List Piece) → ArePieces ps → all_scalars (scalars ps) ≡ true
 scalars_are [] h = refl
 scalars_are (p ∷ ps) h = all_scalars-append (piece_scalars p) (scalars ps) h.0.are_scalars (scalars_are ps h.1)
-
--- U+FFFD
-pub replacement_text : chars (239 ∷ 191 ∷ 189 ∷ []) ≡ 0xFFFD ∷ []
-unfolding chars
-replacement_text = refl
-
-pub open_replacement : (ref : Reference) (e : Coding) (s : EscapeState) (i : ℕ) → open_items ref e s i (0xFFFD ∷ []) ≡ whole_items ref e false s i (chars (239 ∷ 191 ∷ 189 ∷ []))
-open_replacement ref e s i = rw replacement_text (sym (append-nil (open_items ref e s i (0xFFFD ∷ []))))
 
 -- What a call of a decoder took, in words of the text that it wrote. W says which text was written.
 
@@ -189,9 +181,6 @@ module _ (before after : DecoderState) (src : List ℕ) (last : Bool) (read : �
   pub well_formed_fits : (c : Counts) → AreSound before.pending c → c.index + length t + after.pending ≤ c.read + read
   well_formed_fits c h = omega (arith, h.index, k.counted, k.fits)
 
-  pub well_formed_sound : (c c' : Counts) → AreSound before.pending c → c'.index ≡ c.index + length t → c'.read ≡ c.read + read → c'.bad ≤ c'.index → c'.lost ≤ c'.index → AreSound after.pending c'
-  well_formed_sound c c' h i r b l = record { index = omega (arith, well_formed_fits c h, i, r); bad = b; lost = l }
-
   -- what was still to be written is the text, then what is still to be written now
   well_formed_owed : (ref : Reference) (e : Coding) (s s' : EscapeState) (c c' : Counts) → before.pending ≤ c.read → s' ≡ last_set e s t → c'.index ≡ c.index + length t → c'.read ≡ c.read + read
       → (r : List ℕ) → (last ≡ true → r ≡ []) → trace_to_write ref before e s c (src ++ r) ≡ whole_items ref e false s c.index t ++ trace_to_write ref after e s' c' (drop read src ++ r)
@@ -231,43 +220,6 @@ at_end ref before after src read t k e s s' c c' law all none set_is =
     ∙ sym (append-nil (whole_items ref e true s c.index t))
     ∙ ap (λ x. whole_items ref e true s c.index t ++ x) (sym (none_owed ref after e s' c' law set_is none))
 
--- what was still to be written before a call that read all
-pub ended_owed : (ref : Reference) {need : ℕ} (before after : DecoderState) (src : List ℕ) (last : Bool) (read : ℕ) (t : List ℕ) (k : WellFormedCall before after src last read t)
-    (e : Coding) (s s' : EscapeState) (c c' : Counts) → IsCoding need e → before.pending ≤ c.read → drop read src ≡ [] → (last ≡ true → after.pieces [] ≡ [])
-    → (last ≡ false → s' ≡ last_set e s t) → (last ≡ true → s' ≡ Ascii)
-    → c'.index ≡ c.index + length t → c'.read ≡ c.read + read
-    → (r : List ℕ) → (last ≡ true → r ≡ []) → trace_to_write ref before e s c (src ++ r) ≡ whole_items ref e last s c.index t ++ trace_to_write ref after e s' c' (drop read src ++ r)
-ended_owed ref before after src false read t k e s s' c c' law fits all none set_is ascii index_is read_is r h =
-    well_formed_owed before after src false read t k ref e s s' c c' fits (set_is refl) index_is read_is r h
-ended_owed ref before after src true read t k e s s' c c' law fits all none set_is ascii index_is read_is r h =
-    ap (λ x. trace_to_write ref before e s c (src ++ x)) (h refl)
-    ∙ at_end ref before after src read t k e s s' c c' law all (none refl) (ascii refl)
-    ∙ ap (λ x. whole_items ref e true s c.index t ++ trace_to_write ref after e s' c' x) (sym (ap (λ x. x ++ r) all ∙ h refl))
-
--- the first part of what was still to be written before a call that failed while it wrote
-pub ended_prefix : (ref : Reference) (before after : DecoderState) (src : List ℕ) (last : Bool) (read : ℕ) (t : List ℕ) (k : WellFormedCall before after src last read t)
-    (e : Coding) (s : EscapeState) (c : Counts) → before.pending ≤ c.read → drop read src ≡ [] → (last ≡ true → after.pieces [] ≡ [])
-    → (r : List ℕ) → (last ≡ true → r ≡ []) → (rest : List Item) × (trace_to_write ref before e s c (src ++ r) ≡ whole_items ref e last s c.index t ++ rest)
-ended_prefix ref before after src false read t k e s c fits all none r h = (
-  trace_to_write ref after e (last_set e s t) (record c { read = c.read + read; index = c.index + length t }) (drop read src ++ r),
-  well_formed_owed before after src false read t k ref e s (last_set e s t) c (record c { read = c.read + read; index = c.index + length t }) fits refl refl refl r h,
-)
-ended_prefix ref before after src true read t k e s c fits all none r h =
-    let at = c.read - before.pending in (
-      [],
-      ap (λ x. trace_to_write ref before e s c (src ++ x)) (h refl)
-          ∙ ap (trace_from ref e s at c.index) (k.rest [] (λ _. refl))
-          ∙ ap (λ x. trace_from ref e s at c.index (k.taken ++ x)) (ap (λ x. after.pieces (x ++ [])) all ∙ none refl)
-          ∙ trace_well_formed ref e s at c.index k.taken [] k.fine
-          ∙ ap (λ (x : List ℕ). open_items ref e s c.index x ++ closing e (last_set e s x)) (sym k.text_is)
-          ∙ sym (append-nil (whole_items ref e true s c.index t)),
-    )
-
-pub full_owed : (ref : Reference) (before after : DecoderState) (src : List ℕ) (last : Bool) (read : ℕ) (t : List ℕ) (k : WellFormedCall before after src last read t)
-    (e : Coding) (s s' : EscapeState) (c c' : Counts) → before.pending ≤ c.read → s' ≡ last_set e s t → c'.index ≡ c.index + length t → c'.read ≡ c.read + read
-    → (r : List ℕ) → (last ≡ true → r ≡ []) → trace_to_write ref before e s c (src ++ r) ≡ whole_items ref e false s c.index t ++ trace_to_write ref after e s' c' (drop read src ++ r)
-full_owed ref before after src last read t k = well_formed_owed before after src last read t k ref
-
 some_taken : (ps : List Piece) → 0 < length (scalars ps) → 0 < length ps
 some_taken [] h = h
 some_taken (p ∷ ps) h = omega arith
@@ -279,9 +231,6 @@ full_left before after src last read t k some = well_formed_left before after sr
 module _ (before after : DecoderState) (src : List ℕ) (last : Bool) (read a b : ℕ) (t : List ℕ) (k : MalformedCall before after src last read a b t) where
   pub malformed_fits : (c : Counts) → AreSound before.pending c → c.index + length t + 1 + after.pending ≤ c.read + read
   malformed_fits c h = omega (arith, h.index, k.counted, k.fits, k.some, k.pending)
-
-  pub malformed_sound : (c c' : Counts) → AreSound before.pending c → c'.index ≡ c.index + length t + 1 → c'.read ≡ c.read + read → c'.bad ≤ c'.index → c'.lost ≤ c'.index → AreSound after.pending c'
-  malformed_sound c c' h i r x l = record { index = omega (arith, malformed_fits c h, i, r); bad = x; lost = l }
 
   -- the bytes before the piece that was met
   pub malformed_offset : (c : Counts) → AreSound before.pending c → a + b ≤ c.read + read
@@ -320,16 +269,3 @@ module _ (before after : DecoderState) (src : List ℕ) (last : Bool) (read a b 
   -- the parts of it, if a device failed
   pub malformed_text_prefix : (ref : Reference) (e : Coding) (s : EscapeState) (c : Counts) → before.pending ≤ c.read → (r : List ℕ) → (last ≡ true → r ≡ []) → (rest : List Item) × (trace_to_write ref before e s c (src ++ r) ≡ whole_items ref e false s c.index t ++ rest)
   malformed_text_prefix ref e s c fits r h = (_, malformed_is_first ref e s c (c.read + read - b - a) fits refl r h)
-
-  pub malformed_first_piece : (ref : Reference) (e : Coding) (s s1 : EscapeState) (c c1 : Counts) (offset : ℕ) → before.pending ≤ c.read → offset ≡ c.read + read - b - a → s1 ≡ last_set e s t → c1.index ≡ c.index + length t
-      → (r : List ℕ) → (last ≡ true → r ≡ []) → (rest : List Item) × (trace_to_write ref before e s c (src ++ r) ≡ (whole_items ref e false s c.index t ++ (MalformedAt offset a ∷ open_items ref e s1 c1.index (0xFFFD ∷ []))) ++ rest)
-  malformed_first_piece ref e s s1 c c1 offset fits offset_is set1_is index1_is r h = (
-    trace_to_write ref after e (e.set s1 0xFFFD) (record c { read = c.read + read; index = c1.index + 1 }) (drop read src ++ r),
-    malformed_owed ref e s s1 (e.set s1 0xFFFD) c c1 (record c { read = c.read + read; index = c1.index + 1 }) offset fits offset_is set1_is index1_is refl refl refl r h,
-  )
-
-  pub malformed_left : length (after.pieces (drop read src)) < length (before.pieces src)
-  malformed_left =
-      let e : before.pieces src ≡ k.prefix ++ (malformed a ∷ after.pieces (drop read src)) =
-      ap before.pieces (sym (append-nil src)) ∙ k.rest [] (λ _. refl) ∙ ap (λ x. k.prefix ++ (malformed a ∷ after.pieces x)) (append-nil (drop read src)) in
-      omega (arith, ap length e, length-append k.prefix (malformed a ∷ after.pieces (drop read src)))

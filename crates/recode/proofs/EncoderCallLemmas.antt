@@ -1,5 +1,5 @@
 -- What a call of an encoder says of items, by the index that its caller has counted.
-use Rattle.std.proofs.Common.{◌≡◌, ℕ, ◌+◌, ◌≤◌, ◌<◌, Bool, List, ◌∷◌, ◌++◌, map, length, take, ap, subst, arith, length-append}
+use Rattle.std.proofs.Common.{◌≡◌, ℕ, ◌+◌, ◌≤◌, ◌<◌, Bool, List, ◌++◌, map, length, take, ap, subst, arith, length-append}
 use Rattle.std.proofs.lemmas.List.{length-map, length-take-le}
 use Rattle.encoding_mem.specs.declared.reference.Reference.{Reference}
 use Rattle.encoding_mem.specs.Coding.{Coding, IsCoding}
@@ -22,8 +22,3 @@ turn_items ref e last outcome s text written s' rest i i' laws call passed =
 pub less_bytes : (a b : List Item) (bytes : List ℕ) (n : ℕ) → a ≡ map Byte (take n bytes) ++ b → n ≤ length bytes → 0 < n → length b < length a
 less_bytes a b bytes n e fits some =
     omega (arith, ap length e, length-append (map Byte (take n bytes)) b, length-map (take n bytes) Byte, length-take-le n bytes fits)
-
--- a note less
-pub less_note : (a b : List Item) (bytes : List ℕ) (note : Item) (more : List Item) → a ≡ map Byte bytes ++ ((note ∷ more) ++ b) → length b < length a
-less_note a b bytes note more e =
-    omega (arith, ap length e, length-append (map Byte bytes) ((note ∷ more) ++ b), length-append (note ∷ more) b)

@@ -4,7 +4,7 @@ use Rattle.std.proofs.lemmas.List.{map-append}
 use Rattle.std.proofs.lemmas.Slice.{take-put_mid_below}
 use borrow.Rule.Slice.PartMut.{put_mid}
 use Rattle.std.specs.Io.KnownBytes.{Appends}
-use Rattle.encoding_mem.specs.Items.{Item, Byte, LostAt, MalformedAt}
+use Rattle.encoding_mem.specs.Items.{Item, Byte, LostAt}
 use Rattle.recode_log.specs.Line.{line_bytes}
 use Rattle.recode_log.specs.declared.line.LogLine.{LogLine}
 use Rattle.recode_log.specs.declared.line.LogLine.TheVariants.{Bad, Lost}
@@ -18,7 +18,7 @@ use Rattle.recode.specs.declared.job.Fault.TheVariants.{Write, Log, Unmappable}
 use Rattle.recode.specs.declared.job.Policy.{Policy}
 use Rattle.recode.specs.declared.counts.Counts.{Counts}
 use Rattle.recode.specs.declared.writers.MalformedLine.{MalformedLine}
-use Rattle.recode.proofs.TraceLemmas.{AreCounted-trans, Wrote-nil, Wrote-trans, WritesPrefix-of, WritesPrefixFor-of, bad_line_count-bytes, handed_on, left_behind, lost_line_count-append, lost_line_count-bytes, spared_append, spared_nil, tagged-append, under_bytes, under_lines, written_first, written_spared, wrote_bytes, wrote_line}
+use Rattle.recode.proofs.TraceLemmas.{AreCounted-trans, Wrote-nil, Wrote-trans, WritesPrefixFor-of, bad_line_count-bytes, handed_on, left_behind, lost_line_count-append, lost_line_count-bytes, spared_append, spared_nil, tagged-append, under_bytes, under_lines, written_first, written_spared, wrote_bytes, wrote_line}
 
 -- ---- items in a row
 
@@ -63,45 +63,8 @@ left_held w w' v p f a h k = left_after w w' v p f [] a a h (spared_nil p) refl 
 
 -- ---- items that are counted
 
-pub pays_nil : (w : WritersView) (x : Counts) (p : Policy) (a : List Item) → PassesItems w w x x p a a
-pays_nil w x p a = record { passed = []; passes = passes_none w; counted = record { bad = omega arith; lost = omega arith }; spared = spared_nil p; equals = refl }
-
-pub pays_then : (w w' w'' : WritersView) (x y z : Counts) (p : Policy) (a b c : List Item) → PassesItems w w' x y p a b → PassesItems w' w'' y z p b c → PassesItems w w'' x z p a c
-pays_then w w' w'' x y z p a b c h k = record {
-  passed = h.passed ++ k.passed;
-  passes = passes_then w w' w'' h.passed k.passed h.passes k.passes;
-  counted = AreCounted-trans x y z h.passed k.passed h.counted k.counted;
-  spared = spared_append p h.passed k.passed h.spared k.spared;
-  equals = h.equals ∙ ap (λ l. h.passed ++ l) k.equals ∙ sym (append_assoc h.passed k.passed c);
-}
-
 pub pays_under : (w w' : WritersView) (v : Written) (x y : Counts) (p : Policy) (f : Fault) (a b : List Item) → PassesItems w w' x y p a b → WritesPrefix w'.written v p f (held_items w' ++ b) → WritesPrefix w.written v p f (held_items w ++ a)
 pays_under w w' v x y p f a b h k = left_after w w' v p f h.passed a b h.passes h.spared h.equals k
-
-pub pays_of : (w w' : WritersView) (x y : Counts) (p : Policy) (a a' b : List Item) → a' ≡ a → PassesItems w w' x y p a b → PassesItems w w' x y p a' b
-pays_of w w' x y p a a' b e h = record { passed = h.passed; passes = h.passes; counted = h.counted; spared = h.spared; equals = e ∙ h.equals }
-
-pub pays_to : (w w' : WritersView) (x y : Counts) (p : Policy) (a b c : List Item) → PassesItems w w' x y p a b → b ≡ c → PassesItems w w' x y p a c
-pays_to w w' x y p a b c h e = record { passed = h.passed; passes = h.passes; counted = h.counted; spared = h.spared; equals = h.equals ∙ ap (λ k. h.passed ++ k) e }
-
--- and then more
-pays_more : (w w' : WritersView) (x y : Counts) (p : Policy) (a b : List Item) → PassesItems w w' x y p a [] → PassesItems w w' x y p (a ++ b) b
-pays_more w w' x y p a b h = record {
-  passed = h.passed;
-  passes = h.passes;
-  counted = h.counted;
-  spared = h.spared;
-  equals = ap (λ k. k ++ b) h.equals ∙ append_assoc h.passed [] b;
-}
-
-pub pays_join : (w w' w'' : WritersView) (x y z : Counts) (p : Policy) (a b : List Item) → PassesItems w w' x y p a [] → PassesItems w' w'' y z p b [] → PassesItems w w'' x z p (a ++ b) []
-pays_join w w' w'' x y z p a b h k = pays_then w w' w'' x y z p (a ++ b) b [] (pays_more w w' x y p a b h) k
-
-pub left_join : (w w' w'' : WritersView) (x y : Counts) (p : Policy) (f : Fault) (a b : List Item) → PassesItems w w' x y p a [] → LeavesPrefix w' w'' p f b → LeavesPrefix w w'' p f (a ++ b)
-left_join w w' w'' x y p f a b h k = pays_under w w' w''.written x y p f (a ++ b) b (pays_more w w' x y p a b h) k
-
-pub left_of : (w w' : WritersView) (p : Policy) (f : Fault) (a a' : List Item) → a' ≡ a → LeavesPrefix w w' p f a → LeavesPrefix w w' p f a'
-left_of w w' p f a a' e h = WritesPrefix-of w.written w'.written p f (held_items w ++ a) (held_items w ++ a') (ap (λ x. held_items w ++ x) e) h
 
 -- bytes
 pub pays_bytes : (w w' : WritersView) (x y : Counts) (p : Policy) (bytes : List ℕ) (a b : List Item) → PassesBytes w w' bytes → y.bad ≡ x.bad → y.lost ≡ x.lost → a ≡ map Byte bytes ++ b → PassesItems w w' x y p a b
@@ -123,20 +86,7 @@ pays_lost w w' x y p i c b h same one goes_on = record {
   equals = refl;
 }
 
--- the line of a malformed sequence
-pub pays_malformed : (w w' : WritersView) (x y : Counts) (p : Policy) (offset size : ℕ) (b : List Item) → Passes w w' (MalformedAt offset size ∷ []) → y.bad ≡ x.bad + 1 → y.lost ≡ x.lost → PassesItems w w' x y p (MalformedAt offset size ∷ b) b
-pays_malformed w w' x y p offset size b h one same = record {
-  passed = MalformedAt offset size ∷ [];
-  passes = h;
-  counted = record { bad = omega (arith, one); lost = omega (arith, same) };
-  spared = λ stops. refl;
-  equals = refl;
-}
-
 -- ---- for every continuation
-
-pub pays_for_start : (w : WritersView) (x : Counts) (p : Policy) (last : Bool) (a : List ℕ → List Item) → PassesItemsFor w w x x p last a a
-pays_for_start w x p last a = record { passed = []; passes = passes_none w; counted = record { bad = omega arith; lost = omega arith }; spared = spared_nil p; equals = λ r h. refl }
 
 pub pays_for_then : (w w' w'' : WritersView) (x y z : Counts) (p : Policy) (last : Bool) (a b c : List ℕ → List Item) → PassesItemsFor w w' x y p last a b → PassesItemsFor w' w'' y z p last b c → PassesItemsFor w w'' x z p last a c
 pays_for_then w w' w'' x y z p last a b c h k = record {
@@ -152,17 +102,6 @@ pays_for_under w w' w'' x y p f last a b h k = record {
   taken = tagged h.passes.delivered ++ k.taken;
   wrote = Wrote-trans w.written w'.written w''.written _ _ h.passes.wrote k.wrote;
   left = λ r none. left_behind p f h.passes.delivered k.taken (held_items w ++ a r) (held_items w' ++ b r) (delivered_spared w w' p h.passed h.passes h.spared) (passed_of w w' h.passed (a r) (b r) h.passes (h.equals r none)) (k.left r none);
-}
-
-pub pays_for_of : (w w' : WritersView) (x x' y : Counts) (p : Policy) (last : Bool) (total : List Item) (a b : List ℕ → List Item) → x.bad ≡ x'.bad → x.lost ≡ x'.lost → PassesItems w w' x y p total []
-    → ((r : List ℕ) → (last ≡ true → r ≡ []) → a r ≡ total ++ b r) → PassesItemsFor w w' x' y p last a b
-unfolding pays_more
-pays_for_of w w' x x' y p last total a b same same' h e = record {
-  passed = h.passed;
-  passes = h.passes;
-  counted = record { bad = omega (arith, same, h.counted.bad); lost = omega (arith, same', h.counted.lost) };
-  spared = h.spared;
-  equals = λ r none. e r none ∙ (pays_more w w' x y p total (b r) h).equals;
 }
 
 -- what was held was written

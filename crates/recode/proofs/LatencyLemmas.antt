@@ -32,7 +32,7 @@ use Rattle.recode.specs.Session.{IsNewSession, View}
 use Rattle.recode.specs.declared.counts.Counts.{Counts}
 use Rattle.recode.specs.declared.job.Job.{Job}
 use Rattle.recode.specs.declared.job.Policy.{Policy}
-use Rattle.recode.proofs.DecoderCallLemmas.{MalformedCall, WellFormedCall}
+use Rattle.recode.proofs.DecoderCallLemmas.{WellFormedCall}
 use Rattle.recode.proofs.HeldLemmas.{written_whole}
 use Rattle.recode.proofs.TraceLemmas.{log_bytes-append_of_items, tagged-append, output_bytes-append, log_bytes-trace, output_bytes-trace, whole_from-append}
 
@@ -47,19 +47,6 @@ module _ (before after : DecoderState) (src : List ℕ) (read : ℕ) (t : List �
         rest = λ r. k.rest r (λ h. absurd (false≢true (sym on ∙ h)));
         set = set_is ∙ ap (last_set e s) is;
         index = omega (arith, index_is, ap length is);
-      }
-
-  pub malformed_advances : (last : Bool) (a b : ℕ) (k : MalformedCall before after src last read a b t) (e : Coding) (s s1 s' : EscapeState) (c c1 c' : Counts) → last ≡ false
-      → s1 ≡ last_set e s t → c1.index ≡ c.index + length t → s' ≡ e.set s1 0xFFFD → c'.index ≡ c1.index + 1
-      → Advances (λ r. before.pieces (src ++ r)) (λ r. after.pieces (drop read src ++ r)) e s s' c c'
-  malformed_advances last a b k e s s1 s' c c1 c' on set1_is index1_is set_is index_is =
-      let is : text (k.prefix ++ (malformed a ∷ [])) ≡ t ++ (0xFFFD ∷ []) =
-      text-append k.prefix (malformed a ∷ []) ∙ ap (λ x. x ++ (0xFFFD ∷ [])) (well_formed_text k.prefix k.fine ∙ sym k.text_is) in
-      record {
-        taken = k.prefix ++ (malformed a ∷ []);
-        rest = λ r. k.rest r (λ h. absurd (false≢true (sym on ∙ h))) ∙ sym (append_assoc k.prefix (malformed a ∷ []) (after.pieces (drop read src ++ r)));
-        set = set_is ∙ ap (λ (q : EscapeState). e.set q 0xFFFD) set1_is ∙ sym (last_set-append e s t (0xFFFD ∷ [])) ∙ ap (last_set e s) (sym is);
-        index = omega (arith, index1_is, index_is, ap length is, length-append t (0xFFFD ∷ []));
       }
 
 pub advances_start : (d : List ℕ → List Piece) (e : Coding) (s : EscapeState) (c : Counts) → Advances d d e s s c c

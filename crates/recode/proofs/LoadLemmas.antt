@@ -126,9 +126,6 @@ load_adds holds holds' dir old new kind text same told faultless loads keeps = r
   ];
 }
 
-pub adds_none : (holds holds' : FileTexts) (dir : List ℕ) (tables : IndexLists) → ((d f : List ℕ) → holds' d f ≡ holds d f) → AddsFromFiles holds holds' dir tables tables
-adds_none holds holds' dir tables same = record { same = same; added = λ was. was }
-
 pub adds_more : (a b c : FileTexts) (dir : List ℕ) (old mid new : IndexLists) → AddsFromFiles a b dir old mid → AddsFromFiles b c dir mid new → AddsFromFiles a c dir old new
 adds_more a b c dir old mid new first then_ = record {
   same = λ d f. then_.same d f ∙ first.same d f;

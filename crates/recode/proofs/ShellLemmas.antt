@@ -106,10 +106,6 @@ turns_convert w w' s s' p last x y is h =
       advances = λ on. let a = t.advances on in record { taken = a.taken; rest = a.rest_is; set = a.set; index = omega (arith, a.index) };
     }
 
--- nothing that stops was passed, if the policy goes on
-pub spared_where : (p : Policy) (items : List Item) → ¬ (p ≡ Policy.Stop) → IsSpared p items
-spared_where p items goes_on = λ stops. absurd (goes_on stops)
-
 pub spared_bytes : (p : Policy) (bytes : List ℕ) (more : List Item) → lost_line_count more ≡ 0 → IsSpared p (map Byte bytes ++ more)
 spared_bytes p bytes more none = λ stops. omega (arith, lost_line_count-append (map Byte bytes) more, lost_line_count-bytes bytes, none)
 
@@ -120,11 +116,6 @@ owes_less a b items is some = omega (arith, ap length is, length-append items b,
 pub ok_of : {T E A : Type 0} (r : Result T E) → A → OnOk r A
 ok_of (Ok x) k = k
 ok_of (Err e) k = tt
-
--- of two facts
-pub ok_both : {T E A B C : Type 0} (r : Result T E) → OnOk r A → OnOk r B → (A → B → C) → OnOk r C
-ok_both (Ok x) h k f = f h k
-ok_both (Err e) h k f = tt
 
 -- a fault that left a prefix of whatever is still to be written
 pub left_any : (w w' : WritersView) (p : Policy) (f : Fault) (last : Bool) (a : List ℕ → List Item) → ((to_write : List Item) → LeavesPrefix w w' p f to_write) → LeavesPrefixFor w w' p f last a

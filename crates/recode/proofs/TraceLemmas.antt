@@ -208,9 +208,6 @@ none_stopped : (p : Policy) (f : Fault) (taken : List TaggedByte) (written : Lis
 none_stopped p f taken written (inl is) = subst (λ (g : Fault). IsStop p g taken written) (sym is) tt
 none_stopped p f taken written (inr is) = subst (λ (g : Fault). IsStop p g taken written) (sym is) tt
 
-pub WritesPrefix-of : (w w' : Written) (p : Policy) (f : Fault) (a a' : List Item) → a' ≡ a → WritesPrefix w w' p f a → WritesPrefix w w' p f a'
-WritesPrefix-of w w' p f a a' e h = record { taken = h.taken; wrote = h.wrote; left = left_is p f h.taken a a' e h.left }
-
 -- n of the bytes
 pub under_bytes : (w w' l : Option (List ℕ)) (p : Policy) (f : Fault) (bs : List ℕ) (n : ℕ) (a b : List Item) → f ≡ Write → Appends w w' (take n bs) → a ≡ map Byte bs ++ b → WritesPrefix (record { output = w; log = l }) (record { output = w'; log = l }) p f a
 under_bytes w w' l p f bs n a b writer h e =
@@ -256,9 +253,6 @@ under_lines w l l' p f lines n items a more log e begins h = record {
 pub handed_on : {T : Type 0} (P : Fault → Type 0) (r : Result T Fault) (e : Fault) → IsErrAnd r (λ (x : Fault). x ≡ e) → P e → IfErr r P
 handed_on P (Ok x) e same h = tt
 handed_on P (Err x) e same h = subst P (sym same) h
-
-pub hands_on : {T : Type 0} (r : Result T Fault) (e : Fault) (w w' : Written) (p : Policy) (a : List Item) → IsErrAnd r (λ (x : Fault). x ≡ e) → WritesPrefix w w' p e a → IfErr r (λ (g : Fault). WritesPrefix w w' p g a)
-hands_on r e w w' p a same h = handed_on (λ (q : Fault). WritesPrefix w w' p q a) r e same h
 
 pub hands_on_for : {T : Type 0} (r : Result T Fault) (e : Fault) (w w' : Written) (p : Policy) (last : Bool) (a : List ℕ → List Item) → IsErrAnd r (λ (x : Fault). x ≡ e) → WritesPrefixFor w w' p e last a → IfErr r (λ (g : Fault). WritesPrefixFor w w' p g last a)
 hands_on_for r e w w' p last a same h = handed_on (λ (q : Fault). WritesPrefixFor w w' p q last a) r e same h

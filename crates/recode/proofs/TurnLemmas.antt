@@ -214,9 +214,6 @@ module _ (s : State) (d : DecoderState) (finished : Bool) (source : List ℕ →
 
 -- ---- the encoder
 
-abbrev pub encoded_state : State → TargetState → State
-encoded_state s t = record s { set = t.set; verdict = t.verdict; counts = t.counts }
-
 abbrev pub target_of_state : State → TargetState
 target_of_state s = record { coding = s.coding; set = s.set; policy = s.policy; verdict = s.verdict; counts = s.counts }
 

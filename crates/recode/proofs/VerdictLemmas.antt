@@ -20,7 +20,7 @@ use Rattle.encoding_mem.specs.declared.reference.Reference.{Reference}
 use Rattle.encoding_mem.specs.declared.encoder_result.EncoderResult.{EncoderResult}
 use Rattle.encoding_mem.specs.declared.encoder_result.EncoderResult.TheVariants.{InputEmpty, OutputFull, Unmappable}
 use Rattle.recode.specs.calls.Verdict.{CanTell, IsFaithfulFor, IsReadAlong, IsReadBack, IsToldAtEnd, IsToldByLog, VerdictIsKept, ReadsAsOther, ReadsAsText, VerdictView, to_read}
-use Rattle.recode.proofs.DecoderCallLemmas.{MalformedCall, WellFormedCall}
+use Rattle.recode.proofs.DecoderCallLemmas.{WellFormedCall}
 
 -- ---- facts that have one proof
 
@@ -187,13 +187,6 @@ next_tells e v s t h = record {
   });
 }
 
-pub begins_keeps : (e : Coding) (last : Bool) (v : VerdictView) (s : EscapeState) (t : List ℕ) → VerdictIsKept e last v s t v s t
-begins_keeps e last v s t = λ ref u ends. (λ h. h, λ h. h)
-
-pub was_true : (a b : Bool) → (a ≡ false → b ≡ false) → b ≡ true → a ≡ true
-was_true true b h is = refl
-was_true false b h is = absurd (false≢true (sym (h refl) ∙ is))
-
 -- ---- a call of the decoder
 
 pub both_ways : {A B C : Type 0} → A ↔ B → B ↔ C → A ↔ C
@@ -218,13 +211,6 @@ module _ (ref : Reference) (before after : DecoderState) (src : List ℕ) (last 
       → (r : List ℕ) → (last ≡ true → r ≡ []) → IsFaithfulFor ref v e s (before.pieces (src ++ r)) ↔ IsFaithfulFor ref v' e s' (after.pieces (drop read src ++ r))
   well_formed_verdict k ended keeps none r h =
       faithful_on ref e ended v v' s s' k.taken (after.pieces (drop read src ++ r)) (before.pieces (src ++ r)) t keeps (λ end. ap text (none end r h)) k.fine (well_formed_text k.taken k.fine ∙ sym k.text_is) (k.rest r h)
-
-  pub malformed_verdict : (a b : ℕ) (k : MalformedCall before after src last read a b t) → v'.faithful ≡ false
-      → (r : List ℕ) → (last ≡ true → r ≡ []) → IsFaithfulFor ref v e s (before.pieces (src ++ r)) ↔ IsFaithfulFor ref v' e s' (after.pieces (drop read src ++ r))
-  malformed_verdict a b k lost r h = (
-    λ x. absurd ((well_formed_parts k.prefix (malformed a ∷ after.pieces (drop read src ++ r)) (subst AreWellFormed (k.rest r h) x.1)).1.0),
-    λ x. absurd (false≢true (sym lost ∙ x.0)),
-  )
 
 -- if all is written, the verdict is known
 pub verdict_told : (ref : Reference) (e : Coding) (need : ℕ) → IsCoding need e → (v : VerdictView) (s : EscapeState) (ps : List Piece) → ps ≡ [] → s ≡ Ascii → IsToldAtEnd v → IsFaithfulFor ref v e s ps ↔ IsTrue v.faithful

@@ -5,8 +5,8 @@ use crate::codec_calls::{
     PivotText, decode_to_pivot, encode_from_pivot, text_between, write_replacement,
 };
 use crate::converter::ConverterResult;
-use crate::job::{Job, Pivot, Report};
 use crate::counts::Counts;
+use crate::job::{Job, Pivot, Report};
 use crate::verdict::Verdict;
 use encoding_front::{Decoder, Mark, StreamDecoder, VariantEncoder};
 use encoding_mem::{DecoderResult, EncoderResult, RawEncoder};

@@ -52,10 +52,10 @@ ghost use Rattle.recode.specs.declared.job.Report.{Report};
 ghost use Rattle.recode.specs.declared.session.Phase.{Phase};
 ghost use Rattle.recode.specs.declared.counts.Counts.{Counts};
 
+use crate::counts::Counts;
 use crate::indexes::{SourceFault, StartFault};
 use crate::job::{Fault, Policy, Progress, Report};
 use crate::session::Phase;
-use crate::counts::Counts;
 
 /// How a step ended, how far a session is, counts, policies, reports and faults are equal exactly
 /// when they are the same.

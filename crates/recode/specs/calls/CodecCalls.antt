@@ -14,12 +14,6 @@ DecodeCallEndsWith after unread last written InputEmpty =
 DecodeCallEndsWith after unread last written OutputFull = 0 < written
 DecodeCallEndsWith after unread last written (Malformed a b) = Unit {0}
 
--- whether a call of a decoder has nothing more to do
-abbrev pub reads_all : DecoderResult → Bool
-reads_all InputEmpty = true
-reads_all OutputFull = false
-reads_all (Malformed a b) = false
-
 -- whether a call of an encoder has nothing more to do
 abbrev pub writes_all : EncoderResult → Bool
 writes_all AllEncoded = true

@@ -1,8 +1,6 @@
 -- What a call is lent, and what of that is enough.
 use Rattle.std.specs.Prelude.{◌≡◌}
 use Rattle.recode.specs.calls.Buffers.{HoldsAnyCharacter, is_wide}
-use Rattle.recode.specs.calls.Verdict.{NeedsForm, VerdictView}
-use Rattle.recode.specs.declared.codec_calls.PivotText.{PivotText}
 use Rattle.recode.specs.declared.job.Pivot.{Pivot}
 
 -- enough for a chunk: pivot and check of one form for any character
@@ -10,8 +8,3 @@ pub record AreLent (p c : Pivot) : Type 0 where
   pub pivot : HoldsAnyCharacter p
   pub check : HoldsAnyCharacter c
   pub one_form : is_wide c ≡ is_wide p
-
--- For a text, which is read back as text of its form.
-pub record AreLentFor (v : VerdictView) (text : PivotText) (c : Pivot) : Type 0 where
-  pub check : HoldsAnyCharacter c
-  pub form : NeedsForm v c text

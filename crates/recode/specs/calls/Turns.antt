@@ -1,21 +1,19 @@
 -- What an engine owes, and what its calls do.
-use Rattle.std.specs.Prelude.{◌≡◌, ◌↔◌, ℕ, ◌+◌, ◌-◌, ◌*◌, ◌^◌, ◌<◌, ◌≤◌, List, [], ◌∷◌, ◌++◌, map, length, Bool, true, false, Option, None, Some}
-use Rattle.encoding_mem.specs.Coding.{last_set, reference_bytes}
-use Rattle.encoding_mem.specs.Items.{Byte, Item, LostAt, MalformedAt, trace_from}
+use Rattle.std.specs.Prelude.{◌≡◌, ◌↔◌, ℕ, ◌+◌, ◌-◌, ◌*◌, ◌^◌, ◌<◌, ◌≤◌, List, [], ◌∷◌, ◌++◌, length, Bool, true, false, Option, None, Some}
+use Rattle.encoding_mem.specs.Coding.{last_set}
+use Rattle.encoding_mem.specs.Items.{Item}
 use Rattle.encoding_mem.specs.Piece.{Piece, malformed, malformed_count, sizes, text, well_formed}
 use Rattle.encoding_mem.specs.declared.decoder_result.DecoderResult.{DecoderResult}
 use Rattle.encoding_mem.specs.declared.decoder_result.DecoderResult.TheVariants as decoded
 use Rattle.encoding_mem.specs.declared.reference.Reference.{Reference}
 use Rattle.recode_log.specs.Line.{IsValid}
-use Rattle.recode_log.specs.declared.line.LogLine.TheVariants.{Bad, Lost}
-use Rattle.recode.specs.Policy.{reference_form}
 use Rattle.recode.specs.Converter.{WillBeKeptAfter, found_items, owed_after}
 use Rattle.recode.specs.State.{State}
 use Rattle.recode.specs.Step.{IsNearlyDecided}
 use Rattle.recode.specs.WrittenItems.{AreCounted}
 use Rattle.recode.specs.calls.Chunk.{IsDoneWith}
 use Rattle.recode.specs.calls.Text.{TargetState, text_items, IsEncoded}
-use Rattle.recode.specs.calls.Verdict.{CanTell, IsFaithfulFor, VerdictIsKept}
+use Rattle.recode.specs.calls.Verdict.{CanTell, VerdictIsKept}
 use Rattle.recode.specs.Work.{TakesAtLeast, ended_count}
 use Rattle.recode.specs.declared.converter.ConverterResult.{ConverterResult}
 use Rattle.recode.specs.declared.converter.ConverterResult.TheVariants.{Found, InputEmpty, OutputFull}

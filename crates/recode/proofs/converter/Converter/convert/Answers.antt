@@ -1,4 +1,4 @@
-use Rattle.std.proofs.Common.{◌-◌, ◌*◌, ◌++◌, length, drop, take, map, arith, refl, rules, sym, subst}
+use Rattle.std.proofs.Common.{◌-◌, ◌*◌, ◌++◌, length, drop, take, map, arith, subst}
 use Rattle.encoding_front.specs.contracts.decoder.DecoderStreamDecoder.TheImpl.{view-value}
 use Rattle.encoding_front.specs.contracts.variant_encoder.VariantEncoderSourceEncoder.TheImpl.{parts-value}
 use Rattle.encoding_mem.specs.Items.{Byte}
