@@ -26,7 +26,7 @@ use borrow.Rule.Slice.PartMut.{post_of, put_mid}
 use Rattle.encoding_mem.specs.calls.EncoderRule.{WritesBytes}
 use Rattle.encoding_mem.proofs.DestinationLemmas.{drop_into, take_into}
 use Rattle.std.proofs.lemmas.Str.{encodes-append}
-use Rattle.recode.specs.calls.Turns.{AreCountedSoundly, CanGoOn, IsOpenFor, Standing, Turns, reported}
+use Rattle.recode.specs.calls.Turns.{AreCountedSoundly, CanGoOn, IsOpenFor, Standing, TakesTurns, reported}
 use Rattle.recode.specs.calls.Verdict.{CanTell}
 use Rattle.recode.specs.declared.job.Pivot.{Pivot}
 use Rattle.recode.specs.declared.job.Pivot.TheVariants.{Utf8, Utf16}
@@ -40,7 +40,7 @@ use Rattle.encoding_mem.specs.Coding.{Coding}
 use Rattle.encoding_mem.specs.Items.{MalformedAt}
 use Rattle.recode.specs.Work.{ended_count}
 use Rattle.recode.specs.calls.EngineView.{engine_state}
-use Rattle.recode.specs.calls.Turns.{EncodesOnce, EncodesTurn, ends_with}
+use Rattle.recode.specs.calls.Turns.{EncodesOnce, EncodesTurn, is_last_text}
 use Rattle.recode.specs.calls.VerdictView.{verdict_view}
 use Rattle.recode.specs.declared.engine.Engine.{Engine}
 use Rattle.recode.specs.declared.job.Policy.{Policy}
@@ -128,9 +128,9 @@ sound_from c none empty h = subst AreCountedSoundly (as_nothing_waits c none emp
 
 pub decode_turn_from : (c : Standing) → c.answer ≡ None → c.text ≡ [] → AreCountedSoundly c → (d : DecoderState) (finished : Bool) (source : List ℕ → Encoding) (src : List ℕ) (last : Bool) (read calls : ℕ) (answer : DecoderResult) (t : List ℕ)
     → IsDecoded c.state.decoder d src last read answer t → IsCounted 1 1 c.state.counts.calls calls → ((r : List ℕ) → (last ≡ true → r ≡ []) → c.state.source (src ++ r) ≡ source (drop read src ++ r))
-    → Turns c (record { state = decoded_state c.state d finished source read calls; answer = Some answer; text = t }) last src (drop read src) [] 0 0
+    → TakesTurns c (record { state = decoded_state c.state d finished source read calls; answer = Some answer; text = t }) last src (drop read src) [] 0 0
 decode_turn_from c none empty sound d finished source src last read calls answer t k one same_source =
-    subst (λ (z : Standing). Turns z (record { state = decoded_state c.state d finished source read calls; answer = Some answer; text = t }) last src (drop read src) [] 0 0) (sym (as_nothing_waits c none empty))
+    subst (λ (z : Standing). TakesTurns z (record { state = decoded_state c.state d finished source read calls; answer = Some answer; text = t }) last src (drop read src) [] 0 0) (sym (as_nothing_waits c none empty))
     (decode_turn c.state d finished source src last read calls answer t (sound_from c none empty sound) k one same_source)
 
 pub tells_next : (c : Standing) (t : List ℕ) → c.text ≡ [] → CanTell c.state.verdict c.state.coding c.state.set c.text → CanTell c.state.verdict c.state.coding c.state.set t
@@ -212,39 +212,39 @@ state_kept {D} {E} view parts p c c' d k =
 
 encode_turn_some : (s s' : State) (a : DecoderResult) (t rest : List ℕ) (last : Bool) (src : List ℕ) (items : List Item) (done : Bool) → s' ≡ record s { set = s'.set; verdict = s'.verdict; counts = s'.counts }
     → AreCountedSoundly (record { state = s; answer = Some a; text = t }) → IsOpenFor (Some a) (record { state = s; answer = Some a; text = t }) src last
-    → EncodesOnce (target_of_state s) (target_of_state s') (ends_with (Some a) last) t rest items done
-    → Turns (record { state = s; answer = Some a; text = t }) (record { state = s'; answer = Some a; text = rest }) last src src items (2 * ended_count done) (ended_count done)
+    → EncodesOnce (target_of_state s) (target_of_state s') (is_last_text (Some a) last) t rest items done
+    → TakesTurns (record { state = s; answer = Some a; text = t }) (record { state = s'; answer = Some a; text = rest }) last src src items (2 * ended_count done) (ended_count done)
 encode_turn_some s s' a t rest last src items done is sound open_ once =
-    let ended = ends_with (Some a) last in
+    let ended = is_last_text (Some a) last in
     let e : EncodesTurn (target_of_state s) (target_with s s'.set s'.verdict s'.counts) ended t rest items (ended_count done) =
     subst (λ (k : Coding). EncodesTurn (target_of_state s) (record { coding = k; set = s'.set; policy = s.policy; verdict = s'.verdict; counts = s'.counts }) ended t rest items (ended_count done)) once.encodes.target
     (subst (λ (k : Policy). EncodesTurn (target_of_state s) (record { coding = s'.coding; set = s'.set; policy = k; verdict = s'.verdict; counts = s'.counts }) ended t rest items (ended_count done)) once.encodes.policy once.encodes) in
-    subst (λ (z : State). Turns (record { state = s; answer = Some a; text = t }) (record { state = z; answer = Some a; text = rest }) last src src items (2 * ended_count done) (ended_count done)) (sym is)
+    subst (λ (z : State). TakesTurns (record { state = s; answer = Some a; text = t }) (record { state = z; answer = Some a; text = rest }) last src src items (2 * ended_count done) (ended_count done)) (sym is)
     (encode_turn s a s'.set s'.verdict s'.counts ended last src t rest items (ended_count done) sound e (tail_at_end a s t src last open_) (ends_last a last))
   where
-    tail_at_end : (a : DecoderResult) (s : State) (t src : List ℕ) (last : Bool) → IsOpenFor (Some a) (record { state = s; answer = Some a; text = t }) src last → ends_with (Some a) last ≡ true → (r : List ℕ) → (last ≡ true → r ≡ []) → reported (Some a) ++ s.decoder.pieces (src ++ r) ≡ []
+    tail_at_end : (a : DecoderResult) (s : State) (t src : List ℕ) (last : Bool) → IsOpenFor (Some a) (record { state = s; answer = Some a; text = t }) src last → is_last_text (Some a) last ≡ true → (r : List ℕ) → (last ≡ true → r ≡ []) → reported (Some a) ++ s.decoder.pieces (src ++ r) ≡ []
     tail_at_end InputEmpty s t src last h end r none = ap s.decoder.pieces (ap (λ x. x ++ r) h.0 ∙ none end) ∙ (h.3 end).1
     tail_at_end OutputFull s t src last h end r none = absurd (false≢true end)
     tail_at_end (Malformed a b) s t src last h end r none = absurd (false≢true end)
 
-    ends_last : (a : DecoderResult) (last : Bool) → ends_with (Some a) last ≡ true → last ≡ true
+    ends_last : (a : DecoderResult) (last : Bool) → is_last_text (Some a) last ≡ true → last ≡ true
     ends_last InputEmpty last end = end
     ends_last OutputFull last end = absurd (false≢true end)
     ends_last (Malformed a b) last end = absurd (false≢true end)
 
 -- one call of the encoder is a turn
 pub encode_turn_in : (c c' : Standing) (a : DecoderResult) (ended last : Bool) (src : List ℕ) (items : List Item) (done : Bool) → c.answer ≡ Some a → c'.answer ≡ c.answer → c'.state ≡ record c.state { set = c'.state.set; verdict = c'.state.verdict; counts = c'.state.counts }
-    → CanGoOn c src last → ended ≡ ends_with c.answer last
-    → EncodesOnce (target_of_state c.state) (target_of_state c'.state) ended c.text c'.text items done → Turns c c' last src src items (2 * ended_count done) (ended_count done)
+    → CanGoOn c src last → ended ≡ is_last_text c.answer last
+    → EncodesOnce (target_of_state c.state) (target_of_state c'.state) ended c.text c'.text items done → TakesTurns c c' last src src items (2 * ended_count done) (ended_count done)
 encode_turn_in c c' a ended last src items done some same is ready ends once =
     let was : c ≡ record { state = c.state; answer = Some a; text = c.text } = ap (λ (x : Option DecoderResult). record { state = c.state; answer = x; text = c.text }) some in
     let now : c' ≡ record { state = c'.state; answer = Some a; text = c'.text } = ap (λ (x : Option DecoderResult). record { state = c'.state; answer = x; text = c'.text }) (same ∙ some) in
-    subst (λ (z : Standing). Turns z c' last src src items (2 * ended_count done) (ended_count done)) (sym was)
-    (subst (λ (z : Standing). Turns (record { state = c.state; answer = Some a; text = c.text }) z last src src items (2 * ended_count done) (ended_count done)) (sym now)
+    subst (λ (z : Standing). TakesTurns z c' last src src items (2 * ended_count done) (ended_count done)) (sym was)
+    (subst (λ (z : Standing). TakesTurns (record { state = c.state; answer = Some a; text = c.text }) z last src src items (2 * ended_count done) (ended_count done)) (sym now)
     (encode_turn_some c.state c'.state a c.text c'.text last src items done is
     (record { index = (subst AreCountedSoundly was ready.sound).index; bad = ready.sound.bad; lost = ready.sound.lost })
     (open_as a c src last some ready.open_)
-    (subst (λ b. EncodesOnce (target_of_state c.state) (target_of_state c'.state) b c.text c'.text items done) (ends ∙ ap (λ x. ends_with x last) some) once)))
+    (subst (λ b. EncodesOnce (target_of_state c.state) (target_of_state c'.state) b c.text c'.text items done) (ends ∙ ap (λ x. is_last_text x last) some) once)))
   where
     open_by : (a : DecoderResult) (c : Standing) (src : List ℕ) (last : Bool) → IsOpenFor (Some a) c src last → IsOpenFor (Some a) (record { state = c.state; answer = Some a; text = c.text }) src last
     open_by InputEmpty c src last h = h
@@ -271,25 +271,25 @@ answer_of (Some x) h = (x, refl)
 
 -- ---- the end of a text, of an engine
 
-pub finish_full_in : (c c1 : Standing) (last : Bool) (x y : List ℕ) (items : List Item) → c1.answer ≡ Some OutputFull → c1.text ≡ [] → Turns c c1 last x y items 2 1 → Turns c (record c1 { answer = None }) last x y items 0 0
+pub finish_full_in : (c c1 : Standing) (last : Bool) (x y : List ℕ) (items : List Item) → c1.answer ≡ Some OutputFull → c1.text ≡ [] → TakesTurns c c1 last x y items 2 1 → TakesTurns c (record c1 { answer = None }) last x y items 0 0
 finish_full_in c c1 last x y items full empty h =
     let is : c1 ≡ record { state = c1.state; answer = Some OutputFull; text = [] } =
     ap (λ (a : Option DecoderResult). record { state = c1.state; answer = a; text = c1.text }) full ∙ ap (λ (t : List ℕ). record { state = c1.state; answer = Some OutputFull; text = t }) empty in
-    subst (λ (t : List ℕ). Turns c (record { state = c1.state; answer = None; text = t }) last x y items 0 0) (sym empty) (finish_full c c1.state last x y items (subst (λ (z : Standing). Turns c z last x y items 2 1) is h))
+    subst (λ (t : List ℕ). TakesTurns c (record { state = c1.state; answer = None; text = t }) last x y items 0 0) (sym empty) (finish_full c c1.state last x y items (subst (λ (z : Standing). TakesTurns c z last x y items 2 1) is h))
 
-pub finish_empty_in : (c c1 : Standing) (last : Bool) (x y : List ℕ) (items : List Item) → c1.answer ≡ Some InputEmpty → c1.text ≡ [] → Turns c c1 last x y items 2 1 → Turns c (record c1 { answer = None }) last x y items 3 2
+pub finish_empty_in : (c c1 : Standing) (last : Bool) (x y : List ℕ) (items : List Item) → c1.answer ≡ Some InputEmpty → c1.text ≡ [] → TakesTurns c c1 last x y items 2 1 → TakesTurns c (record c1 { answer = None }) last x y items 3 2
 finish_empty_in c c1 last x y items full empty h =
     let is : c1 ≡ record { state = c1.state; answer = Some InputEmpty; text = [] } =
     ap (λ (a : Option DecoderResult). record { state = c1.state; answer = a; text = c1.text }) full ∙ ap (λ (t : List ℕ). record { state = c1.state; answer = Some InputEmpty; text = t }) empty in
-    subst (λ (t : List ℕ). Turns c (record { state = c1.state; answer = None; text = t }) last x y items 3 2) (sym empty) (finish_empty c c1.state last x y items (subst (λ (z : Standing). Turns c z last x y items 2 1) is h))
+    subst (λ (t : List ℕ). TakesTurns c (record { state = c1.state; answer = None; text = t }) last x y items 3 2) (sym empty) (finish_empty c c1.state last x y items (subst (λ (z : Standing). TakesTurns c z last x y items 2 1) is h))
 
-pub replace_turn_in : (c c1 : Standing) (a b : ℕ) (last : Bool) (x y : List ℕ) (items : List Item) → c1.answer ≡ Some (Malformed a b) → c1.text ≡ [] → 1 ≤ a → c1.state.decoder.pending ≡ b → Turns c c1 last x y items 2 1
-    → Turns c (record { state = replaced_state c1.state; answer = Some OutputFull; text = 0xFFFD ∷ [] }) last x y (items ++ MalformedAt (c1.state.counts.read - b - a) a ∷ []) 0 0
+pub replace_turn_in : (c c1 : Standing) (a b : ℕ) (last : Bool) (x y : List ℕ) (items : List Item) → c1.answer ≡ Some (Malformed a b) → c1.text ≡ [] → 1 ≤ a → c1.state.decoder.pending ≡ b → TakesTurns c c1 last x y items 2 1
+    → TakesTurns c (record { state = replaced_state c1.state; answer = Some OutputFull; text = 0xFFFD ∷ [] }) last x y (items ++ MalformedAt (c1.state.counts.read - b - a) a ∷ []) 0 0
 replace_turn_in c c1 a b last x y items bad empty some pending h =
     let is : c1 ≡ record { state = c1.state; answer = Some (Malformed a b); text = [] } =
     ap (λ (a : Option DecoderResult). record { state = c1.state; answer = a; text = c1.text }) bad ∙ ap (λ (t : List ℕ). record { state = c1.state; answer = Some (Malformed a b); text = t }) empty in
-    subst (λ (n : ℕ). Turns c (record { state = replaced_state c1.state; answer = Some OutputFull; text = 0xFFFD ∷ [] }) last x y (items ++ MalformedAt (c1.state.counts.read - n - a) a ∷ []) 0 0) pending
-    (replace_turn c c1.state a b last x y items some (subst (λ (z : Standing). Turns c z last x y items 2 1) is h))
+    subst (λ (n : ℕ). TakesTurns c (record { state = replaced_state c1.state; answer = Some OutputFull; text = 0xFFFD ∷ [] }) last x y (items ++ MalformedAt (c1.state.counts.read - n - a) a ∷ []) 0 0) pending
+    (replace_turn c c1.state a b last x y items some (subst (λ (z : Standing). TakesTurns c z last x y items 2 1) is h))
 
 -- no policy is known to an engine
 open_under : (a : Option DecoderResult) (s : State) (x : Option DecoderResult) (t src : List ℕ) (last : Bool) (p : Policy) → IsOpenFor a (record { state = s; answer = x; text = t }) src last → IsOpenFor a (record { state = record s { policy = p }; answer = x; text = t }) src last
@@ -361,13 +361,13 @@ wrote_into old xs ys w k n size long p q = record {
 }
 
 -- a turn after others
-pub turn_after : (c0 c1 c2 : Standing) (last : Bool) (src : List ℕ) (read taken : ℕ) (a b : List Item) (m l : ℕ) → Turns c0 c1 last src (drop read src) a 0 0 → Turns c1 c2 last (drop read src) (drop taken (drop read src)) b m l → Turns c0 c2 last src (drop (read + taken) src) (a ++ b) m l
+pub turn_after : (c0 c1 c2 : Standing) (last : Bool) (src : List ℕ) (read taken : ℕ) (a b : List Item) (m l : ℕ) → TakesTurns c0 c1 last src (drop read src) a 0 0 → TakesTurns c1 c2 last (drop read src) (drop taken (drop read src)) b m l → TakesTurns c0 c2 last src (drop (read + taken) src) (a ++ b) m l
 turn_after c0 c1 c2 last src read taken a b m l p q =
     let most : 0 + m ≡ m = omega arith in
     let least : 0 + l ≡ l = omega arith in
-    subst (λ z. Turns c0 c2 last src z (a ++ b) m l) (drop-drop taken read src)
-    (subst (λ (k : ℕ). Turns c0 c2 last src (drop taken (drop read src)) (a ++ b) k l) most
-    (subst (λ (k : ℕ). Turns c0 c2 last src (drop taken (drop read src)) (a ++ b) (0 + m) k) least
+    subst (λ z. TakesTurns c0 c2 last src z (a ++ b) m l) (drop-drop taken read src)
+    (subst (λ (k : ℕ). TakesTurns c0 c2 last src (drop taken (drop read src)) (a ++ b) k l) most
+    (subst (λ (k : ℕ). TakesTurns c0 c2 last src (drop taken (drop read src)) (a ++ b) (0 + m) k) least
     (turns_more c0 c1 c2 last src (drop read src) (drop taken (drop read src)) a b 0 m 0 l p q)))
 
 pub bytes_from_start : (x : List ℕ) (n : ℕ) (t : List ℕ) → all_scalars t ≡ true → take n x ≡ encode_utf8_all t → chars (take (n - 0) (drop 0 x)) ≡ t

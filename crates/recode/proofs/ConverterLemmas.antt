@@ -5,17 +5,17 @@ use Rattle.encoding_mem.specs.Items.{Item, trace_from}
 use Rattle.encoding_mem.specs.Piece.{Piece, sizes}
 use Rattle.encoding_mem.specs.declared.decoder_result.DecoderResult.{DecoderResult}
 use Rattle.encoding_mem.specs.declared.decoder_result.DecoderResult.TheVariants as decoded
-use Rattle.recode.specs.Converter.{ConverterView, ConvertsPart, EndsWith, is_input_empty, owed_after}
+use Rattle.recode.specs.Converter.{ConverterView, ConvertsPart, ConverterEndsWith, is_all_converted, owed_after}
 use Rattle.recode.specs.Policy.{reference_form}
 use Rattle.recode.specs.State.{State, to_write}
 use Rattle.recode.specs.calls.Chunk.{CanConvert}
-use Rattle.recode.specs.calls.EngineView.{HoldsBetween, chars_between, engine_state, over_text, standing, text_of}
+use Rattle.recode.specs.calls.EngineView.{HoldsBetween, chars_between, engine_state, over_text, standing, pivot_bytes}
 use Rattle.encoding_front.specs.calls.Stream.{DecoderView}
 use Rattle.encoding_mem.specs.calls.EncoderRule.{EncoderParts}
 use Rattle.recode.specs.declared.engine.Engine.{Engine}
 use Rattle.recode.specs.declared.job.Policy.{Policy}
 use Rattle.recode.specs.calls.Buffers.{is_wide}
-use Rattle.recode.specs.calls.Turns.{AreCountedSoundly, CanGoOn, ConvertEndsWith, IsAtRest, IsOpenFor, Standing, Turns, ends_with, reported, settled, text_pieces, waiting}
+use Rattle.recode.specs.calls.Turns.{AreCountedSoundly, CanGoOn, ConvertEndsWith, IsBetweenCalls, IsOpenFor, Standing, TakesTurns, is_last_text, reported, settled, pieces_of_text, waiting}
 use Rattle.recode.specs.declared.converter.ConverterResult.{ConverterResult}
 use Rattle.recode.specs.declared.converter.ConverterResult.TheVariants.{Found, InputEmpty, OutputFull}
 use Rattle.recode.specs.declared.job.Job.{Job}
@@ -26,7 +26,7 @@ use Rattle.recode.specs.calls.Verdict.{CanTell}
 
 -- ---- the text that waits, in a pivot and out of it
 
-pub holds_kept : (p : Pivot) (text : List ℕ) (from to : ℕ) → is_wide p ≡ false → text ≡ text_of p → HoldsBetween p from to → HoldsBetween (over_text text) from to
+pub holds_kept : (p : Pivot) (text : List ℕ) (from to : ℕ) → is_wide p ≡ false → text ≡ pivot_bytes p → HoldsBetween p from to → HoldsBetween (over_text text) from to
 holds_kept (Utf8 bytes) text from to form same h = subst (λ t. HoldsBetween (over_text t) from to) (sym same) (record { order = h.order; within = h.within; scalars = h.scalars; whole = h.whole })
 holds_kept (Utf16 units) text from to form same h = absurd (cc)
 
@@ -50,18 +50,18 @@ empty_of : (ps : List Piece) → length ps ≡ 0 → ps ≡ []
 empty_of [] e = refl
 empty_of (p ∷ ps) e = absurd (omega (arith, e))
 
-open_from : (a : Option DecoderResult) (c : Standing) (ended : Bool) (src : List ℕ) (last : Bool) → c.answer ≡ a → IsAtRest c ended → (ended ≡ true → (src ≡ []) × (last ≡ true)) → IsOpenFor a c src last
+open_from : (a : Option DecoderResult) (c : Standing) (ended : Bool) (src : List ℕ) (last : Bool) → c.answer ≡ a → IsBetweenCalls c ended → (ended ≡ true → (src ≡ []) × (last ≡ true)) → IsOpenFor a c src last
 open_from None c ended src last is h with_end = (h.none is, h.finished ∙ not_ended ended (λ e. absurd (cc (sym is ∙ (h.end e).0))))
 open_from (Some decoded.OutputFull) c ended src last is h with_end = h.finished ∙ not_ended ended (λ e. absurd (cc (sym is ∙ (h.end e).0)))
 open_from (Some (decoded.Malformed a b)) c ended src last is h with_end =
     let size = h.malformed a b is in
     (h.finished ∙ not_ended ended (λ e. absurd (cc (sym is ∙ (h.end e).0))), size.0, size.1, size.2)
 open_from (Some decoded.InputEmpty) c ended src last is h with_end =
-    let end : ended ≡ true = is_ended ended (λ e. absurd (cc (sym (ap (λ x. ends_with x true) is) ∙ h.more e))) in
+    let end : ended ≡ true = is_ended ended (λ e. absurd (cc (sym (ap (λ x. is_last_text x true) is) ∙ h.more e))) in
     let none = empty_of (c.state.decoder.pieces []) (h.end end).2 in
     ((with_end end).0, h.finished ∙ end ∙ sym (with_end end).1, inl ((h.end end).1, none), λ _. ((h.end end).1, none))
 
-pub can_go_on : (c : Standing) (ended : Bool) (src : List ℕ) (last : Bool) → IsAtRest c ended → (ended ≡ true → (src ≡ []) × (last ≡ true)) → c.state.counts.read + length src ≤ 2 ^ 48 → CanGoOn c src last
+pub can_go_on : (c : Standing) (ended : Bool) (src : List ℕ) (last : Bool) → IsBetweenCalls c ended → (ended ≡ true → (src ≡ []) × (last ≡ true)) → c.state.counts.read + length src ≤ 2 ^ 48 → CanGoOn c src last
 can_go_on c ended src last h with_end limit = record {
   sound = h.sound;
   limit = limit;
@@ -83,12 +83,12 @@ abbrev pub after_call : Standing → Bool → Standing
 after_call c last = record { state = c.state; answer = settled c.answer last; text = c.text }
 
 pub view_after : (j : Job) (c : Standing) (last e o : Bool) → view_at j (after_call c last) e o ≡ view_at j c e o
-view_after j c last e o = ap (λ (ps : List Piece). record { job = j; state = c.state; waiting = text_pieces c.text ++ ps; ended = e; over = o }) (same_reported c.answer last)
+view_after j c last e o = ap (λ (ps : List Piece). record { job = j; state = c.state; waiting = pieces_of_text c.text ++ ps; ended = e; over = o }) (same_reported c.answer last)
 
 sound_after : (c : Standing) (last : Bool) → AreCountedSoundly c → AreCountedSoundly (after_call c last)
-sound_after c last h = record { index = omega (arith, h.index, ap (λ ps. sizes (text_pieces c.text ++ ps)) (same_reported c.answer last)); bad = h.bad; lost = h.lost }
+sound_after c last h = record { index = omega (arith, h.index, ap (λ ps. sizes (pieces_of_text c.text ++ ps)) (same_reported c.answer last)); bad = h.bad; lost = h.lost }
 
-never_ends : (a : Option DecoderResult) (last : Bool) → ends_with a last ≡ false → ends_with (settled a last) true ≡ false
+never_ends : (a : Option DecoderResult) (last : Bool) → is_last_text a last ≡ false → is_last_text (settled a last) true ≡ false
 never_ends None last e = refl
 never_ends (Some decoded.InputEmpty) true e = absurd (cc)
 never_ends (Some decoded.InputEmpty) false e = refl
@@ -109,7 +109,7 @@ malformed_before (Some decoded.InputEmpty) false a b e = absurd (cc)
 malformed_before (Some decoded.OutputFull) last a b e = absurd (cc)
 malformed_before (Some (decoded.Malformed c d)) last a b e = e
 
-end_after : (a : Option DecoderResult) (last : Bool) → ends_with a last ≡ true → settled a last ≡ Some decoded.InputEmpty
+end_after : (a : Option DecoderResult) (last : Bool) → is_last_text a last ≡ true → settled a last ≡ Some decoded.InputEmpty
 end_after None last e = absurd (cc)
 end_after (Some decoded.InputEmpty) true e = refl
 end_after (Some decoded.InputEmpty) false e = absurd (cc)
@@ -124,20 +124,20 @@ none_open (Some a) c x last e h = absurd (cc)
 malformed_open : (o : Option DecoderResult) (c : Standing) (x : List ℕ) (last : Bool) (a b : ℕ) → o ≡ Some (decoded.Malformed a b) → IsOpenFor o c x last → (1 ≤ a) × (a ≤ 4) × (c.state.decoder.pending ≡ b)
 malformed_open o c x last a b e h = let found = subst (λ z. IsOpenFor z c x last) e h in (found.1, found.2, found.3)
 
-finished_open : (o : Option DecoderResult) (c : Standing) (x : List ℕ) (last : Bool) → IsOpenFor o c x last → c.state.finished ≡ ends_with o last
+finished_open : (o : Option DecoderResult) (c : Standing) (x : List ℕ) (last : Bool) → IsOpenFor o c x last → c.state.finished ≡ is_last_text o last
 finished_open None c x last h = h.1
 finished_open (Some decoded.InputEmpty) c x last h = h.1
 finished_open (Some decoded.OutputFull) c x last h = h
 finished_open (Some (decoded.Malformed a b)) c x last h = h.0
 
-end_open : (o : Option DecoderResult) (c : Standing) (x : List ℕ) (last : Bool) → ends_with o last ≡ true → IsOpenFor o c x last
+end_open : (o : Option DecoderResult) (c : Standing) (x : List ℕ) (last : Bool) → is_last_text o last ≡ true → IsOpenFor o c x last
     → (o ≡ Some decoded.InputEmpty) × (c.state.decoder.pending ≡ 0) × (length (c.state.decoder.pieces []) ≡ 0) × (last ≡ true) × (x ≡ [])
 end_open None c x last e h = absurd (cc)
 end_open (Some decoded.OutputFull) c x last e h = absurd (cc)
 end_open (Some (decoded.Malformed a b)) c x last e h = absurd (cc)
 end_open (Some decoded.InputEmpty) c x last e h = (refl, (h.3 e).0, ap length (h.3 e).1, e, h.0)
 
-pub rests_after : (c : Standing) (x : List ℕ) (last : Bool) → CanGoOn c x last → IsAtRest (after_call c last) (ends_with c.answer last)
+pub rests_after : (c : Standing) (x : List ℕ) (last : Bool) → CanGoOn c x last → IsBetweenCalls (after_call c last) (is_last_text c.answer last)
 rests_after c x last h = record {
   sound = sound_after c last h.sound;
   tells = h.tells;
@@ -150,13 +150,13 @@ rests_after c x last h = record {
 
 -- ---- how a call ends
 
-pub ended_with : (c : Standing) (x : List ℕ) (last : Bool) (free : ℕ) (result : ConverterResult) → ConvertEndsWith c x last free result → ends_with c.answer last ≡ true → (last ≡ true) × (x ≡ [])
-ended_with c x last free InputEmpty h e = absurd (cc (sym e ∙ ap (λ a. ends_with a last) h.1))
+pub ended_with : (c : Standing) (x : List ℕ) (last : Bool) (free : ℕ) (result : ConverterResult) → ConvertEndsWith c x last free result → is_last_text c.answer last ≡ true → (last ≡ true) × (x ≡ [])
+ended_with c x last free InputEmpty h e = absurd (cc (sym e ∙ ap (λ a. is_last_text a last) h.1))
 ended_with c x last free OutputFull h e = let end = end_open c.answer c x last e h.1.open_ in (end.3, end.4)
 ended_with c x last free (Found line) h e = let end = end_open c.answer c x last e h.1.open_ in (end.3, end.4)
 
 -- the law of a converter's call, by that of its engine
-pub part_of : (j : Job) (c c' : Standing) (e o e' o' last : Bool) (bytes rest : List ℕ) (items : List Item) (m l free : ℕ) (result : ConverterResult) → Turns c c' last bytes rest items m l → ConvertEndsWith c' rest last free result → e' ≡ ends_with c'.answer last
+pub part_of : (j : Job) (c c' : Standing) (e o e' o' last : Bool) (bytes rest : List ℕ) (items : List Item) (m l free : ℕ) (result : ConverterResult) → TakesTurns c c' last bytes rest items m l → ConvertEndsWith c' rest last free result → e' ≡ is_last_text c'.answer last
     → ConvertsPart (view_at j c e o) (view_at j (after_call c' last) e' o') last bytes rest items
 part_of j c c' e o e' o' last bytes rest items m l free result t ends is = subst (λ v. ConvertsPart (view_at j c e o) v last bytes rest items) (sym (view_after j c' last e' o')) (record {
   job = refl;
@@ -182,47 +182,47 @@ none_waits c none empty = rw (none, empty) refl
 none_owed : (s : State) → to_write s [] ≡ [] → owed_after [] s [] ≡ []
 none_owed s h = ap (λ (n : ℕ). trace_from (reference_form s.policy) s.coding s.set (s.counts.read - n) s.counts.index (s.decoder.pieces [])) (omega arith) ∙ h
 
-ends_in : (j : Job) (c : Standing) (x : List ℕ) (last : Bool) (free : ℕ) (result : ConverterResult) → ConvertEndsWith c x last free result → EndsWith (view_at j c (ends_with c.answer last) (last && is_input_empty result)) x last free result
+ends_in : (j : Job) (c : Standing) (x : List ℕ) (last : Bool) (free : ℕ) (result : ConverterResult) → ConvertEndsWith c x last free result → ConverterEndsWith (view_at j c (is_last_text c.answer last) (last && is_all_converted result)) x last free result
 ends_in j c x last free InputEmpty h = record {
   all = h.0;
   none = none_waits c h.1 h.2;
   settled = h.3.settled;
   over = and_true last;
-  ended = ap (λ a. ends_with a last) h.1;
+  ended = ap (λ a. is_last_text a last) h.1;
   whole = λ e. record { written = rw (none_waits c h.1 h.2) (none_owed c.state (h.3.end e)); told = rw (none_waits c h.1 h.2) (h.3.told e) };
 }
 ends_in j c x last free OutputFull h = (h.0, and_false last)
 ends_in j c x last free (Found line) h = (h.0, and_false last)
 
-pub ends_of : (j : Job) (c : Standing) (x : List ℕ) (last : Bool) (free : ℕ) (result : ConverterResult) (e o : Bool) → ConvertEndsWith c x last free result → e ≡ ends_with c.answer last → o ≡ (last && is_input_empty result)
-    → EndsWith (view_at j (after_call c last) e o) x last free result
+pub ends_of : (j : Job) (c : Standing) (x : List ℕ) (last : Bool) (free : ℕ) (result : ConverterResult) (e o : Bool) → ConvertEndsWith c x last free result → e ≡ is_last_text c.answer last → o ≡ (last && is_all_converted result)
+    → ConverterEndsWith (view_at j (after_call c last) e o) x last free result
 ends_of j c x last free result e o h is all =
-    subst (λ v. EndsWith v x last free result) (sym (view_after j c last e o))
-    (subst (λ (e : Bool). EndsWith (view_at j c e o) x last free result) (sym is)
-    (subst (λ (o : Bool). EndsWith (view_at j c (ends_with c.answer last) o) x last free result) (sym all) (ends_in j c x last free result h)))
+    subst (λ v. ConverterEndsWith v x last free result) (sym (view_after j c last e o))
+    (subst (λ (e : Bool). ConverterEndsWith (view_at j c e o) x last free result) (sym is)
+    (subst (λ (o : Bool). ConverterEndsWith (view_at j c (is_last_text c.answer last) o) x last free result) (sym all) (ends_in j c x last free result h)))
 
 open_last : (last : Bool) → (last && true) ≡ false → last ≡ false
 open_last true e = absurd (cc)
 open_last false e = refl
 
-goes_on : (c : Standing) (x : List ℕ) (last : Bool) (free : ℕ) (result : ConverterResult) → c.state.counts.read ≤ 2 ^ 48 → ConvertEndsWith c x last free result → (last && is_input_empty result) ≡ false → CanGoOn c x last
+goes_on : (c : Standing) (x : List ℕ) (last : Bool) (free : ℕ) (result : ConverterResult) → c.state.counts.read ≤ 2 ^ 48 → ConvertEndsWith c x last free result → (last && is_all_converted result) ≡ false → CanGoOn c x last
 goes_on c x last free InputEmpty within h open_ = ready_start c x last h.1 h.2 (omega (arith, within, ap length h.0)) (h.3.ready (open_last last open_))
 goes_on c x last free OutputFull within h open_ = h.1
 goes_on c x last free (Found line) within h open_ = h.1
 
 -- a converter rests after a call that did not end it
-pub rests_of : (c : Standing) (x : List ℕ) (last : Bool) (free : ℕ) (result : ConverterResult) (e o : Bool) → c.state.counts.read ≤ 2 ^ 48 → ConvertEndsWith c x last free result → e ≡ ends_with c.answer last → o ≡ (last && is_input_empty result) → o ≡ false
-    → IsAtRest (after_call c last) e
-rests_of c x last free result e o within h is all open_ = subst (IsAtRest (after_call c last)) (sym is) (rests_after c x last (goes_on c x last free result within h (sym all ∙ open_)))
+pub rests_of : (c : Standing) (x : List ℕ) (last : Bool) (free : ℕ) (result : ConverterResult) (e o : Bool) → c.state.counts.read ≤ 2 ^ 48 → ConvertEndsWith c x last free result → e ≡ is_last_text c.answer last → o ≡ (last && is_all_converted result) → o ≡ false
+    → IsBetweenCalls (after_call c last) e
+rests_of c x last free result e o within h is all open_ = subst (IsBetweenCalls (after_call c last)) (sym is) (rests_after c x last (goes_on c x last free result within h (sym all ∙ open_)))
 
 -- ---- the standing of an engine over the text that was kept
-pub standing_kept : {D E : Type 0} (view : D → DecoderView) (parts : E → EncoderParts) (p : Policy) (e : Engine D E) (pivot : Pivot) (text : List ℕ) → is_wide pivot ≡ false → text ≡ text_of pivot
+pub standing_kept : {D E : Type 0} (view : D → DecoderView) (parts : E → EncoderParts) (p : Policy) (e : Engine D E) (pivot : Pivot) (text : List ℕ) → is_wide pivot ≡ false → text ≡ pivot_bytes pivot
     → standing view parts p e pivot ≡ standing view parts p e (over_text text)
 standing_kept view parts p e (Utf8 bytes) text form same = ap (λ t. standing view parts p e (over_text t)) (sym same)
 standing_kept view parts p e (Utf16 units) text form same = absurd (cc)
 
 -- an engine of which nothing is read
-new_rests : (c : Standing) → c.answer ≡ None → c.text ≡ [] → CanConvert c.state → IsAtRest c false
+new_rests : (c : Standing) → c.answer ≡ None → c.text ≡ [] → CanConvert c.state → IsBetweenCalls c false
 new_rests c none empty h = record {
   sound = sound_start c none empty h.sound;
   tells = subst (CanTell c.state.verdict c.state.coding c.state.set) (sym empty) h.tells;
@@ -230,7 +230,7 @@ new_rests c none empty h = record {
   none = λ _. empty;
   malformed = λ a b e. absurd (cc (sym none ∙ e));
   end = λ e. absurd (cc);
-  more = λ _. ap (λ a. ends_with a true) none;
+  more = λ _. ap (λ a. is_last_text a true) none;
 }
 
 -- no text stands between a place and itself
@@ -238,6 +238,6 @@ pub none_between : (p : Pivot) (from to : ℕ) → from ≡ 0 → to ≡ 0 → (
 none_between p from to is ends = rw (is, ends) (between_none p, holds_none p)
 
 pub new_engine_rests : {D E : Type 0} (view : D → DecoderView) (parts : E → EncoderParts) (e : Engine D E) (text : List ℕ) → e.answer ≡ None → e.from ≡ 0 → e.to ≡ 0 → CanConvert (engine_state view parts Policy.Decimal e)
-    → IsAtRest (standing view parts Policy.Decimal e (over_text text)) false
+    → IsBetweenCalls (standing view parts Policy.Decimal e (over_text text)) false
 new_engine_rests view parts e text none from to h =
     new_rests (standing view parts Policy.Decimal e (over_text text)) none (none_between (over_text text) e.from e.to from to).0 h

@@ -8,7 +8,7 @@ use Rattle.recode.specs.calls.Chunk.{CanConvert, ConvertsTo}
 use Rattle.recode.specs.calls.Held.{LeavesPrefix, LeavesPrefixFor, Passes, WritersView, holding_none}
 use Rattle.recode.specs.calls.TraceToWrite.{AreSound}
 use Rattle.recode.specs.Converter.{found_items}
-use Rattle.recode.specs.calls.Turns.{AreCountedSoundly, CanGoOn, Standing, Turns, owed}
+use Rattle.recode.specs.calls.Turns.{AreCountedSoundly, CanGoOn, Standing, TakesTurns, owed}
 use Rattle.recode.specs.declared.job.Fault.{Fault}
 use Rattle.encoding_mem.specs.declared.reference.Reference.{Reference}
 use Rattle.recode_log.specs.declared.line.LogLine.{LogLine}
@@ -42,7 +42,7 @@ pub record Pumps (before after : WritersView) (c c' : Standing) (p : Policy) (la
   pub items : List Item
   pub passes : Passes before after items
   pub spared : IsSpared p items
-  pub turns : Turns c c' last bytes rest items most least
+  pub turns : TakesTurns c c' last bytes rest items most least
 
 pub pumps_start : (w : WritersView) (c : Standing) (p : Policy) (last : Bool) (bytes : List ℕ) → AreCountedSoundly c → Pumps w w c c p last bytes bytes 0 0
 pumps_start w c p last bytes sound = record { items = []; passes = passes_none w; spared = spared_nil p; turns = turns_start c last bytes sound }
@@ -57,7 +57,7 @@ pumps_held w w1 w2 c c1 p last x y m l h k = record {
 }
 
 -- a call of the engine, and what was passed for it
-pub pumps_more : (w w1 w2 : WritersView) (c c1 c2 : Standing) (p : Policy) (last : Bool) (x y z : List ℕ) (items : List Item) (m l : ℕ) → Pumps w w1 c c1 p last x y 0 0 → Passes w1 w2 items → IsSpared p items → Turns c1 c2 last y z items m l → Pumps w w2 c c2 p last x z m l
+pub pumps_more : (w w1 w2 : WritersView) (c c1 c2 : Standing) (p : Policy) (last : Bool) (x y z : List ℕ) (items : List Item) (m l : ℕ) → Pumps w w1 c c1 p last x y 0 0 → Passes w1 w2 items → IsSpared p items → TakesTurns c1 c2 last y z items m l → Pumps w w2 c c2 p last x z m l
 pumps_more w w1 w2 c c1 c2 p last x y z items m l h k spared t =
     let most : 0 + m ≡ m = omega arith in
     let least : 0 + l ≡ l = omega arith in
@@ -65,8 +65,8 @@ pumps_more w w1 w2 c c1 c2 p last x y z items m l h k spared t =
       items = h.items ++ items;
       passes = passes_then w w1 w2 h.items items h.passes k;
       spared = spared_append p h.items items h.spared spared;
-      turns = subst (λ (n : ℕ). Turns c c2 last x z (h.items ++ items) n l) most
-          (subst (λ (n : ℕ). Turns c c2 last x z (h.items ++ items) (0 + m) n) least (turns_more c c1 c2 last x y z h.items items 0 m 0 l h.turns t));
+      turns = subst (λ (n : ℕ). TakesTurns c c2 last x z (h.items ++ items) n l) most
+          (subst (λ (n : ℕ). TakesTurns c c2 last x z (h.items ++ items) (0 + m) n) least (turns_more c c1 c2 last x y z h.items items 0 m 0 l h.turns t));
     }
 
 -- a fault after it: what was taken is a prefix of what is owed
@@ -76,7 +76,7 @@ pumps_under w w1 w2 c c1 p f last x y m l h k =
     (record { passed = h.items; passes = h.passes; counted = h.turns.lines; spared = h.spared; equals = h.turns.owes }) k
 
 -- or of what a call of the engine found
-pub found_under : (w1 w2 : WritersView) (c1 c2 : Standing) (p : Policy) (f : Fault) (last : Bool) (y z : List ℕ) (items : List Item) (m l : ℕ) → Turns c1 c2 last y z items m l → LeavesPrefix w1 w2 p f items → LeavesPrefixFor w1 w2 p f last (λ r. owed c1 (y ++ r))
+pub found_under : (w1 w2 : WritersView) (c1 c2 : Standing) (p : Policy) (f : Fault) (last : Bool) (y z : List ℕ) (items : List Item) (m l : ℕ) → TakesTurns c1 c2 last y z items m l → LeavesPrefix w1 w2 p f items → LeavesPrefixFor w1 w2 p f last (λ r. owed c1 (y ++ r))
 found_under w1 w2 c1 c2 p f last y z items m l t h = left_for_of w1 w2 p f last items (λ r. owed c1 (y ++ r)) h (λ r none. (owed c2 (z ++ r), t.owes r none))
 
 -- what is owed if nothing waits
@@ -122,7 +122,7 @@ pub left_any : (w w' : WritersView) (p : Policy) (f : Fault) (last : Bool) (a : 
 left_any w w' p f last a h = left_for_of w w' p f last [] a (h []) (λ r none. (a r, refl))
 
 -- the fault of a found thing, after the bytes before it
-pub left_found : (w1 w2 w3 : WritersView) (c1 c2 : Standing) (p : Policy) (f : Fault) (last : Bool) (y z bytes : List ℕ) (items : List Item) (m l : ℕ) → Passes w1 w2 (map Byte bytes) → Turns c1 c2 last y z (map Byte bytes ++ items) m l
+pub left_found : (w1 w2 w3 : WritersView) (c1 c2 : Standing) (p : Policy) (f : Fault) (last : Bool) (y z bytes : List ℕ) (items : List Item) (m l : ℕ) → Passes w1 w2 (map Byte bytes) → TakesTurns c1 c2 last y z (map Byte bytes ++ items) m l
     → ((to_write : List Item) → LeavesPrefix w2 w3 p f (items ++ to_write)) → LeavesPrefixFor w1 w3 p f last (λ r. owed c1 (y ++ r))
 left_found w1 w2 w3 c1 c2 p f last y z bytes items m l h t k =
     let x : Counts = record { read = 0; index = 0; bad = 0; lost = 0; calls = 0 } in
@@ -142,7 +142,7 @@ left_at_start w w' c p f last x none empty held h =
     }
 
 -- fewer items are owed
-pub smaller_by : (c1 c2 : Standing) (last : Bool) (y z : List ℕ) (items : List Item) (m l : ℕ) → Turns c1 c2 last y z items m l → 0 < length items → length (owed c2 z) < length (owed c1 y)
+pub smaller_by : (c1 c2 : Standing) (last : Bool) (y z : List ℕ) (items : List Item) (m l : ℕ) → TakesTurns c1 c2 last y z items m l → 0 < length items → length (owed c2 z) < length (owed c1 y)
 smaller_by c1 c2 last y z items m l t some =
     owes_less (owed c1 y) (owed c2 z) items (ap (owed c1) (sym (append-nil y)) ∙ t.owes [] (λ _. refl) ∙ ap (λ x. items ++ owed c2 x) (append-nil z)) some
 

@@ -17,7 +17,7 @@ use Rattle.recode.specs.Policy.{reference_form}
 use Rattle.recode.specs.State.{State}
 use Rattle.recode.specs.Work.{IsCounted}
 use Rattle.recode.specs.calls.Text.{TargetState, text_items}
-use Rattle.recode.specs.calls.Turns.{AreCountedSoundly, EncodesTurn, Standing, Turns, WillBeKept, due, owed, reported, spare, text_pieces, waiting}
+use Rattle.recode.specs.calls.Turns.{AreCountedSoundly, EncodesTurn, Standing, TakesTurns, WillBeKept, due_calls, owed, reported, spare_calls, pieces_of_text, waiting}
 use Rattle.recode.specs.calls.Verdict.{IsFaithfulFor, VerdictIsKept, VerdictView, to_read}
 use Rattle.recode.specs.declared.counts.Counts.{Counts}
 use Rattle.recode.proofs.DecoderCallLemmas.{trace_well_formed}
@@ -26,37 +26,37 @@ use Rattle.recode.proofs.VerdictLemmas.{both_ways, true_or_false}
 
 -- ---- text as pieces
 
-pub text_pieces_fine : (t : List ℕ) → AreWellFormed (text_pieces t)
+pub text_pieces_fine : (t : List ℕ) → AreWellFormed (pieces_of_text t)
 text_pieces_fine [] = tt
 text_pieces_fine (c ∷ t) = (tt, text_pieces_fine t)
 
-pub text_pieces_scalars : (t : List ℕ) → scalars (text_pieces t) ≡ t
+pub text_pieces_scalars : (t : List ℕ) → scalars (pieces_of_text t) ≡ t
 text_pieces_scalars [] = refl
 text_pieces_scalars (c ∷ t) = ap (λ x. c ∷ x) (text_pieces_scalars t)
 
-pub text_pieces_text : (t : List ℕ) → text (text_pieces t) ≡ t
+pub text_pieces_text : (t : List ℕ) → text (pieces_of_text t) ≡ t
 text_pieces_text [] = refl
 text_pieces_text (c ∷ t) = ap (λ x. c ∷ x) (text_pieces_text t)
 
-pub text_pieces_size : (t : List ℕ) → sizes (text_pieces t) ≡ length t
+pub text_pieces_size : (t : List ℕ) → sizes (pieces_of_text t) ≡ length t
 text_pieces_size [] = refl
 text_pieces_size (c ∷ t) = omega (arith, text_pieces_size t)
 
 -- what waits
-pub waiting_text : (t : List ℕ) (ps : List Piece) → text (text_pieces t ++ ps) ≡ t ++ text ps
-waiting_text t ps = text-append (text_pieces t) ps ∙ ap (λ x. x ++ text ps) (text_pieces_text t)
+pub waiting_text : (t : List ℕ) (ps : List Piece) → text (pieces_of_text t ++ ps) ≡ t ++ text ps
+waiting_text t ps = text-append (pieces_of_text t) ps ∙ ap (λ x. x ++ text ps) (text_pieces_text t)
 
-pub waiting_size : (t : List ℕ) (ps : List Piece) → sizes (text_pieces t ++ ps) ≡ length t + sizes ps
-waiting_size t ps = omega (arith, sizes-append (text_pieces t) ps, text_pieces_size t)
+pub waiting_size : (t : List ℕ) (ps : List Piece) → sizes (pieces_of_text t ++ ps) ≡ length t + sizes ps
+waiting_size t ps = omega (arith, sizes-append (pieces_of_text t) ps, text_pieces_size t)
 
-pub waiting_count : (t : List ℕ) (ps : List Piece) → length (text (text_pieces t ++ ps)) ≡ length t + length (text ps)
+pub waiting_count : (t : List ℕ) (ps : List Piece) → length (text (pieces_of_text t ++ ps)) ≡ length t + length (text ps)
 waiting_count t ps = omega (arith, ap length (waiting_text t ps), length-append t (text ps))
 
-pub waiting_bad : (t : List ℕ) (ps : List Piece) → malformed_count (text_pieces t ++ ps) ≡ malformed_count ps
+pub waiting_bad : (t : List ℕ) (ps : List Piece) → malformed_count (pieces_of_text t ++ ps) ≡ malformed_count ps
 waiting_bad [] ps = refl
 waiting_bad (c ∷ t) ps = waiting_bad t ps
 
-waiting_fine : (t : List ℕ) (ps : List Piece) → AreWellFormed (text_pieces t ++ ps) ↔ AreWellFormed ps
+waiting_fine : (t : List ℕ) (ps : List Piece) → AreWellFormed (pieces_of_text t ++ ps) ↔ AreWellFormed ps
 waiting_fine [] ps = (λ h. h, λ h. h)
 waiting_fine (c ∷ t) ps = let more = waiting_fine t ps in (λ h. more.0 h.1, λ h. (tt, more.1 h))
 
@@ -82,10 +82,10 @@ swap_trace ref e s o o' i ps qs tail f g same at =
 
 -- of text that waits
 pub front_trace : (ref : Reference) (e : Coding) (s : EscapeState) (o i : ℕ) (t : List ℕ) (tail : List Piece)
-    → trace_from ref e s o i (text_pieces t ++ tail) ≡ open_items ref e s i t ++ trace_from ref e (last_set e s t) (o + length t) (i + length t) tail
+    → trace_from ref e s o i (pieces_of_text t ++ tail) ≡ open_items ref e s i t ++ trace_from ref e (last_set e s t) (o + length t) (i + length t) tail
 front_trace ref e s o i t tail =
-    trace_well_formed ref e s o i (text_pieces t) tail (text_pieces_fine t)
-    ∙ ap (λ (x : List ℕ). open_items ref e s i x ++ trace_from ref e (last_set e s x) (o + sizes (text_pieces t)) (i + length x) tail) (text_pieces_scalars t)
+    trace_well_formed ref e s o i (pieces_of_text t) tail (text_pieces_fine t)
+    ∙ ap (λ (x : List ℕ). open_items ref e s i x ++ trace_from ref e (last_set e s x) (o + sizes (pieces_of_text t)) (i + length x) tail) (text_pieces_scalars t)
     ∙ ap (λ (n : ℕ). open_items ref e s i t ++ trace_from ref e (last_set e s t) (o + n) (i + length t) tail) (text_pieces_size t)
 
 same_faithful : (ref : Reference) (v : VerdictView) (e : Coding) (s : EscapeState) (ps qs : List Piece) → AreWellFormed ps ↔ AreWellFormed qs → text ps ≡ text qs → IsFaithfulFor ref v e s ps ↔ IsFaithfulFor ref v e s qs
@@ -96,7 +96,7 @@ same_faithful ref v e s ps qs fine same = (
 
 -- ---- turns in a row
 
-pub turns_start : (c : Standing) (last : Bool) (bytes : List ℕ) → AreCountedSoundly c → Turns c c last bytes bytes [] 0 0
+pub turns_start : (c : Standing) (last : Bool) (bytes : List ℕ) → AreCountedSoundly c → TakesTurns c c last bytes bytes [] 0 0
 turns_start c last bytes sound = record {
   counted = refl;
   target = refl;
@@ -112,7 +112,7 @@ turns_start c last bytes sound = record {
   advances = λ on. record { taken = []; rest_is = λ r. refl; set = refl; index = omega arith };
 }
 
-pub turns_more : (c c1 c2 : Standing) (last : Bool) (x y z : List ℕ) (a b : List Item) (m n k l : ℕ) → Turns c c1 last x y a m k → Turns c1 c2 last y z b n l → Turns c c2 last x z (a ++ b) (m + n) (k + l)
+pub turns_more : (c c1 c2 : Standing) (last : Bool) (x y z : List ℕ) (a b : List Item) (m n k l : ℕ) → TakesTurns c c1 last x y a m k → TakesTurns c1 c2 last y z b n l → TakesTurns c c2 last x z (a ++ b) (m + n) (k + l)
 turns_more c c1 c2 last x y z a b m n k l p q = record {
   counted = omega (arith, p.counted, q.counted);
   target = q.target ∙ p.target;
@@ -161,8 +161,8 @@ pub record IsDecoded (before after : DecoderState) (src : List ℕ) (last : Bool
   pub fits : length t ≤ sizes front
   pub counted : before.pending + read ≡ sizes front + sizes (reported (Some answer)) + after.pending
   pub rest : (r : List ℕ) → (last ≡ true → r ≡ []) → before.pieces (src ++ r) ≡ front ++ (reported (Some answer) ++ after.pieces (drop read src ++ r))
-  pub spared : spare (Some answer) ≤ 3 * (length t + length (text (reported (Some answer))))
-  pub owing : 3 * malformed_count (reported (Some answer)) ≤ due (Some answer)
+  pub spared : spare_calls (Some answer) ≤ 3 * (length t + length (text (reported (Some answer))))
+  pub owing : 3 * malformed_count (reported (Some answer)) ≤ due_calls (Some answer)
 
 module _ (s : State) (d : DecoderState) (finished : Bool) (source : List ℕ → Encoding) (src : List ℕ) (last : Bool) (read calls : ℕ) (answer : DecoderResult) (t : List ℕ)
     (sound : AreCountedSoundly (nothing_waits s)) (k : IsDecoded s.decoder d src last read answer t) (one : IsCounted 1 1 s.counts.calls calls)
@@ -171,23 +171,23 @@ module _ (s : State) (d : DecoderState) (finished : Bool) (source : List ℕ →
   turn_owes r h =
       let tail = reported (Some answer) ++ d.pieces (drop read src ++ r) in
       let o = s.counts.read - (0 + s.decoder.pending) in
-      let o' = s.counts.read + read - (sizes (text_pieces t ++ reported (Some answer)) + d.pending) in
+      let o' = s.counts.read + read - (sizes (pieces_of_text t ++ reported (Some answer)) + d.pending) in
       ap (trace_from (reference_form s.policy) s.coding s.set o s.counts.index) (k.rest r h)
-      ∙ swap_trace (reference_form s.policy) s.coding s.set o o' s.counts.index k.front (text_pieces t) tail k.fine (text_pieces_fine t) (sym k.text_is ∙ sym (text_pieces_scalars t))
+      ∙ swap_trace (reference_form s.policy) s.coding s.set o o' s.counts.index k.front (pieces_of_text t) tail k.fine (text_pieces_fine t) (sym k.text_is ∙ sym (text_pieces_scalars t))
       (omega (arith, sound.index, k.counted, k.fits, waiting_size t (reported (Some answer)), text_pieces_size t))
-      ∙ ap (trace_from (reference_form s.policy) s.coding s.set o' s.counts.index) (sym (append_assoc (text_pieces t) (reported (Some answer)) (d.pieces (drop read src ++ r))))
+      ∙ ap (trace_from (reference_form s.policy) s.coding s.set o' s.counts.index) (sym (append_assoc (pieces_of_text t) (reported (Some answer)) (d.pieces (drop read src ++ r))))
 
   turn_verdict : (r : List ℕ) → (last ≡ true → r ≡ []) → WillBeKept (nothing_waits s) (src ++ r) ↔ WillBeKept (record { state = decoded_state s d finished source read calls; answer = Some answer; text = t }) (drop read src ++ r)
   turn_verdict r h =
       let tail = reported (Some answer) ++ d.pieces (drop read src ++ r) in
-      let now = append_assoc (text_pieces t) (reported (Some answer)) (d.pieces (drop read src ++ r)) in
-      same_faithful (reference_form s.policy) s.verdict s.coding s.set (s.decoder.pieces (src ++ r)) ((text_pieces t ++ reported (Some answer)) ++ d.pieces (drop read src ++ r))
-      (subst (λ ps. AreWellFormed ps ↔ AreWellFormed ((text_pieces t ++ reported (Some answer)) ++ d.pieces (drop read src ++ r))) (sym (k.rest r h))
+      let now = append_assoc (pieces_of_text t) (reported (Some answer)) (d.pieces (drop read src ++ r)) in
+      same_faithful (reference_form s.policy) s.verdict s.coding s.set (s.decoder.pieces (src ++ r)) ((pieces_of_text t ++ reported (Some answer)) ++ d.pieces (drop read src ++ r))
+      (subst (λ ps. AreWellFormed ps ↔ AreWellFormed ((pieces_of_text t ++ reported (Some answer)) ++ d.pieces (drop read src ++ r))) (sym (k.rest r h))
       (subst (λ ps. AreWellFormed (k.front ++ tail) ↔ AreWellFormed ps) (sym now)
       (both_ways (fine_before k.front tail k.fine) (let w = waiting_fine t tail in (w.1, w.0)))))
       (ap text (k.rest r h) ∙ text-append k.front tail ∙ ap (λ x. x ++ text tail) (fine_text k.front k.fine ∙ sym k.text_is) ∙ sym (waiting_text t tail) ∙ ap text (sym now))
 
-  pub decode_turn : Turns (nothing_waits s) (record { state = decoded_state s d finished source read calls; answer = Some answer; text = t }) last src (drop read src) [] 0 0
+  pub decode_turn : TakesTurns (nothing_waits s) (record { state = decoded_state s d finished source read calls; answer = Some answer; text = t }) last src (drop read src) [] 0 0
   decode_turn = record {
     counted = omega (arith, length-drop read src, k.within);
     target = refl;
@@ -218,7 +218,7 @@ abbrev pub target_of_state : State → TargetState
 target_of_state s = record { coding = s.coding; set = s.set; policy = s.policy; verdict = s.verdict; counts = s.counts }
 
 front_faithful : (ref : Reference) (e : Coding) (last : Bool) (v v' : VerdictView) (s s' : EscapeState) (t rest : List ℕ) (tail : List Piece) → VerdictIsKept e last v s t v' s' rest → (IsTrue last → text tail ≡ [])
-    → IsFaithfulFor ref v e s (text_pieces t ++ tail) ↔ IsFaithfulFor ref v' e s' (text_pieces rest ++ tail)
+    → IsFaithfulFor ref v e s (pieces_of_text t ++ tail) ↔ IsFaithfulFor ref v' e s' (pieces_of_text rest ++ tail)
 front_faithful ref e last v v' s s' t rest tail keeps ends =
     let both = keeps ref (text tail) ends in
     let fine = waiting_fine t tail in
@@ -234,7 +234,7 @@ front_faithful ref e last v v' s s' t rest tail keeps ends =
 -- what is owed for a text that waits, and what comes after it
 front_owed : (ref : Reference) (e : Coding) (ended : Bool) (s s' : EscapeState) (i i' o o' : ℕ) (t rest : List ℕ) (tail : List Piece) (items : List Item) → whole_items ref e ended s i t ≡ items ++ whole_items ref e ended s' i' rest
     → i' + length rest ≡ i + length t → o + length t ≡ o' + length rest → (ended ≡ false → last_set e s t ≡ last_set e s' rest) → (ended ≡ true → tail ≡ [])
-    → trace_from ref e s o i (text_pieces t ++ tail) ≡ items ++ trace_from ref e s' o' i' (text_pieces rest ++ tail)
+    → trace_from ref e s o i (pieces_of_text t ++ tail) ≡ items ++ trace_from ref e s' o' i' (pieces_of_text rest ++ tail)
 front_owed ref e false s s' i i' o o' t rest tail items owes index at set none =
     let open_ : open_items ref e s i t ≡ items ++ open_items ref e s' i' rest =
     sym (append-nil (open_items ref e s i t)) ∙ owes ∙ ap (λ l. items ++ l) (append-nil (open_items ref e s' i' rest)) in
@@ -247,10 +247,10 @@ front_owed ref e false s s' i i' o o' t rest tail items owes index at set none =
     ∙ append_assoc items (open_items ref e s' i' rest) end_
     ∙ ap (λ l. items ++ l) (sym (front_trace ref e s' o' i' rest tail))
 front_owed ref e true s s' i i' o o' t rest tail items owes index at set none =
-    ap (λ l. trace_from ref e s o i (text_pieces t ++ l)) (none refl)
+    ap (λ l. trace_from ref e s o i (pieces_of_text t ++ l)) (none refl)
     ∙ front_trace ref e s o i t []
     ∙ owes
-    ∙ ap (λ l. items ++ l) (sym (front_trace ref e s' o' i' rest []) ∙ ap (λ l. trace_from ref e s' o' i' (text_pieces rest ++ l)) (sym (none refl)))
+    ∙ ap (λ l. items ++ l) (sym (front_trace ref e s' o' i' rest []) ∙ ap (λ l. trace_from ref e s' o' i' (pieces_of_text rest ++ l)) (sym (none refl)))
 
 abbrev pub target_with : State → EscapeState → VerdictView → Counts → TargetState
 target_with s set verdict counts = record { coding = s.coding; set = set; policy = s.policy; verdict = verdict; counts = counts }
@@ -263,25 +263,25 @@ module _ (s : State) (answer : DecoderResult) (set : EscapeState) (v : VerdictVi
   encode_owes r h =
       let ref = reference_form s.policy in
       let tail = reported (Some answer) ++ s.decoder.pieces (src ++ r) in
-      let o = s.counts.read - (sizes (text_pieces t ++ reported (Some answer)) + s.decoder.pending) in
-      let o' = x.read - (sizes (text_pieces rest ++ reported (Some answer)) + s.decoder.pending) in
-      ap (trace_from ref s.coding s.set o s.counts.index) (append_assoc (text_pieces t) (reported (Some answer)) (s.decoder.pieces (src ++ r)))
+      let o = s.counts.read - (sizes (pieces_of_text t ++ reported (Some answer)) + s.decoder.pending) in
+      let o' = x.read - (sizes (pieces_of_text rest ++ reported (Some answer)) + s.decoder.pending) in
+      ap (trace_from ref s.coding s.set o s.counts.index) (append_assoc (pieces_of_text t) (reported (Some answer)) (s.decoder.pieces (src ++ r)))
       ∙ front_owed ref s.coding ended s.set set s.counts.index x.index o o' t rest tail items e.owes e.index
       (omega (arith, sound.index, waiting_size t (reported (Some answer)), waiting_size rest (reported (Some answer)), e.read, e.index)) e.set (λ end. tail_is end r h)
-      ∙ ap (λ ps. items ++ trace_from ref s.coding set o' x.index ps) (sym (append_assoc (text_pieces rest) (reported (Some answer)) (s.decoder.pieces (src ++ r))))
+      ∙ ap (λ ps. items ++ trace_from ref s.coding set o' x.index ps) (sym (append_assoc (pieces_of_text rest) (reported (Some answer)) (s.decoder.pieces (src ++ r))))
 
   encode_verdict : (r : List ℕ) → (last ≡ true → r ≡ []) → WillBeKept (record { state = s; answer = Some answer; text = t }) (src ++ r) ↔ WillBeKept (record { state = record s { set = set; verdict = v; counts = x }; answer = Some answer; text = rest }) (src ++ r)
   encode_verdict r h =
       let ref = reference_form s.policy in
       let tail = reported (Some answer) ++ s.decoder.pieces (src ++ r) in
-      subst (λ ps. IsFaithfulFor ref s.verdict s.coding s.set ps ↔ IsFaithfulFor ref v s.coding set ((text_pieces rest ++ reported (Some answer)) ++ s.decoder.pieces (src ++ r))) (sym (append_assoc (text_pieces t) (reported (Some answer)) (s.decoder.pieces (src ++ r))))
-      (subst (λ ps. IsFaithfulFor ref s.verdict s.coding s.set (text_pieces t ++ tail) ↔ IsFaithfulFor ref v s.coding set ps) (sym (append_assoc (text_pieces rest) (reported (Some answer)) (s.decoder.pieces (src ++ r))))
+      subst (λ ps. IsFaithfulFor ref s.verdict s.coding s.set ps ↔ IsFaithfulFor ref v s.coding set ((pieces_of_text rest ++ reported (Some answer)) ++ s.decoder.pieces (src ++ r))) (sym (append_assoc (pieces_of_text t) (reported (Some answer)) (s.decoder.pieces (src ++ r))))
+      (subst (λ ps. IsFaithfulFor ref s.verdict s.coding s.set (pieces_of_text t ++ tail) ↔ IsFaithfulFor ref v s.coding set ps) (sym (append_assoc (pieces_of_text rest) (reported (Some answer)) (s.decoder.pieces (src ++ r))))
       (front_faithful ref s.coding ended s.verdict v s.set set t rest tail e.verdict (λ end. ap text (tail_is end r h))))
 
   not_ended : last ≡ false → ended ≡ false
   not_ended on = elim (true_or_false ended) [ inl end ↦ absurd (false≢true (sym on ∙ ends end)) | inr not ↦ not ]
 
-  pub encode_turn : Turns (record { state = s; answer = Some answer; text = t }) (record { state = record s { set = set; verdict = v; counts = x }; answer = Some answer; text = rest }) last src src items (2 * n) n
+  pub encode_turn : TakesTurns (record { state = s; answer = Some answer; text = t }) (record { state = record s { set = set; verdict = v; counts = x }; answer = Some answer; text = rest }) last src src items (2 * n) n
   encode_turn = record {
     counted = omega (arith, e.read);
     target = refl;
@@ -323,7 +323,7 @@ module _ (s : State) (answer : DecoderResult) (set : EscapeState) (v : VerdictVi
 -- ---- the end of a text
 
 -- all of it is encoded, and the decoder is asked next
-pub finish_full : (c : Standing) (s : State) (last : Bool) (x y : List ℕ) (items : List Item) → Turns c (record { state = s; answer = Some OutputFull; text = [] }) last x y items 2 1 → Turns c (record { state = s; answer = None; text = [] }) last x y items 0 0
+pub finish_full : (c : Standing) (s : State) (last : Bool) (x y : List ℕ) (items : List Item) → TakesTurns c (record { state = s; answer = Some OutputFull; text = [] }) last x y items 2 1 → TakesTurns c (record { state = s; answer = None; text = [] }) last x y items 0 0
 finish_full c s last x y items p = record {
   counted = p.counted;
   target = p.target;
@@ -340,7 +340,7 @@ finish_full c s last x y items p = record {
 }
 
 -- or all is read
-pub finish_empty : (c : Standing) (s : State) (last : Bool) (x y : List ℕ) (items : List Item) → Turns c (record { state = s; answer = Some InputEmpty; text = [] }) last x y items 2 1 → Turns c (record { state = s; answer = None; text = [] }) last x y items 3 2
+pub finish_empty : (c : Standing) (s : State) (last : Bool) (x y : List ℕ) (items : List Item) → TakesTurns c (record { state = s; answer = Some InputEmpty; text = [] }) last x y items 2 1 → TakesTurns c (record { state = s; answer = None; text = [] }) last x y items 3 2
 finish_empty c s last x y items p = record {
   counted = p.counted;
   target = p.target;
@@ -362,8 +362,8 @@ finish_empty c s last x y items p = record {
 abbrev pub replaced_state : State → State
 replaced_state s = record s { verdict = record s.verdict { faithful = false }; counts = record s.counts { bad = s.counts.bad + 1 } }
 
-pub replace_turn : (c : Standing) (s : State) (a b : ℕ) (last : Bool) (x y : List ℕ) (items : List Item) → 1 ≤ a → Turns c (record { state = s; answer = Some (Malformed a b); text = [] }) last x y items 2 1
-    → Turns c (record { state = replaced_state s; answer = Some OutputFull; text = 0xFFFD ∷ [] }) last x y (items ++ MalformedAt (s.counts.read - s.decoder.pending - a) a ∷ []) 0 0
+pub replace_turn : (c : Standing) (s : State) (a b : ℕ) (last : Bool) (x y : List ℕ) (items : List Item) → 1 ≤ a → TakesTurns c (record { state = s; answer = Some (Malformed a b); text = [] }) last x y items 2 1
+    → TakesTurns c (record { state = replaced_state s; answer = Some OutputFull; text = 0xFFFD ∷ [] }) last x y (items ++ MalformedAt (s.counts.read - s.decoder.pending - a) a ∷ []) 0 0
 replace_turn c s a b last x y items some p =
     let now : Standing = record { state = s; answer = Some (Malformed a b); text = [] } in
     let next : Standing = record { state = replaced_state s; answer = Some OutputFull; text = 0xFFFD ∷ [] } in

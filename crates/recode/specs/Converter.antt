@@ -46,7 +46,7 @@ WillKeep v = WillBeKeptAfter v.waiting v.state
 -- ---- its calls
 
 -- a converter of a job that has read nothing
-pub record IsNewConverter (v : ConverterView) (j : Job) : Type 0 where
+pub record IsFreshConverter (v : ConverterView) (j : Job) : Type 0 where
   pub job : v.job ≡ j
   pub owes_trace : (x : List ℕ) → owes v x ≡ whole_trace j x
   pub verdict : (x : List ℕ) → WillKeep v x ↔ Faithful j x
@@ -65,10 +65,10 @@ found_items ref (Found (Bad offset size)) = MalformedAt offset size ∷ []
 found_items ref (Found (Lost index scalar)) = LostAt index scalar ∷ map Byte (reference_bytes ref scalar)
 
 -- whether a call ended with all converted
-abbrev pub is_input_empty : ConverterResult → Bool
-is_input_empty InputEmpty = true
-is_input_empty OutputFull = false
-is_input_empty (Found line) = false
+abbrev pub is_all_converted : ConverterResult → Bool
+is_all_converted InputEmpty = true
+is_all_converted OutputFull = false
+is_all_converted (Found line) = false
 
 -- THE LAW. Of these bytes the rest is left. Whatever comes after them, nothing after the last: what was owed is these
 -- items, then what is owed now.
@@ -88,7 +88,7 @@ pub record IsWhole (v : ConverterView) : Type 0 where
 
 -- All that was handed in is read, and all that it decides is written: no piece waits, and what the decoder holds is
 -- nearly decided. After the last byte all is written.
-pub record IsConverted (v : ConverterView) (unread : List ℕ) (last : Bool) : Type 0 where
+pub record AllIsConverted (v : ConverterView) (unread : List ℕ) (last : Bool) : Type 0 where
   pub all : unread ≡ []
   pub none : v.waiting ≡ []
   pub settled : IsNearlyDecided v.state.decoder
@@ -97,7 +97,7 @@ pub record IsConverted (v : ConverterView) (unread : List ℕ) (last : Bool) : T
   pub whole : last ≡ true → IsWhole v
 
 -- why a call ended: all is converted, or fewer than 4 bytes are free, or something was found
-abbrev pub EndsWith : ConverterView → (unread : List ℕ) → (last : Bool) → (free : ℕ) → ConverterResult → Type 0
-EndsWith v unread last free InputEmpty = IsConverted v unread last
-EndsWith v unread last free OutputFull = (free < 4) × (v.over ≡ false)
-EndsWith v unread last free (Found line) = IsValid line × (v.over ≡ false)
+abbrev pub ConverterEndsWith : ConverterView → (unread : List ℕ) → (last : Bool) → (free : ℕ) → ConverterResult → Type 0
+ConverterEndsWith v unread last free InputEmpty = AllIsConverted v unread last
+ConverterEndsWith v unread last free OutputFull = (free < 4) × (v.over ≡ false)
+ConverterEndsWith v unread last free (Found line) = IsValid line × (v.over ≡ false)

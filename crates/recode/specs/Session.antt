@@ -63,7 +63,7 @@ pub record IsNewSession (v : View) (j : Job) : Type 0 where
   pub verdict : (x : List ℕ) → WillBeFaithful v.state x ↔ Faithful j x
 
 -- what is reported of a conversion that has read all
-pub record IsTold (s : State) (p : Report) : Type 0 where
+pub record ReportsOn (s : State) (p : Report) : Type 0 where
   pub read : p.read ≡ s.counts.read
   pub bad : p.bad ≡ s.counts.bad
   pub lost : p.lost ≡ s.counts.lost
@@ -73,7 +73,7 @@ pub record IsTold (s : State) (p : Report) : Type 0 where
 
 -- what a session says once it has read all
 abbrev pub Tells : View → Report → Type 0
-Tells v p = IsTold v.state p
+Tells v p = ReportsOn v.state p
 
 -- the report on the conversion of an input x: its counts, its source encoding and its verdict
 pub record IsReport (j : Job) (x : List ℕ) (p : Report) : Type 0 where

@@ -1,5 +1,5 @@
-//! What was read is converted, and what is made of it handed to the two writers: here alone they are
-//! called.
+//! What was read is converted, and what is made of it handed to the two writers: here alone they
+//! are called.
 
 ghost use Rattle.std.specs.Prelude.{◌≡◌, ◌+◌, ◌^◌, ◌≤◌, ◌++◌, IfErr, None, OnOk, length};
 ghost use Rattle.recode.specs.State.{to_write};

@@ -1,6 +1,7 @@
 //! The calls of codecs over text in a pivot, and that text: what form it has is known here alone.
 
-ghost use Rattle.std.specs.Prelude.{◌≤◌, ◌≡◌, ◌↔◌, ℕ, ◌++◌, ◌+◌, ◌-◌, IsTrue, List, MatchOption, [], ◌∷◌};
+ghost use Rattle.std.specs.Prelude.{◌≤◌, ◌≡◌, ◌↔◌, ℕ, ◌++◌, ◌+◌, ◌-◌, IsTrue, List};
+ghost use Rattle.std.specs.Prelude.{MatchOption, [], ◌∷◌};
 ghost use Rattle.std.specs.Prelude.{count_by, drop, encode_utf8_all, false, length, take, true};
 ghost use Rattle.std.specs.Str.{all_scalars, chars};
 ghost use Rattle.encoding_mem.specs.calls.Decoding.{StateLaw};

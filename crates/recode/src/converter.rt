@@ -1,18 +1,19 @@
-//! A converter: bytes of one encoding to bytes of another. It calls no device.
+//! A converter: bytes of one encoding to bytes of another. It is a decoder and an encoder in one,
+//! and calls no device: who has bytes hands them in, and takes what was made of them.
 
 ghost use Rattle.std.specs.Prelude.{◌≡◌, ◌+◌, ◌-◌, ◌≤◌, ◌<◌, ◌^◌, ◌++◌, ◌↔◌, Some, [], true, false};
 ghost use Rattle.std.specs.Prelude.{IsSome, IsTrue, IfSome, drop, length, map, take};
 ghost use Rattle.encoding_mem.specs.Items.{Byte};
 ghost use Rattle.encoding_mem.specs.calls.EncoderRule.{WritesBytes};
-ghost use Rattle.recode.specs.Converter.{ConverterView, ConvertsPart, EndsWith, IsNewConverter};
-ghost use Rattle.recode.specs.Converter.{found_items};
+ghost use Rattle.recode.specs.Converter.{ConverterEndsWith, ConverterView, ConvertsPart};
+ghost use Rattle.recode.specs.Converter.{IsFreshConverter, found_items};
 ghost use Rattle.recode.specs.Job.{IsValidJob};
 ghost use Rattle.recode.specs.Policy.{reference_form};
-ghost use Rattle.recode.specs.Session.{IsTold};
+ghost use Rattle.recode.specs.Session.{ReportsOn};
 ghost use Rattle.recode.specs.calls.Buffers.{capacity, is_wide};
-ghost use Rattle.recode.specs.calls.EngineView.{HoldsBetween, converter_view, over_text, standing};
-ghost use Rattle.recode.specs.calls.EngineView.{text_of};
-ghost use Rattle.recode.specs.calls.Turns.{IsAtRest};
+ghost use Rattle.recode.specs.calls.EngineView.{HoldsBetween, converter_of_parts, over_text};
+ghost use Rattle.recode.specs.calls.EngineView.{pivot_bytes, standing};
+ghost use Rattle.recode.specs.calls.Turns.{IsBetweenCalls};
 ghost use Rattle.recode.specs.declared.job.Policy.{Policy};
 
 use crate::engine::Engine;
@@ -21,25 +22,30 @@ use encoding_front::{Decoder, StreamDecoder, VariantEncoder};
 use encoding_mem::RawEncoder;
 use recode_log::line::LogLine;
 
-/// What a call of a converter ended with.
+/// How a call of a converter ended.
 #[derive(Clone, Copy, PartialEq, Eq, Debug)]
 pub enum ConverterResult {
-    /// All of `src` is read, and all that it decides is written.
+    /// All of `src` is read, and all that it decides is written. Hand in what comes next. After the
+    /// last bytes all is written (`Converter::is_over`).
     InputEmpty,
-    /// Fewer than 4 bytes of `dst` are free.
+    /// Fewer than 4 bytes of `dst` are free. Take what is written, and call again with the rest of
+    /// `src`.
     OutputFull,
-    /// Something is lost, after what was written. For a lost character its reference, if one is to
-    /// be written, is the caller's to write.
+    /// Something is lost here, and all before it is written. The line is that of the log. If it is
+    /// that of a character that has no bytes (`LogLine::Lost`), the output has its reference next,
+    /// which is yours to write (`write_reference` of `encoding_front`, in the form of
+    /// `Policy::reference`); or end the conversion, if the policy writes none. Otherwise call again
+    /// with the rest of `src`.
     Found(LogLine),
 }
 
 impl ConverterResult {
     ghost use Rattle.std.specs.Prelude.{◌≡◌, ◌&&◌};
-    ghost use Rattle.recode.specs.Converter.{is_input_empty};
+    ghost use Rattle.recode.specs.Converter.{is_all_converted};
 
     // Whether all is converted, and nothing comes after it.
     fn ends(self, last: bool) -> bool
-        ensures { result ≡ (last && is_input_empty self) }
+        ensures { result ≡ (last && is_all_converted self) }
     {
         match self {
             ConverterResult::InputEmpty => last,
@@ -56,7 +62,28 @@ trait Viewed {
     ghost view: { Self → ConverterView };
 }
 
-/// A conversion of a stream, bytes to bytes.
+/// A conversion of a stream that calls no device: bytes of the input come in as they are there,
+/// bytes of the output go out as there is room, and what is lost is found in its place. It takes no
+/// memory, and holds about 1 KiB.
+///
+/// However the input is cut and whatever rooms are lent, all that is written and found is the same:
+/// the job's output and log. At `InputEmpty` all that the bytes so far decide, however the input
+/// goes on, is written, with each piece that ends three or more bytes before their end.
+///
+/// # Use
+///
+/// Hand in the bytes that there are, and what is left of them again after each call:
+///
+///     let mut converter = Converter::new(job);
+///     let (result, read, written) = converter.convert(rest, &mut room, false);
+///     output.write_all(&room[..written])?;
+///     rest = &rest[read..];
+///     match result {
+///         ConverterResult::InputEmpty | ConverterResult::OutputFull => {}
+///         ConverterResult::Found(line) => log.push(line),
+///     }
+///
+/// At the end of the input hand in no bytes, with `last`, until `is_over`.
 #[derive(Drop)]
 pub struct Converter<'t> {
     engine: Engine<Decoder<'t>, VariantEncoder<'t>>,
@@ -70,25 +97,25 @@ pub struct Converter<'t> {
     ghost small: { job.limit ≤ 2 ^ 48 },
     ghost within: { engine.counts.read ≤ job.limit },
     ghost holds: { HoldsBetween (over_text text) engine.from engine.to },
-    ghost rests: { over ≡ false → IsAtRest (standing
+    ghost rests: { over ≡ false → IsBetweenCalls (standing
         ⟦<Decoder<'static> as StreamDecoder>⟧.view
         ⟦<VariantEncoder<'static> as RawEncoder>⟧.parts Policy.Decimal engine
         (over_text text)) ended },
 }
 
 impl<'t> Viewed for Converter<'t> {
-    ghost view = { λ c. converter_view ⟦<Decoder<'t> as StreamDecoder>⟧.view
+    ghost view = { λ c. converter_of_parts ⟦<Decoder<'t> as StreamDecoder>⟧.view
         ⟦<VariantEncoder<'t> as RawEncoder>⟧.parts c.job c.engine c.text c.ended c.over };
 }
 
 impl<'t> Converter<'t> {
-    ghost use Rattle.recode.specs.calls.ConverterView.{seen};
+    ghost use Rattle.recode.specs.calls.ConverterView.{converter_view};
 
-    /// A converter that has read nothing. The condition, that the job is valid, is tested by
-    /// `Job::is_valid`.
+    /// A converter of a job that has read nothing. The condition, that the job is valid, is tested
+    /// by `Job::is_valid`.
     pub fn new(job: Job<'t>) -> Self
         requires { IsValidJob job }
-        ensures { IsNewConverter (seen result) job.entry }
+        ensures { IsFreshConverter (converter_view result) job.entry }
     {
         Converter {
             engine: Engine::new(job),
@@ -99,28 +126,29 @@ impl<'t> Converter<'t> {
         }
     }
 
-    /// Whether all was read and written. The test of a condition of `convert`.
+    /// Whether the end was read and all is written, so that nothing more can be done. The test of a
+    /// condition of `convert`.
     pub fn is_over(&self) -> bool
-        ensures { result ≡ (seen self.now).over }
+        ensures { result ≡ (converter_view self.now).over }
     {
         self.over
     }
 
-    /// Whether the end was read, and what is left is to write what waits. The test of a condition of
-    /// `convert`.
+    /// Whether the end was read, and text waits that is still to be written. The test of a
+    /// condition of `convert`.
     pub fn is_ended(&self) -> bool
-        ensures { result ≡ (seen self.now).ended }
+        ensures { result ≡ (converter_view self.now).ended }
     {
         self.ended
     }
 
     /// What the conversion reports, once all was read and written; `None` before that.
     ///
-    /// `Report::calls` counts the calls of codecs, and has no bound here: it depends on the sizes of
-    /// `src` and `dst`.
+    /// `Report::calls` counts the calls of codecs, and has no bound here: it depends on the sizes
+    /// of `src` and `dst`.
     pub fn report(&self) -> Option<Report>
-        ensures done { IsSome result ↔ ((seen self.now).over ≡ true) }
-        ensures tells { IfSome result (IsTold (seen self.now).state) }
+        ensures done { IsSome result ↔ ((converter_view self.now).over ≡ true) }
+        ensures tells { IfSome result (ReportsOn (converter_view self.now).state) }
     {
         if self.over {
             Some(self.engine.report())
@@ -129,29 +157,42 @@ impl<'t> Converter<'t> {
         }
     }
 
-    /// How many more bytes the job's limit allows. The test of a condition of `convert`.
-    pub fn left(&self) -> u64
-        ensures { result + (seen self.now).state.counts.read ≡ (seen self.now).job.limit }
+    /// How many more bytes of the input the job's limit allows. The test of a condition of
+    /// `convert`.
+    pub fn bytes_left(&self) -> u64
+        ensures { result + (converter_view self.now).state.counts.read
+            ≡ (converter_view self.now).job.limit }
     {
         self.job.limit - self.engine.counts.read
     }
 
-    /// Converts bytes of the input. Returns how the call ended, how many bytes it read and how many
-    /// it wrote.
+    /// Converts bytes of the input: reads from the start of `src`, and writes to the start of
+    /// `dst`. `last` says that no byte comes after `src`. Returns how the call ended, how many
+    /// bytes it read, and how many it wrote; what stands in `dst` behind these stays.
+    /// [`ConverterResult`] says what to do next.
+    ///
+    /// Of `src` it leaves what it did not read, to be handed in again: what was still to be written
+    /// for `src` and any bytes to come is what it wrote, what it found, and then what is still to
+    /// be written for the rest and those bytes. It does no more work than for what it reads and
+    /// writes.
+    ///
+    /// Conditions: not all is written yet (`is_over`); `src` has no more bytes than the limit
+    /// leaves (`bytes_left`); and once the end was read (`is_ended`), `src` is empty and `last` is
+    /// given.
     pub fn convert(
         &mut self,
         src: &[u8],
         dst: &mut [u8],
         last: bool,
     ) -> (ConverterResult, usize, usize)
-        requires over { (seen self.old).over ≡ false }
-        requires ended { (seen self.old).ended ≡ true → (src.now ≡ []) × (last ≡ true) }
-        requires limit { (seen self.old).state.counts.read + length src.now
-            ≤ (seen self.old).job.limit }
-        ensures law { ConvertsPart (seen self.old) (seen self.new) last src.now
+        requires over { (converter_view self.old).over ≡ false }
+        requires ended { (converter_view self.old).ended ≡ true → (src.now ≡ []) × (last ≡ true) }
+        requires limit { (converter_view self.old).state.counts.read + length src.now
+            ≤ (converter_view self.old).job.limit }
+        ensures law { ConvertsPart (converter_view self.old) (converter_view self.new) last src.now
             (drop result.1 src.now) (map Byte (take result.2 dst.new)
-            ++ found_items (reference_form (seen self.old).job.policy) result.0) }
-        ensures ends { EndsWith (seen self.new) (drop result.1 src.now) last
+            ++ found_items (reference_form (converter_view self.old).job.policy) result.0) }
+        ensures ends { ConverterEndsWith (converter_view self.new) (drop result.1 src.now) last
             (length dst.new - result.2) result.0 }
         ensures within { result.1 ≤ length src.now }
         ensures wrote { WritesBytes dst.old dst.new result.2 }
@@ -172,7 +213,7 @@ impl<'t> Converter<'t> {
 fn keep_text(pivot: &Pivot<'_>, text: &mut [u8])
     requires form { is_wide pivot.now ≡ false }
     requires size { capacity pivot.now ≡ length text.old }
-    ensures { text.new ≡ text_of pivot.now }
+    ensures { text.new ≡ pivot_bytes pivot.now }
 {
     match pivot {
         Pivot::Utf8(bytes) => text.copy_from_slice(bytes),

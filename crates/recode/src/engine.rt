@@ -1,5 +1,5 @@
-//! The engine of a conversion: bytes of one encoding to bytes of another, by a decoder and an encoder,
-//! over a pivot that is lent. It calls no device.
+//! The engine of a conversion: bytes of one encoding to bytes of another, by a decoder and an
+//! encoder, over a pivot that is lent. It calls no device.
 
 use crate::codec_calls::{
     PivotText, decode_to_pivot, encode_from_pivot, text_between, write_replacement,
@@ -12,8 +12,8 @@ use encoding_front::{Decoder, Mark, StreamDecoder, VariantEncoder};
 use encoding_mem::{DecoderResult, EncoderResult, RawEncoder};
 use recode_log::line::LogLine;
 
-/// An engine: the codecs, what is known of the output, the counts, and what waits in the pivot that it
-/// is lent.
+/// An engine: the codecs, what is known of the output, the counts, and what waits in the pivot that
+/// it is lent.
 #[derive(Drop)]
 pub struct Engine<D, E> {
     pub decoder: D,
@@ -32,7 +32,7 @@ pub struct Engine<D, E> {
 impl<'t> Engine<Decoder<'t>, VariantEncoder<'t>> {
     ghost use Rattle.std.specs.Prelude.{◌≡◌, None};
     ghost use Rattle.recode.specs.Job.{IsValidJob};
-    ghost use Rattle.recode.specs.Session.{IsNewSession, IsTold};
+    ghost use Rattle.recode.specs.Session.{IsNewSession, ReportsOn};
     ghost use Rattle.recode.specs.declared.job.Policy.{Policy};
     ghost use Rattle.recode.specs.calls.Chunk.{CanConvert};
     ghost use Rattle.recode.specs.calls.EngineView.{engine_state};
@@ -76,7 +76,7 @@ impl<'t> Engine<Decoder<'t>, VariantEncoder<'t>> {
 
     /// The report on what was converted, if all was read and written.
     pub fn report(&self) -> Report
-        ensures { (p : Policy) → IsTold (engine_state ⟦<Decoder<'t> as StreamDecoder>⟧.view
+        ensures { (p : Policy) → ReportsOn (engine_state ⟦<Decoder<'t> as StreamDecoder>⟧.view
             ⟦<VariantEncoder<'t> as RawEncoder>⟧.parts p self.now) result }
     {
         Report {
@@ -103,9 +103,9 @@ impl<D: StreamDecoder, E: RawEncoder> Engine<D, E> {
     ghost use Rattle.recode.specs.calls.EngineView.{engine_state, engine_target};
     ghost use Rattle.recode.specs.calls.Lent.{AreLent};
     ghost use Rattle.recode.specs.calls.Text.{CanEncode};
-    ghost use Rattle.recode.specs.calls.Turns.{CanGoOn, ConvertEndsWith, EncodesOnce, Turns};
+    ghost use Rattle.recode.specs.calls.Turns.{CanGoOn, ConvertEndsWith, EncodesOnce, TakesTurns};
     ghost use Rattle.recode.specs.Converter.{found_items};
-    ghost use Rattle.recode.specs.calls.Turns.{end_count, ends_with, settled, stop_count};
+    ghost use Rattle.recode.specs.calls.Turns.{end_count, is_last_text, settled, stop_count};
     ghost use Rattle.recode.specs.calls.Turns.{stop_items, waits};
     ghost use Rattle.recode.specs.declared.job.Policy.{Policy};
 
@@ -115,7 +115,7 @@ impl<D: StreamDecoder, E: RawEncoder> Engine<D, E> {
             (standing D.view E.parts Policy.Decimal self.old pivot.old) src.now last }
         requires none { self.old.answer ≡ None }
         requires pivot { HoldsAnyCharacter pivot.old }
-        ensures law { (p : Policy) → Turns (standing D.view E.parts p self.old pivot.old)
+        ensures law { (p : Policy) → TakesTurns (standing D.view E.parts p self.old pivot.old)
             (standing D.view E.parts p self.new pivot.new) last src.now
             (drop result src.now) [] 0 0 }
         ensures next { CanGoOn (standing D.view E.parts Policy.Decimal self.new pivot.new)
@@ -213,15 +213,15 @@ impl<D: StreamDecoder, E: RawEncoder> Engine<D, E> {
 
     // Whether the text that waits is the last.
     fn ends(&self, last: bool) -> bool
-        ensures { result ≡ ends_with self.now.answer last }
+        ensures { result ≡ is_last_text self.now.answer last }
     {
         last && matches!(self.answer, Some(DecoderResult::InputEmpty))
     }
 
-    /// Ends a call, so that more bytes can come: the decoder is asked again after the text that waits,
-    /// unless it is the last. Returns whether it is.
+    /// Ends a call, so that more bytes can come: the decoder is asked again after the text that
+    /// waits, unless it is the last. Returns whether it is.
     pub fn settle(&mut self, last: bool) -> bool
-        ensures ends { result ≡ ends_with self.old.answer last }
+        ensures ends { result ≡ is_last_text self.old.answer last }
         ensures same { self.new ≡ record self.old { answer = settled self.old.answer last } }
     {
         match self.answer {
@@ -241,7 +241,7 @@ impl<D: StreamDecoder, E: RawEncoder> Engine<D, E> {
             (standing D.view E.parts Policy.Decimal self.old pivot.old) src.now last }
         requires holds { HoldsBetween pivot.old self.old.from self.old.to }
         requires pivot { HoldsAnyCharacter pivot.old }
-        ensures law { (p : Policy) → Turns (standing D.view E.parts p self.old pivot.old)
+        ensures law { (p : Policy) → TakesTurns (standing D.view E.parts p self.old pivot.old)
             (standing D.view E.parts p self.new pivot.new) last src.now
             (drop result src.now) [] 0 0 }
         ensures next { CanGoOn (standing D.view E.parts Policy.Decimal self.new pivot.new)
@@ -275,7 +275,7 @@ impl<D: StreamDecoder, E: RawEncoder> Engine<D, E> {
             (standing D.view E.parts Policy.Decimal self.old pivot.old) src.now last }
         requires holds { HoldsBetween pivot.old self.old.from self.old.to }
         requires lent { AreLent pivot.old check.old }
-        ensures law { (p : Policy) → Turns (standing D.view E.parts p self.old pivot.old)
+        ensures law { (p : Policy) → TakesTurns (standing D.view E.parts p self.old pivot.old)
             (standing D.view E.parts p self.new pivot.new) last src.now
             (drop result.1 src.now) (map Byte (take result.2 dst.new)
             ++ stop_items (reference_form p) result.0)
@@ -346,7 +346,7 @@ impl<D: StreamDecoder, E: RawEncoder> Engine<D, E> {
             (standing D.view E.parts Policy.Decimal self.old pivot.old) src.now last }
         requires holds { HoldsBetween pivot.old self.old.from self.old.to }
         requires lent { AreLent pivot.old check.old }
-        ensures law { (p : Policy) → Turns (standing D.view E.parts p self.old pivot.old)
+        ensures law { (p : Policy) → TakesTurns (standing D.view E.parts p self.old pivot.old)
             (standing D.view E.parts p self.new pivot.new) last src.now
             (drop result.1 src.now) (map Byte (take result.2 dst.new)
             ++ found_items (reference_form p) result.0)

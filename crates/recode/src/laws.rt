@@ -52,13 +52,14 @@ ghost use Rattle.recode.specs.declared.job.Report.{Report};
 ghost use Rattle.recode.specs.declared.session.Phase.{Phase};
 ghost use Rattle.recode.specs.declared.counts.Counts.{Counts};
 
+use crate::converter::ConverterResult;
 use crate::counts::Counts;
 use crate::indexes::{SourceFault, StartFault};
 use crate::job::{Fault, Policy, Progress, Report};
 use crate::session::Phase;
 
-/// How a step ended, how far a session is, counts, policies, reports and faults are equal exactly
-/// when they are the same.
+/// How a step or a call of a converter ended, how far a session is, counts, policies, reports and
+/// faults are equal exactly when they are the same.
 pub fn reports_are_compared()
     ensures progress { (a b : Progress) → IsTrue (⟦<Progress as PartialEq>⟧.eq a b) ↔ (a ≡ b) }
     ensures report { (a b : Report) → IsTrue (⟦<Report as PartialEq>⟧.eq a b) ↔ (a ≡ b) }
@@ -70,6 +71,8 @@ pub fn reports_are_compared()
         → IsTrue (⟦<StartFault as PartialEq>⟧.eq a b) ↔ IsSameStartFault a b }
     ensures phase { (a b : Phase) → IsTrue (⟦<Phase as PartialEq>⟧.eq a b) ↔ (a ≡ b) }
     ensures counts { (a b : Counts) → IsTrue (⟦<Counts as PartialEq>⟧.eq a b) ↔ (a ≡ b) }
+    ensures result { (a b : ConverterResult)
+        → IsTrue (⟦<ConverterResult as PartialEq>⟧.eq a b) ↔ (a ≡ b) }
 {}
 
 /// What is written for an input if the policy does not stop: its text in the target, and a line for

@@ -57,7 +57,7 @@ impl<'w, W: Write, L: Write> Writers<'w, W, L> {
     ghost use Rattle.recode.specs.calls.Held.{item_of, log_line_of};
     ghost use Rattle.recode.specs.calls.PivotText.{IsCutInto, IsWholeText, pivot_chars};
     ghost use Rattle.recode.specs.calls.Writers.{AreReady, AreTheSame, CountsWriterFault};
-    ghost use Rattle.recode.specs.calls.Writers.{HoldNothing, last_held, writers_view};
+    ghost use Rattle.recode.specs.calls.Writers.{HoldNothing, HoldsMore, last_held, writers_view};
     ghost use Rattle.std.specs.Prelude.{◌*◌, ◌^◌, drop};
     ghost use Rattle.recode_log.specs.declared.line.LogLine.TheVariants.{Lost};
     ghost use Rattle.recode.specs.Policy.{reference_form};
@@ -65,7 +65,7 @@ impl<'w, W: Write, L: Write> Writers<'w, W, L> {
     ghost use Rattle.recode.specs.calls.Buffers.{KeepsRoom};
     ghost use Rattle.recode.specs.calls.EngineView.{HoldsBetween, standing};
     ghost use Rattle.recode.specs.calls.Lent.{AreLent};
-    ghost use Rattle.recode.specs.calls.Turns.{CanGoOn, ConvertEndsWith, Turns, end_count};
+    ghost use Rattle.recode.specs.calls.Turns.{CanGoOn, ConvertEndsWith, TakesTurns, end_count};
     ghost use Rattle.recode.specs.Converter.{found_items};
     ghost use Rattle.recode.specs.declared.converter.ConverterResult.{ConverterResult};
     ghost use Rattle.recode.specs.declared.job.Policy.{Policy};
@@ -139,7 +139,7 @@ impl<'w, W: Write, L: Write> Writers<'w, W, L> {
             (standing D.view E.parts Policy.Decimal engine.old pivot.old) src.now last }
         requires holds { HoldsBetween pivot.old engine.old.from engine.old.to }
         requires lent { AreLent pivot.old check.old }
-        ensures law { (p : Policy) → Turns (standing D.view E.parts p engine.old pivot.old)
+        ensures law { (p : Policy) → TakesTurns (standing D.view E.parts p engine.old pivot.old)
             (standing D.view E.parts p engine.new pivot.new) last src.now
             (drop result.1 src.now) (map Byte (last_held self.new result.2)
             ++ found_items (reference_form p) result.0)
@@ -147,15 +147,9 @@ impl<'w, W: Write, L: Write> Writers<'w, W, L> {
         ensures ends { (p : Policy) → ConvertEndsWith
             (standing D.view E.parts p engine.new pivot.new)
             (drop result.1 src.now) last (length self.new.buffer.now - self.new.held) result.0 }
-        ensures bytes { PassesBytes (writers_view W.contents L.contents self.old)
-            (writers_view W.contents L.contents self.new) (last_held self.new result.2) }
-        ensures held { self.new.held ≡ self.old.held + result.2 }
-        ensures count { length (last_held self.new result.2) ≡ result.2 }
+        ensures held { HoldsMore W.contents L.contents self.old self.new result.2 }
         ensures within { result.1 ≤ length src.now }
-        ensures hold { HoldsBetween pivot.new engine.new.from engine.new.to }
-        ensures output { self.new.output ≡ self.old.output }
-        ensures log { self.new.log ≡ self.old.log }
-        ensures same { AreTheSame self.old self.new }
+        ensures waits { HoldsBetween pivot.new engine.new.from engine.new.to }
         ensures pivot { KeepsRoom pivot.old pivot.new }
         ensures check { KeepsRoom check.old check.new }
     {

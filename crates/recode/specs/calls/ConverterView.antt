@@ -4,5 +4,5 @@ use Rattle.recode.specs.contracts.converter.ConverterViewed.TheImpl.{ghosts}
 use Rattle.recode.specs.declared.converter.Converter.{Converter}
 
 -- what a `Converter` is to its callers
-abbrev pub seen : Converter → ConverterView
-seen c = ghosts.view c
+abbrev pub converter_view : Converter → ConverterView
+converter_view c = ghosts.view c

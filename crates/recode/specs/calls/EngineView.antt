@@ -53,11 +53,11 @@ abbrev pub over_text : List ℕ → Pivot
 over_text bytes = Utf8 (record { ref_ptr = (0, 0); ghost_name = 0; now = bytes })
 
 -- the bytes of a pivot of UTF-8
-abbrev pub text_of : Pivot → List ℕ
-text_of (Utf8 bytes) = bytes.now
-text_of (Utf16 units) = []
+abbrev pub pivot_bytes : Pivot → List ℕ
+pivot_bytes (Utf8 bytes) = bytes.now
+pivot_bytes (Utf16 units) = []
 
 -- a converter with these parts
-abbrev pub converter_view : {D E : Type 0} → (D → DecoderView) → (E → EncoderParts) → Job → Engine D E → (bytes : List ℕ) → (ended over : Bool) → ConverterView
-converter_view view parts job engine bytes ended over =
+abbrev pub converter_of_parts : {D E : Type 0} → (D → DecoderView) → (E → EncoderParts) → Job → Engine D E → (bytes : List ℕ) → (ended over : Bool) → ConverterView
+converter_of_parts view parts job engine bytes ended over =
     let c = standing view parts job.policy engine (over_text bytes) in record { job = job; state = c.state; waiting = waiting c; ended = ended; over = over }

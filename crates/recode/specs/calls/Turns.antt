@@ -19,9 +19,9 @@ use Rattle.recode.specs.declared.converter.ConverterResult.{ConverterResult}
 use Rattle.recode.specs.declared.converter.ConverterResult.TheVariants.{Found, InputEmpty, OutputFull}
 
 -- text that waits to be encoded, as pieces: a byte for each character
-abbrev pub text_pieces : List ℕ → List Piece
-text_pieces [] = []
-text_pieces (c ∷ t) = well_formed 1 (c ∷ []) ∷ text_pieces t
+abbrev pub pieces_of_text : List ℕ → List Piece
+pieces_of_text [] = []
+pieces_of_text (c ∷ t) = well_formed 1 (c ∷ []) ∷ pieces_of_text t
 
 -- what the decoder's call reported, after the text that waits
 abbrev pub reported : Option DecoderResult → List Piece
@@ -39,7 +39,7 @@ pub record Standing : Type 0 where
 
 -- the pieces that wait: they are decoded, and not yet encoded
 abbrev pub waiting : Standing → List Piece
-waiting c = text_pieces c.text ++ reported c.answer
+waiting c = pieces_of_text c.text ++ reported c.answer
 
 -- the bytes of the pieces that wait, and those that the decoder holds
 abbrev pub pending_in : Standing → ℕ
@@ -61,18 +61,18 @@ pub record AreCountedSoundly (c : Standing) : Type 0 where
   pub lost : c.state.counts.lost ≤ c.state.counts.index
 
 -- the calls that a text that waits may still take: with its end, two
-abbrev pub spare : Option DecoderResult → ℕ
-spare None = 1
-spare (Some decoded.InputEmpty) = 0
-spare (Some decoded.OutputFull) = 3
-spare (Some (decoded.Malformed a b)) = 3
+abbrev pub spare_calls : Option DecoderResult → ℕ
+spare_calls None = 1
+spare_calls (Some decoded.InputEmpty) = 0
+spare_calls (Some decoded.OutputFull) = 3
+spare_calls (Some (decoded.Malformed a b)) = 3
 
 -- the calls that are sure to come for it
-abbrev pub due : Option DecoderResult → ℕ
-due None = 1
-due (Some decoded.InputEmpty) = 0
-due (Some decoded.OutputFull) = 2
-due (Some (decoded.Malformed a b)) = 3
+abbrev pub due_calls : Option DecoderResult → ℕ
+due_calls None = 1
+due_calls (Some decoded.InputEmpty) = 0
+due_calls (Some decoded.OutputFull) = 2
+due_calls (Some (decoded.Malformed a b)) = 3
 
 -- characters that were passed or wait
 abbrev pub decoded_count : Standing → ℕ
@@ -91,7 +91,7 @@ pub record TakesPieces (c c' : Standing) (bytes rest : List ℕ) : Type 0 where
 
 -- THE LAW. Of these bytes the rest is left, whatever comes after them (nothing after the last): what was owed is these
 -- items, then what is owed now.
-pub record Turns (c c' : Standing) (last : Bool) (bytes rest : List ℕ) (items : List Item) (most least : ℕ) : Type 0 where
+pub record TakesTurns (c c' : Standing) (last : Bool) (bytes rest : List ℕ) (items : List Item) (most least : ℕ) : Type 0 where
   pub counted : c'.state.counts.read + length rest ≡ c.state.counts.read + length bytes
   pub target : c'.state.coding ≡ c.state.coding
   pub policy : c'.state.policy ≡ c.state.policy
@@ -100,10 +100,10 @@ pub record Turns (c c' : Standing) (last : Bool) (bytes rest : List ℕ) (items 
   pub source : (r : List ℕ) → (last ≡ true → r ≡ []) → c.state.source (bytes ++ r) ≡ c'.state.source (rest ++ r)
   pub owes : (r : List ℕ) → (last ≡ true → r ≡ []) → owed c (bytes ++ r) ≡ items ++ owed c' (rest ++ r)
   pub verdict : (r : List ℕ) → (last ≡ true → r ≡ []) → WillBeKept c (bytes ++ r) ↔ WillBeKept c' (rest ++ r)
-  pub calls : (r : List ℕ) → (last ≡ true → r ≡ []) → c'.state.counts.calls + c.state.counts.index + 3 * decoded_count c + 2 * length (owed c' (rest ++ r)) + spare c'.answer
-      ≤ c.state.counts.calls + c'.state.counts.index + 3 * decoded_count c' + 2 * length (owed c (bytes ++ r)) + spare c.answer + most
+  pub calls : (r : List ℕ) → (last ≡ true → r ≡ []) → c'.state.counts.calls + c.state.counts.index + 3 * decoded_count c + 2 * length (owed c' (rest ++ r)) + spare_calls c'.answer
+      ≤ c.state.counts.calls + c'.state.counts.index + 3 * decoded_count c' + 2 * length (owed c (bytes ++ r)) + spare_calls c.answer + most
   pub grows : c'.state.counts.calls < 2 ^ 64 - 1 → c.state.counts.calls ≤ c'.state.counts.calls
-  pub least_calls : c'.state.counts.calls < 2 ^ 64 - 1 → c.state.counts.calls + c'.state.counts.lost + 3 * bad_count c' + due c.answer + least ≤ c'.state.counts.calls + c.state.counts.lost + 3 * bad_count c + due c'.answer
+  pub least_calls : c'.state.counts.calls < 2 ^ 64 - 1 → c.state.counts.calls + c'.state.counts.lost + 3 * bad_count c' + due_calls c.answer + least ≤ c'.state.counts.calls + c.state.counts.lost + 3 * bad_count c + due_calls c'.answer
   pub advances : last ≡ false → TakesPieces c c' bytes rest
 
 -- what has to hold of what waits: if all is read, no byte is handed in, and whether it is the last stays
@@ -123,11 +123,11 @@ pub record CanGoOn (c : Standing) (src : List ℕ) (last : Bool) : Type 0 where
   pub open_ : IsOpenFor c.answer c src last
 
 -- whether the text that waits is the last
-abbrev pub ends_with : Option DecoderResult → Bool → Bool
-ends_with None last = false
-ends_with (Some decoded.InputEmpty) last = last
-ends_with (Some decoded.OutputFull) last = false
-ends_with (Some (decoded.Malformed a b)) last = false
+abbrev pub is_last_text : Option DecoderResult → Bool → Bool
+is_last_text None last = false
+is_last_text (Some decoded.InputEmpty) last = last
+is_last_text (Some decoded.OutputFull) last = false
+is_last_text (Some (decoded.Malformed a b)) last = false
 
 -- after a call: if the text that waits is not the last, the decoder is asked again after it
 abbrev pub settled : Option DecoderResult → Bool → Option DecoderResult
@@ -139,14 +139,14 @@ settled (Some (decoded.Malformed a b)) last = Some (decoded.Malformed a b)
 
 -- Between two calls of a converter, before all is written: the text that waits is the last if the end was read; otherwise
 -- the decoder is asked again after it.
-pub record IsAtRest (c : Standing) (ended : Bool) : Type 0 where
+pub record IsBetweenCalls (c : Standing) (ended : Bool) : Type 0 where
   pub sound : AreCountedSoundly c
   pub tells : CanTell c.state.verdict c.state.coding c.state.set c.text
   pub finished : c.state.finished ≡ ended
   pub none : c.answer ≡ None → c.text ≡ []
   pub malformed : (a b : ℕ) → c.answer ≡ Some (decoded.Malformed a b) → (1 ≤ a) × (a ≤ 4) × (c.state.decoder.pending ≡ b)
   pub end : ended ≡ true → (c.answer ≡ Some decoded.InputEmpty) × (c.state.decoder.pending ≡ 0) × (length (c.state.decoder.pieces []) ≡ 0)
-  pub more : ended ≡ false → ends_with c.answer true ≡ false
+  pub more : ended ≡ false → is_last_text c.answer true ≡ false
 
 -- 1 if all that was handed in is converted
 abbrev pub end_count : ConverterResult → ℕ
@@ -165,6 +165,7 @@ abbrev pub stop_items : Reference → Option ConverterResult → List Item
 stop_items ref None = []
 stop_items ref (Some result) = found_items ref result
 
+-- 1 if the call ends here, and all that was handed in is converted
 abbrev pub stop_count : Option ConverterResult → ℕ
 stop_count None = 0
 stop_count (Some result) = end_count result

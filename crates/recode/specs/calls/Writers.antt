@@ -4,7 +4,7 @@ use Rattle.recode_log.specs.Counted.{failures_of}
 use Rattle.recode_log.specs.Line.{IsValid}
 use Rattle.recode.specs.Devices.{Written, written_in}
 use Rattle.recode.specs.Fault.{log_failures, of_other, reader_failures, writer_failures}
-use Rattle.recode.specs.calls.Held.{WritersView, log_line_of}
+use Rattle.recode.specs.calls.Held.{PassesBytes, WritersView, log_line_of}
 use Rattle.recode.specs.declared.job.Fault.{Fault}
 use Rattle.recode.specs.declared.writers.MalformedLine.{MalformedLine}
 use Rattle.recode.specs.declared.writers.Writers.{Writers}
@@ -49,6 +49,15 @@ pub record AreTheSame {W L : Type 0} (before after : Writers W L) : Type 0 where
   pub line : HasValidLine after.line
   pub log : after.log.ghost_name ≡ before.log.ghost_name
   pub policy : after.policy ≡ before.policy
+
+-- So many bytes are held behind those that were. No writer was called.
+pub record HoldsMore {W L : Type 0} (contents : W → Option (List ℕ)) (logged : L → Option (List ℕ)) (before after : Writers W L) (n : ℕ) : Type 0 where
+  pub bytes : PassesBytes (writers_view contents logged before) (writers_view contents logged after) (last_held after n)
+  pub held : after.held ≡ before.held + n
+  pub count : length (last_held after n) ≡ n
+  pub output : after.output ≡ before.output
+  pub log : after.log ≡ before.log
+  pub same : AreTheSame before after
 
 -- The count of the writer that a fault is of rose by one, and the other stayed. No fault is of another device.
 pub record CountsWriterFault {W L T : Type 0} (before after : Writers W L) (result : Result T Fault) : Type 0 where

@@ -80,11 +80,11 @@ returns-in-InputEmpty-clause-chunk g c =
     let bytes = last_held k.new.self k.result.2 in
     let pumps = pumps_held w0 w w1 c0 c1 p last chunk rest 0 0 i.pumps c.in_ok-make_room.ensures.ok in
     let policy1 = c.in_ok-make_room.ensures.failures.same.policy ∙ i.same.policy in
-    let policy2 = k.ensures.same.policy ∙ policy1 in
+    let policy2 = k.ensures.held.same.policy ∙ policy1 in
     let w3 = writers_view g.W.Write.contents g.L.Write.contents c.deliver_held.new.self in
     let ends = rw c.in-InputEmpty.is at (k.ensures.ends p) in
     let law = rw c.in-InputEmpty.is at (k.ensures.law p) in
-    let passed = subst (Passes w1 w2) (sym (append-nil (map Byte bytes))) k.ensures.bytes in
+    let passed = subst (Passes w1 w2) (sym (append-nil (map Byte bytes))) k.ensures.held.bytes in
     let all = rw ends.0 at (pumps_more w0 w1 w2 c0 c1 c2 p last chunk rest (drop k.result.1 rest) _ 3 2 pumps passed (found_spared p bytes) law) in
     let converts = pumps_whole w0 w2 c0 c2 p last chunk [] c.requires.none empty ends.1 ends.2 refl all in
     rw (sym c.is_empty-last.ensures, c.deliver_held.ensures.failures.same.policy, policy2)
@@ -113,11 +113,11 @@ returns-in-InputEmpty-clause-err g c =
     let bytes = last_held k.new.self k.result.2 in
     let pumps = pumps_held w0 w w1 c0 c1 p last chunk rest 0 0 i.pumps c.in_ok-make_room.ensures.ok in
     let policy1 = c.in_ok-make_room.ensures.failures.same.policy ∙ i.same.policy in
-    let policy2 = k.ensures.same.policy ∙ policy1 in
+    let policy2 = k.ensures.held.same.policy ∙ policy1 in
     let w3 = writers_view g.W.Write.contents g.L.Write.contents c.deliver_held.new.self in
     let ends = rw c.in-InputEmpty.is at (k.ensures.ends p) in
     let law = rw c.in-InputEmpty.is at (k.ensures.law p) in
-    let passed = subst (Passes w1 w2) (sym (append-nil (map Byte bytes))) k.ensures.bytes in
+    let passed = subst (Passes w1 w2) (sym (append-nil (map Byte bytes))) k.ensures.held.bytes in
     let all = rw ends.0 at (pumps_more w0 w1 w2 c0 c1 c2 p last chunk rest (drop k.result.1 rest) _ 3 2 pumps passed (found_spared p bytes) law) in
     let converts = pumps_whole w0 w2 c0 c2 p last chunk [] c.requires.none empty ends.1 ends.2 refl all in
     rw (sym c.is_empty-last.ensures) (delivered_under _ w0 w2 w3 _ _ _ _ _ _ held converts (rw policy2 at c.deliver_held.ensures.err))
@@ -145,7 +145,7 @@ returns-in-InputEmpty-clause-target g c =
     let bytes = last_held k.new.self k.result.2 in
     let pumps = pumps_held w0 w w1 c0 c1 p last chunk rest 0 0 i.pumps c.in_ok-make_room.ensures.ok in
     let policy1 = c.in_ok-make_room.ensures.failures.same.policy ∙ i.same.policy in
-    let policy2 = k.ensures.same.policy ∙ policy1 in
+    let policy2 = k.ensures.held.same.policy ∙ policy1 in
     (k.ensures.law p).target ∙ i.pumps.turns.target
 
 pub calls-smaller-in-OutputFull : goal.calls-smaller-in-OutputFull
@@ -171,13 +171,13 @@ calls-smaller-in-OutputFull g c =
     let bytes = last_held k.new.self k.result.2 in
     let pumps = pumps_held w0 w w1 c0 c1 p last chunk rest 0 0 i.pumps c.in_ok-make_room.ensures.ok in
     let policy1 = c.in_ok-make_room.ensures.failures.same.policy ∙ i.same.policy in
-    let policy2 = k.ensures.same.policy ∙ policy1 in
+    let policy2 = k.ensures.held.same.policy ∙ policy1 in
     let d1 = standing view parts Policy.Decimal c.calls.engine c.calls.pivot in
     let d2 = standing view parts Policy.Decimal k.new.engine k.new.pivot in
     let ends = rw c.in-OutputFull.is at (k.ensures.ends Policy.Decimal) in
-    let some : 0 < k.result.2 = omega (arith, ends.0, c.in_ok-make_room.ensures.room, k.ensures.held, k.ensures.same.room) in
+    let some : 0 < k.result.2 = omega (arith, ends.0, c.in_ok-make_room.ensures.room, k.ensures.held.held, k.ensures.held.same.room) in
     let law = rw c.in-OutputFull.is at (k.ensures.law Policy.Decimal) in
-    rw (take_rest rest k.result.1) (smaller_by d1 d2 last rest (drop k.result.1 rest) _ 0 0 law (omega (arith, some, length-append (map Byte bytes) [], length-map bytes Byte, k.ensures.count)))
+    rw (take_rest rest k.result.1) (smaller_by d1 d2 last rest (drop k.result.1 rest) _ 0 0 law (omega (arith, some, length-append (map Byte bytes) [], length-map bytes Byte, k.ensures.held.count)))
 
 pub calls-preserved-in-OutputFull : goal.calls-preserved-in-OutputFull
 calls-preserved-in-OutputFull g c =
@@ -202,17 +202,17 @@ calls-preserved-in-OutputFull g c =
     let bytes = last_held k.new.self k.result.2 in
     let pumps = pumps_held w0 w w1 c0 c1 p last chunk rest 0 0 i.pumps c.in_ok-make_room.ensures.ok in
     let policy1 = c.in_ok-make_room.ensures.failures.same.policy ∙ i.same.policy in
-    let policy2 = k.ensures.same.policy ∙ policy1 in
+    let policy2 = k.ensures.held.same.policy ∙ policy1 in
     let ends = rw c.in-OutputFull.is at (k.ensures.ends Policy.Decimal) in
     let law = rw c.in-OutputFull.is at (k.ensures.law p) in
-    let passed = subst (Passes w1 w2) (sym (append-nil (map Byte bytes))) k.ensures.bytes in
+    let passed = subst (Passes w1 w2) (sym (append-nil (map Byte bytes))) k.ensures.held.bytes in
     record {
       pumps = rw (take_rest rest k.result.1) (pumps_more w0 w1 w2 c0 c1 c2 p last chunk rest (drop k.result.1 rest) _ 0 0 pumps passed (found_spared p bytes) law);
       ready = rw (take_rest rest k.result.1) ends.1;
-      holds = k.ensures.hold;
-      writer_count = rw k.ensures.output (omega (arith, c.in_ok-make_room.ensures.failures.writer, i.writer_count));
-      log_count = rw k.ensures.log (omega (arith, c.in_ok-make_room.ensures.failures.log, i.log_count));
-      same = same_on (same_on i.same c.in_ok-make_room.ensures.failures.same) k.ensures.same;
+      holds = k.ensures.waits;
+      writer_count = rw k.ensures.held.output (omega (arith, c.in_ok-make_room.ensures.failures.writer, i.writer_count));
+      log_count = rw k.ensures.held.log (omega (arith, c.in_ok-make_room.ensures.failures.log, i.log_count));
+      same = same_on (same_on i.same c.in_ok-make_room.ensures.failures.same) k.ensures.held.same;
       pivot = room_on i.pivot k.ensures.pivot;
       check = room_on i.check k.ensures.check;
     }
@@ -240,7 +240,7 @@ calls-smaller g c =
     let bytes = last_held k.new.self k.result.2 in
     let pumps = pumps_held w0 w w1 c0 c1 p last chunk rest 0 0 i.pumps c.in_ok-make_room.ensures.ok in
     let policy1 = c.in_ok-make_room.ensures.failures.same.policy ∙ i.same.policy in
-    let policy2 = k.ensures.same.policy ∙ policy1 in
+    let policy2 = k.ensures.held.same.policy ∙ policy1 in
     let d1 = standing view parts Policy.Decimal c.calls.engine c.calls.pivot in
     let d2 = standing view parts Policy.Decimal k.new.engine k.new.pivot in
     let law = rw c.in-Found.is at (k.ensures.law Policy.Decimal) in
@@ -269,7 +269,7 @@ calls-preserved g c =
     let bytes = last_held k.new.self k.result.2 in
     let pumps = pumps_held w0 w w1 c0 c1 p last chunk rest 0 0 i.pumps c.in_ok-make_room.ensures.ok in
     let policy1 = c.in_ok-make_room.ensures.failures.same.policy ∙ i.same.policy in
-    let policy2 = k.ensures.same.policy ∙ policy1 in
+    let policy2 = k.ensures.held.same.policy ∙ policy1 in
     let w3 = writers_view g.W.Write.contents g.L.Write.contents c.take_found.new.self in
     let f = c.in_ok-take_found-in-Found.ensures in
     let taken = subst (λ (q : Policy). Passes w2 w3 (found_items (reference_form q) (Found c.in-Found.line))) policy2 f.ok in
@@ -278,12 +278,12 @@ calls-preserved g c =
     let law = rw c.in-Found.is at (k.ensures.law p) in
     let items = found_items (reference_form p) (Found c.in-Found.line) in
     record {
-      pumps = rw (take_rest rest k.result.1) (pumps_more w0 w1 w3 c0 c1 c2 p last chunk rest (drop k.result.1 rest) (map Byte bytes ++ items) 0 0 pumps (passes_then w1 w2 w3 (map Byte bytes) items k.ensures.bytes taken) (spared_append p (map Byte bytes) items (spared_only p bytes) spared) law);
+      pumps = rw (take_rest rest k.result.1) (pumps_more w0 w1 w3 c0 c1 c2 p last chunk rest (drop k.result.1 rest) (map Byte bytes ++ items) 0 0 pumps (passes_then w1 w2 w3 (map Byte bytes) items k.ensures.held.bytes taken) (spared_append p (map Byte bytes) items (spared_only p bytes) spared) law);
       ready = rw (take_rest rest k.result.1) ends.1;
-      holds = k.ensures.hold;
-      writer_count = omega (arith, c.in_ok-take_found-in-Found.ensures.failures.writer, ap (λ x. failures_of x.now) k.ensures.output, c.in_ok-make_room.ensures.failures.writer, i.writer_count);
-      log_count = omega (arith, c.in_ok-take_found-in-Found.ensures.failures.log, ap (λ x. failures_of x.now) k.ensures.log, c.in_ok-make_room.ensures.failures.log, i.log_count);
-      same = same_on (same_on (same_on i.same c.in_ok-make_room.ensures.failures.same) k.ensures.same) c.in_ok-take_found-in-Found.ensures.failures.same;
+      holds = k.ensures.waits;
+      writer_count = omega (arith, c.in_ok-take_found-in-Found.ensures.failures.writer, ap (λ x. failures_of x.now) k.ensures.held.output, c.in_ok-make_room.ensures.failures.writer, i.writer_count);
+      log_count = omega (arith, c.in_ok-take_found-in-Found.ensures.failures.log, ap (λ x. failures_of x.now) k.ensures.held.log, c.in_ok-make_room.ensures.failures.log, i.log_count);
+      same = same_on (same_on (same_on i.same c.in_ok-make_room.ensures.failures.same) k.ensures.held.same) c.in_ok-take_found-in-Found.ensures.failures.same;
       pivot = room_on i.pivot k.ensures.pivot;
       check = room_on i.check k.ensures.check;
     }
@@ -311,13 +311,13 @@ returns-in_err-take_found-in-Found-clause-err g c =
     let bytes = last_held k.new.self k.result.2 in
     let pumps = pumps_held w0 w w1 c0 c1 p last chunk rest 0 0 i.pumps c.in_ok-make_room.ensures.ok in
     let policy1 = c.in_ok-make_room.ensures.failures.same.policy ∙ i.same.policy in
-    let policy2 = k.ensures.same.policy ∙ policy1 in
+    let policy2 = k.ensures.held.same.policy ∙ policy1 in
     let w3 = writers_view g.W.Write.contents g.L.Write.contents c.take_found.new.self in
     let law = rw c.in-Found.is at (k.ensures.law p) in
     let e = c.in_err-take_found-in-Found in
     let left = subst (λ (q : Policy). (to_write : List Item) → LeavesPrefix w2 w3 q e.field-0.0 (found_items (reference_form q) (Found c.in-Found.line) ++ to_write)) policy2 e.ensures.err in
     rw (sym c.is_empty-last.ensures) (hands_on_for _ _ _ _ _ _ _ c.from_residual-in_err-take_found-in-Found.ensures.1 (left_at_start w0 w3 c0 p _ last chunk c.requires.none empty held
-    (pumps_under w0 w1 w3 c0 c1 p _ last chunk rest 0 0 pumps (left_found w1 w2 w3 c1 c2 p _ last rest (drop k.result.1 rest) bytes (found_items (reference_form p) (Found c.in-Found.line)) 0 0 k.ensures.bytes law left))))
+    (pumps_under w0 w1 w3 c0 c1 p _ last chunk rest 0 0 pumps (left_found w1 w2 w3 c1 c2 p _ last rest (drop k.result.1 rest) bytes (found_items (reference_form p) (Found c.in-Found.line)) 0 0 k.ensures.held.bytes law left))))
 
 pub returns-in_err-take_found-in-Found-clause-target : goal.returns-in_err-take_found-in-Found-clause-target
 returns-in_err-take_found-in-Found-clause-target g c =
@@ -342,7 +342,7 @@ returns-in_err-take_found-in-Found-clause-target g c =
     let bytes = last_held k.new.self k.result.2 in
     let pumps = pumps_held w0 w w1 c0 c1 p last chunk rest 0 0 i.pumps c.in_ok-make_room.ensures.ok in
     let policy1 = c.in_ok-make_room.ensures.failures.same.policy ∙ i.same.policy in
-    let policy2 = k.ensures.same.policy ∙ policy1 in
+    let policy2 = k.ensures.held.same.policy ∙ policy1 in
     (k.ensures.law p).target ∙ i.pumps.turns.target
 
 pub returns-in-InputEmpty-clause-none : goal.returns-in-InputEmpty-clause-none
@@ -368,7 +368,7 @@ returns-in-InputEmpty-clause-none g c =
     let bytes = last_held k.new.self k.result.2 in
     let pumps = pumps_held w0 w w1 c0 c1 p last chunk rest 0 0 i.pumps c.in_ok-make_room.ensures.ok in
     let policy1 = c.in_ok-make_room.ensures.failures.same.policy ∙ i.same.policy in
-    let policy2 = k.ensures.same.policy ∙ policy1 in
+    let policy2 = k.ensures.held.same.policy ∙ policy1 in
     ok_of c.deliver_held.result (rw c.in-InputEmpty.is at (k.ensures.ends p)).1
 
 pub take_found-requires-clause-valid : goal.take_found-requires-clause-valid
@@ -394,5 +394,5 @@ take_found-requires-clause-valid g c =
     let bytes = last_held k.new.self k.result.2 in
     let pumps = pumps_held w0 w w1 c0 c1 p last chunk rest 0 0 i.pumps c.in_ok-make_room.ensures.ok in
     let policy1 = c.in_ok-make_room.ensures.failures.same.policy ∙ i.same.policy in
-    let policy2 = k.ensures.same.policy ∙ policy1 in
+    let policy2 = k.ensures.held.same.policy ∙ policy1 in
     (rw c.in-Found.is at (k.ensures.ends p)).0

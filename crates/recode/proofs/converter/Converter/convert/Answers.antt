@@ -5,7 +5,7 @@ use Rattle.encoding_mem.specs.Items.{Byte}
 use Rattle.recode.specs.Converter.{found_items}
 use Rattle.recode.specs.Policy.{reference_form}
 use Rattle.recode.specs.calls.EngineView.{over_text, standing}
-use Rattle.recode.specs.calls.Turns.{ConvertEndsWith, Turns, end_count}
+use Rattle.recode.specs.calls.Turns.{ConvertEndsWith, TakesTurns, end_count}
 use Rattle.recode.specs.declared.job.Policy.{Policy}
 use Rattle.recode.proofs.ConverterLemmas.{can_go_on, ends_of, holds_kept, part_of, rests_of, standing_kept}
 use Rattle.recode.proofs.converter.Converter.convert.Goals as goal
@@ -22,7 +22,7 @@ returns-clause-law c =
     let kept = standing_kept view-value.it parts-value.it j.policy k.new.self k.new.pivot c.keep_text.new.text k.ensures.pivot.kind c.keep_text.ensures in
     rw (c.settle-self.ensures.same) (
     part_of j c0 c1 _ _ _ _ c.args.last c.args.src.now _ _ (3 * end_count k.result.0) (2 * end_count k.result.0) _ k.result.0
-    (subst (λ z. Turns c0 z c.args.last c.args.src.now (drop k.result.1 c.args.src.now) (map Byte (take k.result.2 k.new.dst) ++ found_items (reference_form j.policy) k.result.0) (3 * end_count k.result.0) (2 * end_count k.result.0)) kept (k.ensures.law j.policy))
+    (subst (λ z. TakesTurns c0 z c.args.last c.args.src.now (drop k.result.1 c.args.src.now) (map Byte (take k.result.2 k.new.dst) ++ found_items (reference_form j.policy) k.result.0) (3 * end_count k.result.0) (2 * end_count k.result.0)) kept (k.ensures.law j.policy))
     (subst (λ z. ConvertEndsWith z (drop k.result.1 c.args.src.now) c.args.last (length k.new.dst - k.result.2) k.result.0) kept (k.ensures.ends j.policy))
     c.settle-self.ensures.ends)
 

@@ -4,7 +4,7 @@ use Rattle.encoding_mem.specs.Items.{Byte}
 use Rattle.recode.specs.Policy.{reference_form}
 use Rattle.recode.specs.calls.EngineView.{standing}
 use Rattle.recode.specs.Converter.{found_items}
-use Rattle.recode.specs.calls.Turns.{CanGoOn, ConvertEndsWith, Turns, end_count}
+use Rattle.recode.specs.calls.Turns.{CanGoOn, ConvertEndsWith, TakesTurns, end_count}
 use Rattle.recode.specs.declared.job.Policy.{Policy}
 use Rattle.recode.proofs.BufferLemmas.{room_on, room_start}
 use Rattle.recode.proofs.TurnLemmas.{turns_start}
@@ -36,7 +36,7 @@ turns-preserved g c =
     let c2 = standing view parts Policy.Decimal t.new.self t.new.pivot in
     let ready = rw (take_rest c.args.src.now c.turns.read) at (t.ensures.goes_on c.in_default.is) in
     record {
-      law = λ p. subst (λ l. Turns (standing view parts p c.args.self.now c.args.pivot.now) (standing view parts p t.new.self t.new.pivot) c.args.last c.args.src.now (drop (c.turns.read + t.result.1) c.args.src.now) l 0 0)
+      law = λ p. subst (λ l. TakesTurns (standing view parts p c.args.self.now c.args.pivot.now) (standing view parts p t.new.self t.new.pivot) c.args.last c.args.src.now (drop (c.turns.read + t.result.1) c.args.src.now) l 0 0)
           (items_into c.turns.written (length c.turns.dst - c.turns.written) t.result.2 c.turns.dst t.new.dst [] i.wrote.room t.ensures.wrote.room ∙ append-nil (map Byte _))
           (turn_after (standing view parts p c.args.self.now c.args.pivot.now) (standing view parts p c.turns.self c.turns.pivot) (standing view parts p t.new.self t.new.pivot) c.args.last c.args.src.now c.turns.read t.result.1 _ _ 0 0 (i.law p)
           (rw (take_rest c.args.src.now c.turns.read, c.in_default.is) at (t.ensures.law p)));
@@ -61,7 +61,7 @@ returns-in-Some-clause-law g c = λ p.
     let i = c.turns.invariant in
     let t = c.turn-stop in
     let r = c.in-Some.result in
-    subst (λ l. Turns (standing view parts p c.args.self.now c.args.pivot.now) (standing view parts p t.new.self t.new.pivot) c.args.last c.args.src.now (drop (c.turns.read + t.result.1) c.args.src.now) l (3 * end_count r) (2 * end_count r))
+    subst (λ l. TakesTurns (standing view parts p c.args.self.now c.args.pivot.now) (standing view parts p t.new.self t.new.pivot) c.args.last c.args.src.now (drop (c.turns.read + t.result.1) c.args.src.now) l (3 * end_count r) (2 * end_count r))
     (items_into c.turns.written (length c.turns.dst - c.turns.written) t.result.2 c.turns.dst t.new.dst (found_items (reference_form p) r) i.wrote.room t.ensures.wrote.room)
     (turn_after (standing view parts p c.args.self.now c.args.pivot.now) (standing view parts p c.turns.self c.turns.pivot) (standing view parts p t.new.self t.new.pivot) c.args.last c.args.src.now c.turns.read t.result.1 _ _ (3 * end_count r) (2 * end_count r) (i.law p)
     (rw (take_rest c.args.src.now c.turns.read, c.in-Some.is) at (t.ensures.law p)))

@@ -3,7 +3,7 @@ use Rattle.encoding_mem.specs.Items.{Byte}
 use Rattle.encoding_mem.specs.calls.EncoderRule.{WritesBytes}
 use Rattle.recode.specs.calls.Buffers.{KeepsRoom}
 use Rattle.recode.specs.calls.EngineView.{HoldsBetween, standing}
-use Rattle.recode.specs.calls.Turns.{CanGoOn, Turns, waits}
+use Rattle.recode.specs.calls.Turns.{CanGoOn, TakesTurns, waits}
 use Rattle.recode.specs.declared.job.Policy.{Policy}
 use Rattle.recode.proofs.engine.Engine.convert.Given as goal
 
@@ -12,7 +12,7 @@ invariant-turns g l =
     let view = g.D.StreamDecoder.view in
     let parts = g.E.RawEncoder.parts in
     record {
-      law : (p : Policy) → Turns (standing view parts p l.initial.self l.initial.pivot) (standing view parts p l.self l.pivot) l.last l.src (drop l.read l.src) (map Byte (take l.written l.dst)) 0 0;
+      law : (p : Policy) → TakesTurns (standing view parts p l.initial.self l.initial.pivot) (standing view parts p l.self l.pivot) l.last l.src (drop l.read l.src) (map Byte (take l.written l.dst)) 0 0;
       ready : CanGoOn (standing view parts Policy.Decimal l.self l.pivot) (drop l.read l.src) l.last;
       within : l.read ≤ length l.src;
       wrote : WritesBytes l.initial.dst l.dst l.written;

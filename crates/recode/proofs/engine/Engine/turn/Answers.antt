@@ -5,7 +5,7 @@ use Rattle.recode.specs.calls.EngineView.{standing}
 use Rattle.recode.specs.declared.job.Policy.{Policy}
 use Rattle.encoding_mem.specs.Items.{MalformedAt}
 use Rattle.encoding_mem.specs.declared.decoder_result.DecoderResult.TheVariants.{InputEmpty, Malformed, OutputFull}
-use Rattle.recode.specs.calls.Turns.{IsOpenFor, Turns, ends_with}
+use Rattle.recode.specs.calls.Turns.{IsOpenFor, TakesTurns, is_last_text}
 use Rattle.recode.specs.calls.Verdict.{CanTell}
 use Rattle.recode.proofs.TurnLemmas.{replaced_state, turns_more}
 use Rattle.recode.proofs.VerdictLemmas.{lost_tells}
@@ -125,7 +125,7 @@ replace-line-requires-clause-small g c =
     let finished = ap (λ d. (view d).finished) e.ensures.decoder in
     let is : e.new.self.answer ≡ Some (Malformed c.in-Malformed.size c.in-Malformed.after) = c.in-Some.is ∙ ap (λ x. Some x) c.in-Malformed.is in
     let open_ = subst (λ x. IsOpenFor x c2 y c.args.last) is (open_still a.0 c1 c2 y c.args.last a.1 e.ensures.answer decoder finished ready.open_) in
-    let ended : c.ends-ends.result ≡ ends_with (Some (Malformed c.in-Malformed.size c.in-Malformed.after)) c.args.last = c.ends-ends.ensures ∙ ap (λ x. ends_with x c.args.last) (sym e.ensures.answer ∙ is) in
+    let ended : c.ends-ends.result ≡ is_last_text (Some (Malformed c.in-Malformed.size c.in-Malformed.after)) c.args.last = c.ends-ends.ensures ∙ ap (λ x. is_last_text x c.args.last) (sym e.ensures.answer ∙ is) in
     let done = once.done refl in
     omega (arith, turn.sound.bad, turn.sound.index, text_fits c2 turn.sound, once.encodes.read, ready.limit)
 
@@ -147,7 +147,7 @@ replace-line-requires-clause-offset g c =
     let finished = ap (λ d. (view d).finished) e.ensures.decoder in
     let is : e.new.self.answer ≡ Some (Malformed c.in-Malformed.size c.in-Malformed.after) = c.in-Some.is ∙ ap (λ x. Some x) c.in-Malformed.is in
     let open_ = subst (λ x. IsOpenFor x c2 y c.args.last) is (open_still a.0 c1 c2 y c.args.last a.1 e.ensures.answer decoder finished ready.open_) in
-    let ended : c.ends-ends.result ≡ ends_with (Some (Malformed c.in-Malformed.size c.in-Malformed.after)) c.args.last = c.ends-ends.ensures ∙ ap (λ x. ends_with x c.args.last) (sym e.ensures.answer ∙ is) in
+    let ended : c.ends-ends.result ≡ is_last_text (Some (Malformed c.in-Malformed.size c.in-Malformed.after)) c.args.last = c.ends-ends.ensures ∙ ap (λ x. is_last_text x c.args.last) (sym e.ensures.answer ∙ is) in
     let done = once.done refl in
     offset_fits c2 c.in-Malformed.size c.in-Malformed.after is open_.3 turn.sound
 
@@ -169,7 +169,7 @@ returns-in-InputEmpty-text-clause-law g c = λ p.
     let finished = ap (λ d. (view d).finished) e.ensures.decoder in
     let is : e.new.self.answer ≡ Some InputEmpty = c.in-Some.is ∙ ap (λ x. Some x) c.in-InputEmpty-text.is in
     let open_ = subst (λ x. IsOpenFor x c2 y c.args.last) is (open_still a.0 c1 c2 y c.args.last a.1 e.ensures.answer decoder finished ready.open_) in
-    let ended : c.ends-ends.result ≡ ends_with (Some InputEmpty) c.args.last = c.ends-ends.ensures ∙ ap (λ x. ends_with x c.args.last) (sym e.ensures.answer ∙ is) in
+    let ended : c.ends-ends.result ≡ is_last_text (Some InputEmpty) c.args.last = c.ends-ends.ensures ∙ ap (λ x. is_last_text x c.args.last) (sym e.ensures.answer ∙ is) in
     let done = once.done refl in
     finish_empty_in c0 c2 c.args.last c.args.src.now y _ is done.0 (turns_more c0 c1 c2 c.args.last c.args.src.now y y [] _ 0 2 0 1 (f.ensures.law p) turn)
 
@@ -191,7 +191,7 @@ returns-in-InputEmpty-text-clause-ends g c = λ p.
     let finished = ap (λ d. (view d).finished) e.ensures.decoder in
     let is : e.new.self.answer ≡ Some InputEmpty = c.in-Some.is ∙ ap (λ x. Some x) c.in-InputEmpty-text.is in
     let open_ = subst (λ x. IsOpenFor x c2 y c.args.last) is (open_still a.0 c1 c2 y c.args.last a.1 e.ensures.answer decoder finished ready.open_) in
-    let ended : c.ends-ends.result ≡ ends_with (Some InputEmpty) c.args.last = c.ends-ends.ensures ∙ ap (λ x. ends_with x c.args.last) (sym e.ensures.answer ∙ is) in
+    let ended : c.ends-ends.result ≡ is_last_text (Some InputEmpty) c.args.last = c.ends-ends.ensures ∙ ap (λ x. is_last_text x c.args.last) (sym e.ensures.answer ∙ is) in
     let done = once.done refl in
     (open_.0, refl, done.0, done_in c2 y c.args.last _ (g.met.E.RawEncoder.laws e.new.self.encoder) is done.0 open_ turn.sound (λ end. done.1.closed (ended ∙ end)) (λ on. done.1.tells (ended ∙ on)) (λ end. done.1.told (ended ∙ end)))
 
@@ -213,7 +213,7 @@ returns-in-OutputFull-text-clause-law g c = λ p.
     let finished = ap (λ d. (view d).finished) e.ensures.decoder in
     let is : e.new.self.answer ≡ Some OutputFull = c.in-Some.is ∙ ap (λ x. Some x) c.in-OutputFull-text.is in
     let open_ = subst (λ x. IsOpenFor x c2 y c.args.last) is (open_still a.0 c1 c2 y c.args.last a.1 e.ensures.answer decoder finished ready.open_) in
-    let ended : c.ends-ends.result ≡ ends_with (Some OutputFull) c.args.last = c.ends-ends.ensures ∙ ap (λ x. ends_with x c.args.last) (sym e.ensures.answer ∙ is) in
+    let ended : c.ends-ends.result ≡ is_last_text (Some OutputFull) c.args.last = c.ends-ends.ensures ∙ ap (λ x. is_last_text x c.args.last) (sym e.ensures.answer ∙ is) in
     let done = once.done refl in
     finish_full_in c0 c2 c.args.last c.args.src.now y _ is done.0 (turns_more c0 c1 c2 c.args.last c.args.src.now y y [] _ 0 2 0 1 (f.ensures.law p) turn)
 
@@ -235,7 +235,7 @@ returns-in-OutputFull-text-clause-goes_on g c =
     let finished = ap (λ d. (view d).finished) e.ensures.decoder in
     let is : e.new.self.answer ≡ Some OutputFull = c.in-Some.is ∙ ap (λ x. Some x) c.in-OutputFull-text.is in
     let open_ = subst (λ x. IsOpenFor x c2 y c.args.last) is (open_still a.0 c1 c2 y c.args.last a.1 e.ensures.answer decoder finished ready.open_) in
-    let ended : c.ends-ends.result ≡ ends_with (Some OutputFull) c.args.last = c.ends-ends.ensures ∙ ap (λ x. ends_with x c.args.last) (sym e.ensures.answer ∙ is) in
+    let ended : c.ends-ends.result ≡ is_last_text (Some OutputFull) c.args.last = c.ends-ends.ensures ∙ ap (λ x. is_last_text x c.args.last) (sym e.ensures.answer ∙ is) in
     let done = once.done refl in
     λ none. record {
       sound = (returns-in-OutputFull-text-clause-law g c Policy.Decimal).sound;
@@ -262,10 +262,10 @@ returns-in-Malformed-clause-law g c = λ p.
     let finished = ap (λ d. (view d).finished) e.ensures.decoder in
     let is : e.new.self.answer ≡ Some (Malformed c.in-Malformed.size c.in-Malformed.after) = c.in-Some.is ∙ ap (λ x. Some x) c.in-Malformed.is in
     let open_ = subst (λ x. IsOpenFor x c2 y c.args.last) is (open_still a.0 c1 c2 y c.args.last a.1 e.ensures.answer decoder finished ready.open_) in
-    let ended : c.ends-ends.result ≡ ends_with (Some (Malformed c.in-Malformed.size c.in-Malformed.after)) c.args.last = c.ends-ends.ensures ∙ ap (λ x. ends_with x c.args.last) (sym e.ensures.answer ∙ is) in
+    let ended : c.ends-ends.result ≡ is_last_text (Some (Malformed c.in-Malformed.size c.in-Malformed.after)) c.args.last = c.ends-ends.ensures ∙ ap (λ x. is_last_text x c.args.last) (sym e.ensures.answer ∙ is) in
     let done = once.done refl in
     let r = c.replace-line.ensures in
-    rw (r.line, r.same, r.text) (subst (λ l. Turns c0 (record { state = replaced_state c2.state; answer = Some OutputFull; text = 0xFFFD ∷ [] }) c.args.last c.args.src.now y (l ++ MalformedAt (e.new.self.counts.read - c.in-Malformed.after - c.in-Malformed.size) c.in-Malformed.size ∷ []) 0 0) (append-nil (map Byte (take e.result.1 e.new.dst)))
+    rw (r.line, r.same, r.text) (subst (λ l. TakesTurns c0 (record { state = replaced_state c2.state; answer = Some OutputFull; text = 0xFFFD ∷ [] }) c.args.last c.args.src.now y (l ++ MalformedAt (e.new.self.counts.read - c.in-Malformed.after - c.in-Malformed.size) c.in-Malformed.size ∷ []) 0 0) (append-nil (map Byte (take e.result.1 e.new.dst)))
     (replace_turn_in c0 c2 c.in-Malformed.size c.in-Malformed.after c.args.last c.args.src.now y _ is done.0 open_.1 open_.3 (turns_more c0 c1 c2 c.args.last c.args.src.now y y [] _ 0 2 0 1 (f.ensures.law p) turn)))
 
 pub returns-in-Malformed-clause-ends : goal.returns-in-Malformed-clause-ends
@@ -286,7 +286,7 @@ returns-in-Malformed-clause-ends g c = λ p.
     let finished = ap (λ d. (view d).finished) e.ensures.decoder in
     let is : e.new.self.answer ≡ Some (Malformed c.in-Malformed.size c.in-Malformed.after) = c.in-Some.is ∙ ap (λ x. Some x) c.in-Malformed.is in
     let open_ = subst (λ x. IsOpenFor x c2 y c.args.last) is (open_still a.0 c1 c2 y c.args.last a.1 e.ensures.answer decoder finished ready.open_) in
-    let ended : c.ends-ends.result ≡ ends_with (Some (Malformed c.in-Malformed.size c.in-Malformed.after)) c.args.last = c.ends-ends.ensures ∙ ap (λ x. ends_with x c.args.last) (sym e.ensures.answer ∙ is) in
+    let ended : c.ends-ends.result ≡ is_last_text (Some (Malformed c.in-Malformed.size c.in-Malformed.after)) c.args.last = c.ends-ends.ensures ∙ ap (λ x. is_last_text x c.args.last) (sym e.ensures.answer ∙ is) in
     let done = once.done refl in
     let r = c.replace-line.ensures in (
       rw r.line (omega (arith, text_fits c2 turn.sound, once.encodes.read, ready.limit), open_.1, open_.2),
