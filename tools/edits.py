@@ -408,7 +408,7 @@ EDITS_OF_A_COPY = 20
 
 def chosen(given):
     """The edits that are asked for, crate by crate, the largest crates first."""
-    kind, found = "must-fail" if given.gate else "edits", []
+    kind, found = "must-fail" if given.gate else "edits", collections.defaultdict(list)
     for word in given.names or sorted(os.listdir(CRATES)):
         crate, _, name = word.partition("/")
         edits = [edit for edit in edits_of(crate, kind) if edit.name.startswith(name)]
@@ -418,8 +418,8 @@ def chosen(given):
         edits = [edit for edit in edits if given.gate or given.anew or given.readable or is_left(crate, edit, given)]
         if count > len(edits):
             print("%s: %d are not tried again" % (word, count - len(edits)), flush=True)
-        found += [(crate, edits)] if edits else []
-    return sorted(found, key=lambda pair: -len(pair[1]))
+        found[crate] += edits
+    return sorted((pair for pair in found.items() if pair[1]), key=lambda pair: -len(pair[1]))
 
 
 def is_left(crate, edit, given):
