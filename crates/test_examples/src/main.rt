@@ -9,6 +9,7 @@
 #![tactic(auto)]
 
 mod conversions;
+mod converters;
 mod decoded_texts;
 mod lost_characters;
 mod own_texts;
