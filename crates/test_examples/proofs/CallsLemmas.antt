@@ -1,19 +1,23 @@
 -- How calls of a converter compose, and what a call leaves to be written.
-use Rattle.std.proofs.Common.{◌≡◌, ◌≢◌, ℕ, ◌+◌, ◌-◌, ◌<◌, ◌≤◌, ◌↔◌, Bool, true, false, List, [], ◌∷◌, ◌++◌, length, map, take, drop, refl, sym, ◌∙◌, ap, subst, arith, append_assoc, append-nil, length-append, Result, Ok, Err, OnOk}
+use Rattle.std.proofs.Common.{◌≡◌, ◌≢◌, ℕ, ◌+◌, ◌-◌, ◌<◌, ◌≤◌, ◌↔◌, Bool, true, false, List, [], ◌∷◌, ◌++◌, length, map, take, drop, refl, sym, ◌∙◌, ap, subst, arith, append_assoc, append-nil, length-append, Result, Ok, Err, IsTrue, OnOk}
 use Rattle.std.proofs.lemmas.Grind.{flat_map-append}
-use Rattle.std.proofs.lemmas.List.{length-map}
+use Rattle.std.proofs.lemmas.List.{length-map, length-take-le}
 use Rattle.encoding_mem.specs.Coding.{reference_bytes}
 use Rattle.encoding_mem.specs.Items.{Item, Byte, LostAt, MalformedAt}
 use Rattle.encoding_mem.specs.declared.reference.Reference.{Reference}
-use Rattle.recode.specs.Converter.{ConverterView, ConvertsPart, EndsWith, WillKeep, found_items, owes}
+use Rattle.recode.specs.Converter.{ConverterView, ConvertsPart, EndsWith, IsConverted, IsNewConverter, IsWhole, WillKeep, found_items, owes}
+use Rattle.recode.specs.Job.{Faithful, log_of, output_of, trace, whole_trace}
+use Rattle.recode.specs.Policy.{written_under}
 use Rattle.recode.specs.TaggedByte.{Line, Out, TaggedByte, log_bytes, output_bytes, tagged, tagged_item}
 use Rattle.recode.specs.WrittenItems.{AreCounted, bad_line_count, lost_line_count}
 use Rattle.recode.specs.declared.converter.ConverterResult.{ConverterResult}
 use Rattle.recode.specs.declared.converter.ConverterResult.TheVariants.{Found, InputEmpty, OutputFull}
+use Rattle.recode.specs.declared.job.Job.{Job}
+use Rattle.recode.specs.declared.job.Policy.{Policy}
 use Rattle.recode_log.specs.Line.{line_bytes}
 use Rattle.recode_log.specs.declared.line.LogLine.{LogLine}
 use Rattle.recode_log.specs.declared.line.LogLine.TheVariants.{Bad, Lost}
-use Rattle.test_examples.specs.Calls.{EndsTurn, Gains, GoesOn, HasValidFound, Passes}
+use Rattle.test_examples.specs.Calls.{EndsTurn, Gains, HasValidFound, Passes}
 
 -- ---- the bytes of items
 
@@ -91,13 +95,16 @@ gains_of_lost ref index scalar output output' log log' is lines = record {
 
 pub gains_after : (o o1 o2 l l1 l2 : List ℕ) (s t : List Item) → Gains o o1 l l1 s → Gains o1 o2 l1 l2 t → Gains o o2 l l2 (s ++ t)
 gains_after o o1 o2 l l1 l2 s t g h = record {
-  written = h.written ∙ ap (λ x. x ++ output_bytes (tagged t)) g.written ∙ append_assoc _ _ _
+  written = h.written ∙ ap (λ x. x ++ output_bytes (tagged t)) g.written ∙ append_assoc o (output_bytes (tagged s)) (output_bytes (tagged t))
     ∙ ap (λ x. o ++ x) (sym (output_appended (tagged s) (tagged t)) ∙ ap output_bytes (sym (flat_map-append tagged_item s t)));
-  lined = h.lined ∙ ap (λ x. x ++ log_bytes (tagged t)) g.lined ∙ append_assoc _ _ _
+  lined = h.lined ∙ ap (λ x. x ++ log_bytes (tagged t)) g.lined ∙ append_assoc l (log_bytes (tagged s)) (log_bytes (tagged t))
     ∙ ap (λ x. l ++ x) (sym (log_appended (tagged s) (tagged t)) ∙ ap log_bytes (sym (flat_map-append tagged_item s t)));
 }
 
 -- ---- calls
+
+true_not_false : ¬ (true ≡ false)
+true_not_false is = cc is
 
 -- how a call ended says that what it found is valid
 pub found_is_valid : (r : ConverterResult) (v : ConverterView) (rest : List ℕ) (last : Bool) (free : ℕ) → EndsWith v rest last free r → HasValidFound r
@@ -138,11 +145,20 @@ turn_ends (Found line) ref v v' last src rest written free law ends room =
     let some : 0 < length (map Byte written ++ found_items ref (Found line)) = omega (arith, size, found) in
     record { over = ends.1; fewer = owes_fewer v v' last src rest _ law some }
 
--- a turn that did not end with all converted goes on
-pub turn_goes_on : (r : ConverterResult) (v v' : ConverterView) (last : Bool) (bytes rest : List ℕ) → r ≢ InputEmpty → EndsTurn v v' last bytes rest r → GoesOn v v' bytes rest
-turn_goes_on InputEmpty v v' last bytes rest not ends = absurd (not refl)
-turn_goes_on OutputFull v v' last bytes rest not ends = ends
-turn_goes_on (Found line) v v' last bytes rest not ends = ends
+-- the same of the bytes at the start of a room
+pub room_ends : (r : ConverterResult) (ref : Reference) (v v' : ConverterView) (last : Bool) (src rest room : List ℕ) (n : ℕ)
+    → ConvertsPart v v' last src rest (map Byte (take n room) ++ found_items ref r) → EndsWith v' rest last (length room - n) r → n ≤ length room → 4 ≤ length room
+    → EndsTurn v v' last src rest r
+room_ends r ref v v' last src rest room n law ends within four =
+    let size : length (take n room) ≡ n = length-take-le n room within in
+    let all : 4 ≤ (length room - n) + length (take n room) = omega (arith, size, within, four) in
+    turn_ends r ref v v' last src rest (take n room) (length room - n) law ends all
+
+-- a turn that ended with all converted left nothing
+pub turn_all : (r : ConverterResult) (v v' : ConverterView) (last : Bool) (bytes rest : List ℕ) → r ≡ InputEmpty → EndsTurn v v' last bytes rest r → rest ≡ []
+turn_all InputEmpty v v' last bytes rest is ends = ends.all
+turn_all OutputFull v v' last bytes rest is ends = absurd (cc is)
+turn_all (Found line) v v' last bytes rest is ends = absurd (cc is)
 
 -- no call takes nothing
 pub passes_none : (v : ConverterView) (last : Bool) (src output log : List ℕ) → (v.ended ≡ true → (src ≡ []) × (last ≡ true)) → Passes v v last src src output output log log
@@ -187,3 +203,57 @@ passes_after v v1 v2 last1 last a r1 b r2 o o1 o2 l l1 l2 more p q = record {
   where
   nothing : (r : List ℕ) → (last ≡ true → r ≡ []) → last1 ≡ true → b ++ r ≡ []
   nothing r none is = ap (λ x. x ++ r) (more is).1 ∙ none (more is).0
+
+-- one call
+pub passes_once : (v v' : ConverterView) (last : Bool) (src rest bytes o o1 o2 l l2 : List ℕ) (ref form : Reference) (r : ConverterResult) → form ≡ ref
+    → ConvertsPart v v' last src rest (map Byte bytes ++ found_items ref r) → o1 ≡ o ++ bytes → Gains o1 o2 l l2 (found_items form r) → Passes v v' last src rest o o2 l l2
+passes_once v v' last src rest bytes o o1 o2 l l2 ref form r is law more found = record {
+  items = map Byte bytes ++ found_items ref r;
+  law = law;
+  gains = gains_after o o1 o2 l l l2 (map Byte bytes) (found_items ref r) (gains_of_bytes o o1 l bytes more) (subst (λ f. Gains o1 o2 l l2 (found_items f r)) is found);
+}
+
+-- calls before the first byte
+pub passes_start : (v : ConverterView) (output log : List ℕ) → v.ended ≡ false → Passes v v false [] [] output output log log
+passes_start v output log open_ = passes_none v false [] output log (λ is. absurd (true_not_false (sym is ∙ open_)))
+
+-- calls for what is left
+pub passes_on : (v v1 v2 : ConverterView) (last : Bool) (a r1 r2 o o1 o2 l l1 l2 : List ℕ)
+    → Passes v v1 last a r1 o o1 l l1 → Passes v1 v2 last r1 r2 o1 o2 l1 l2 → Passes v v2 last a r2 o o2 l l2
+passes_on v v1 v2 last a r1 r2 o o1 o2 l l1 l2 p q =
+    let whole : Passes v v2 last (a ++ []) r2 o o2 l l2 =
+      passes_after v v1 v2 last last a r1 [] r2 o o1 o2 l l1 l2 (λ is. (is, refl)) p (subst (λ x. Passes v1 v2 last x r2 o1 o2 l1 l2) (sym (append-nil r1)) q) in
+    subst (λ x. Passes v v2 last x r2 o o2 l l2) (append-nil a) whole
+
+-- calls for all that is left
+pub passes_to_end : (v v1 v2 : ConverterView) (last : Bool) (a r1 r2 o o1 o2 l l1 l2 : List ℕ) → r2 ≡ []
+    → Passes v v1 last a r1 o o1 l l1 → Passes v1 v2 last r1 r2 o1 o2 l1 l2 → Passes v v2 last a [] o o2 l l2
+passes_to_end v v1 v2 last a r1 r2 o o1 o2 l l1 l2 none p q =
+    subst (λ x. Passes v v2 last a x o o2 l l2) none (passes_on v v1 v2 last a r1 r2 o o1 o2 l l1 l2 p q)
+
+-- calls for more bytes, after all of those before
+pub passes_more : (v v1 v2 : ConverterView) (last : Bool) (a b o o1 o2 l l1 l2 : List ℕ)
+    → Passes v v1 false a [] o o1 l l1 → Passes v1 v2 last b [] o1 o2 l1 l2 → Passes v v2 last (a ++ b) [] o o2 l l2
+passes_more v v1 v2 last a b o o1 o2 l l1 l2 p q =
+    passes_after v v1 v2 false last a [] b [] o o1 o2 l l1 l2 (λ is. absurd (true_not_false (sym is))) p q
+
+-- a policy that does not stop writes all
+written_if_unstopped : (p : Policy) (t : List Item) → p ≢ Policy.Stop → written_under p t ≡ t
+written_if_unstopped Policy.Decimal t goes = refl
+written_if_unstopped Policy.Hexadecimal t goes = refl
+written_if_unstopped Policy.Stop t goes = absurd (goes refl)
+
+-- calls for a whole input, and then those that end it, give what the job makes of it
+pub converts_whole : (v v1 v2 : ConverterView) (j : Job) (x o o1 o2 l l1 l2 : List ℕ) → IsNewConverter v j → j.policy ≢ Policy.Stop → Passes v v1 false x [] o o1 l l1
+    → Passes v1 v2 true [] [] o1 o2 l1 l2 → IsConverted v2 [] true
+    → (o2 ≡ o ++ output_of j x) × (l2 ≡ l ++ log_of j x) × (IsTrue v2.state.verdict.faithful ↔ Faithful j x)
+converts_whole v v1 v2 j x o o1 o2 l l1 l2 new goes p q ends =
+    let w : Passes v v2 true x [] o o2 l l2 = subst (λ y. Passes v v2 true y [] o o2 l l2) (append-nil x) (passes_more v v1 v2 true x [] o o1 o2 l l1 l2 p q) in
+    let whole : IsWhole v2 = ends.whole refl in
+    let owed : owes v x ≡ w.items = owed_of_part v v2 true x [] w.items w.law ∙ ap (λ t. w.items ++ t) whole.written ∙ append-nil w.items in
+    let items : w.items ≡ trace j x = sym owed ∙ new.owes_trace x ∙ sym (written_if_unstopped j.policy (whole_trace j x) goes) in
+    let kept : WillKeep v x ↔ WillKeep v2 [] = subst (λ y. WillKeep v y ↔ WillKeep v2 []) (append-nil x) (w.law.verdict [] (λ _. refl)) in
+    let verdict = new.verdict x in
+    (w.gains.written ∙ ap (λ t. o ++ output_bytes (tagged t)) items,
+      w.gains.lined ∙ ap (λ t. l ++ log_bytes (tagged t)) items,
+      ((λ k. verdict.0 (kept.1 (whole.told.1 k))), (λ k. whole.told.0 (kept.0 (verdict.1 k)))))
