@@ -96,9 +96,9 @@ gains_of_lost ref index scalar output output' log log' is lines = record {
 pub gains_after : (o o1 o2 l l1 l2 : List ℕ) (s t : List Item) → Gains o o1 l l1 s → Gains o1 o2 l1 l2 t → Gains o o2 l l2 (s ++ t)
 gains_after o o1 o2 l l1 l2 s t g h = record {
   written = h.written ∙ ap (λ x. x ++ output_bytes (tagged t)) g.written ∙ append_assoc o (output_bytes (tagged s)) (output_bytes (tagged t))
-    ∙ ap (λ x. o ++ x) (sym (output_appended (tagged s) (tagged t)) ∙ ap output_bytes (sym (flat_map-append tagged_item s t)));
+      ∙ ap (λ x. o ++ x) (sym (output_appended (tagged s) (tagged t)) ∙ ap output_bytes (sym (flat_map-append tagged_item s t)));
   lined = h.lined ∙ ap (λ x. x ++ log_bytes (tagged t)) g.lined ∙ append_assoc l (log_bytes (tagged s)) (log_bytes (tagged t))
-    ∙ ap (λ x. l ++ x) (sym (log_appended (tagged s) (tagged t)) ∙ ap log_bytes (sym (flat_map-append tagged_item s t)));
+      ∙ ap (λ x. l ++ x) (sym (log_appended (tagged s) (tagged t)) ∙ ap log_bytes (sym (flat_map-append tagged_item s t)));
 }
 
 -- ---- calls
@@ -184,12 +184,12 @@ passes_after v v1 v2 last1 last a r1 b r2 o o1 o2 l l1 l2 more p q = record {
   law = record {
     job = q.law.job ∙ p.law.job;
     owed = λ r none. ap (owes v) (append_assoc a b r) ∙ p.law.owed (b ++ r) (nothing r none) ∙ ap (λ x. p.items ++ owes v1 x) (sym (append_assoc r1 b r))
-      ∙ ap (λ x. p.items ++ x) (q.law.owed r none) ∙ sym (append_assoc p.items q.items _);
+        ∙ ap (λ x. p.items ++ x) (q.law.owed r none) ∙ sym (append_assoc p.items q.items _);
     verdict = λ r none.
-      let first : WillKeep v ((a ++ b) ++ r) ↔ WillKeep v1 ((r1 ++ b) ++ r) =
+        let first : WillKeep v ((a ++ b) ++ r) ↔ WillKeep v1 ((r1 ++ b) ++ r) =
         subst (λ x. WillKeep v x ↔ WillKeep v1 ((r1 ++ b) ++ r)) (sym (append_assoc a b r)) (subst (λ x. WillKeep v (a ++ (b ++ r)) ↔ WillKeep v1 x) (sym (append_assoc r1 b r)) (p.law.verdict (b ++ r) (nothing r none))) in
-      let second = q.law.verdict r none in
-      ((λ k. second.0 (first.0 k)), (λ k. first.1 (second.1 k)));
+        let second = q.law.verdict r none in
+        ((λ k. second.0 (first.0 k)), (λ k. first.1 (second.1 k)));
     source = λ r none. ap v.state.source (append_assoc a b r) ∙ p.law.source (b ++ r) (nothing r none) ∙ ap v1.state.source (sym (append_assoc r1 b r)) ∙ q.law.source r none;
     counted = omega (arith, p.law.counted, q.law.counted, length-append r1 b, length-append a b);
     lines = record {
@@ -201,8 +201,8 @@ passes_after v v1 v2 last1 last a r1 b r2 o o1 o2 l l1 l2 more p q = record {
   gains = gains_after o o1 o2 l l1 l2 p.items q.items p.gains q.gains;
 }
   where
-  nothing : (r : List ℕ) → (last ≡ true → r ≡ []) → last1 ≡ true → b ++ r ≡ []
-  nothing r none is = ap (λ x. x ++ r) (more is).1 ∙ none (more is).0
+    nothing : (r : List ℕ) → (last ≡ true → r ≡ []) → last1 ≡ true → b ++ r ≡ []
+    nothing r none is = ap (λ x. x ++ r) (more is).1 ∙ none (more is).0
 
 -- one call
 pub passes_once : (v v' : ConverterView) (last : Bool) (src rest bytes o o1 o2 l l2 : List ℕ) (ref form : Reference) (r : ConverterResult) → form ≡ ref
@@ -222,7 +222,7 @@ pub passes_on : (v v1 v2 : ConverterView) (last : Bool) (a r1 r2 o o1 o2 l l1 l2
     → Passes v v1 last a r1 o o1 l l1 → Passes v1 v2 last r1 r2 o1 o2 l1 l2 → Passes v v2 last a r2 o o2 l l2
 passes_on v v1 v2 last a r1 r2 o o1 o2 l l1 l2 p q =
     let whole : Passes v v2 last (a ++ []) r2 o o2 l l2 =
-      passes_after v v1 v2 last last a r1 [] r2 o o1 o2 l l1 l2 (λ is. (is, refl)) p (subst (λ x. Passes v1 v2 last x r2 o1 o2 l1 l2) (sym (append-nil r1)) q) in
+    passes_after v v1 v2 last last a r1 [] r2 o o1 o2 l l1 l2 (λ is. (is, refl)) p (subst (λ x. Passes v1 v2 last x r2 o1 o2 l1 l2) (sym (append-nil r1)) q) in
     subst (λ x. Passes v v2 last x r2 o o2 l l2) (append-nil a) whole
 
 -- calls for all that is left
@@ -253,7 +253,8 @@ converts_whole v v1 v2 j x o o1 o2 l l1 l2 new goes p q ends =
     let owed : owes v x ≡ w.items = owed_of_part v v2 true x [] w.items w.law ∙ ap (λ t. w.items ++ t) whole.written ∙ append-nil w.items in
     let items : w.items ≡ trace j x = sym owed ∙ new.owes_trace x ∙ sym (written_if_unstopped j.policy (whole_trace j x) goes) in
     let kept : WillKeep v x ↔ WillKeep v2 [] = subst (λ y. WillKeep v y ↔ WillKeep v2 []) (append-nil x) (w.law.verdict [] (λ _. refl)) in
-    let verdict = new.verdict x in
-    (w.gains.written ∙ ap (λ t. o ++ output_bytes (tagged t)) items,
+    let verdict = new.verdict x in (
+      w.gains.written ∙ ap (λ t. o ++ output_bytes (tagged t)) items,
       w.gains.lined ∙ ap (λ t. l ++ log_bytes (tagged t)) items,
-      ((λ k. verdict.0 (kept.1 (whole.told.1 k))), (λ k. whole.told.0 (kept.0 (verdict.1 k)))))
+      ((λ k. verdict.0 (kept.1 (whole.told.1 k))), (λ k. whole.told.0 (kept.0 (verdict.1 k)))),
+    )

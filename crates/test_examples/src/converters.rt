@@ -26,11 +26,7 @@ fn form_of(policy: Policy) -> Reference
 }
 
 // Writes the reference of a lost character.
-fn append_reference(
-    scalar: char,
-    form: Reference,
-    output: &mut Vec<u8>,
-) -> Result<(), AllocError>
+fn append_reference(scalar: char, form: Reference, output: &mut Vec<u8>) -> Result<(), AllocError>
     ensures { OnOk result (output.new.items
         ≡ output.old.items ++ reference_bytes form scalar) }
 {
@@ -57,7 +53,10 @@ fn append_found(
     let len = line.write_into(&mut bytes);
     log.extend_from_slice(&bytes[..len])?;
     match line {
-        LogLine::Bad { offset: _, length: _ } => Ok(()),
+        LogLine::Bad {
+            offset: _,
+            length: _,
+        } => Ok(()),
         LogLine::Lost { index: _, scalar } => append_reference(scalar, form, output),
     }
 }

@@ -1,4 +1,5 @@
-use Rattle.std.proofs.Common.{◌≡◌, ◌∙◌, List, ℕ, [], ◌∷◌, false, true, arith, get_or, length, subst, sym, take}
+use Rattle.std.proofs.Common.{◌↔◌, Bool, IsTrue, List, ℕ, [], ◌∷◌, false, get_or, subst, sym, take}
+use Rattle.recode.specs.Job.{Faithful}
 use Rattle.std.proofs.lemmas.List.{take_all, take_more}
 use Rattle.recode.specs.calls.ConverterView.{seen}
 use Rattle.test_examples.specs.Calls.{Passes}
@@ -31,10 +32,29 @@ bytes-preserved c =
     }
 
 pub returns-clause-output : goal.returns-clause-output
-returns-clause-output c = ?
+returns-clause-output c =
+    let part = c.in_ok-convert_part-2.ensures in
+    let all = take_all c.bytes.byte-index c.args.input.now c.bytes-test.false in
+    let new = c.convert_part-2.new in
+    (converts_whole (seen c.new-converter.result) (seen c.bytes.converter) (seen new.converter) c.args.job c.args.input.now
+    c.args.output.now.items c.bytes.output.items new.output.items c.args.log.now.items c.bytes.log.items new.log.items
+    c.new-converter.ensures c.requires.policy (rw all at c.bytes.invariant.passed) part.law part.ends).0
 
 pub returns-clause-logged : goal.returns-clause-logged
-returns-clause-logged c = ?
+returns-clause-logged c =
+    let part = c.in_ok-convert_part-2.ensures in
+    let all = take_all c.bytes.byte-index c.args.input.now c.bytes-test.false in
+    let new = c.convert_part-2.new in
+    (converts_whole (seen c.new-converter.result) (seen c.bytes.converter) (seen new.converter) c.args.job c.args.input.now
+    c.args.output.now.items c.bytes.output.items new.output.items c.args.log.now.items c.bytes.log.items new.log.items
+    c.new-converter.ensures c.requires.policy (rw all at c.bytes.invariant.passed) part.law part.ends).1
 
 pub returns-clause-verdict : goal.returns-clause-verdict
-returns-clause-verdict c = ?
+returns-clause-verdict c =
+    let part = c.in_ok-convert_part-2.ensures in
+    let all = take_all c.bytes.byte-index c.args.input.now c.bytes-test.false in
+    let new = c.convert_part-2.new in
+    subst (λ (b : Bool). IsTrue b ↔ Faithful c.args.job c.args.input.now) (sym c.in-Some.ensures.tells.verdict)
+    (converts_whole (seen c.new-converter.result) (seen c.bytes.converter) (seen new.converter) c.args.job c.args.input.now
+    c.args.output.now.items c.bytes.output.items new.output.items c.args.log.now.items c.bytes.log.items new.log.items
+    c.new-converter.ensures c.requires.policy (rw all at c.bytes.invariant.passed) part.law part.ends).2
