@@ -1,1 +1,2 @@
 pub mod OwnTextsLemmas
+pub mod CallsLemmas

@@ -9,6 +9,7 @@
 #![tactic(auto)]
 
 mod conversions;
+mod converters;
 mod decoded_texts;
 mod lost_characters;
 mod own_texts;
@@ -23,8 +24,10 @@ mod whole_texts;
 
 use anyhow::{bail, ensure};
 use encoding_front::X_USER_DEFINED;
+use encoding_index::load;
 use encoding_mem::is_ascii;
-use encoding_tables::Tables;
+use encoding_tables::{IndexKind, Tables};
+use recode::{Encoding, GREATEST_LIMIT, Job, Mark, Policy};
 use std::io::Write;
 
 // Prints whether an example has the result that its page gives.
@@ -42,6 +45,9 @@ const JIS0208: &[u8] = b"422\t0x30CF\n";
 
 const JIS0212: &[u8] = b"565\t0x0402\n";
 
+// The one row of `index-windows-1252.txt` that the programs need.
+const WINDOWS1252: &[u8] = b"105\t0x00E9\n";
+
 // A text that a sink counts, and one that a source has in capitals.
 fn run_own_texts(rt: HostRuntime) -> anyhow::Result<()> {
     let whole = own_texts::count_characters("A\u{30CF}\u{1F4A9}".as_bytes());
@@ -54,6 +60,30 @@ fn run_own_texts(rt: HostRuntime) -> anyhow::Result<()> {
     own_texts::put_capitals(text, &mut capitals);
     rt.stdout().write_all(&capitals)?;
     println!(rt; "")?;
+    Ok(())
+}
+
+// A text that is converted byte by byte, with a malformed byte and a lost character.
+fn run_converters(rt: HostRuntime) -> anyhow::Result<()> {
+    let mut tables = Tables::new(rt.alloc());
+    load(rt.alloc(), &mut tables, IndexKind::Windows1252, WINDOWS1252)?;
+    let input = b"A\xFF\xC3\xA9\xE4\xB8\xAD".as_slice();
+    let job = Job {
+        from: Encoding::Utf8,
+        to: Encoding::Windows1252,
+        mark: Mark::Sniff,
+        policy: Policy::Decimal,
+        limit: GREATEST_LIMIT,
+        tables: &tables,
+    };
+    ensure!(job.is_valid(), "an index is missing");
+    ensure!(input.len() as u64 <= job.limit, "the input is too long");
+    let mut output = Vec::new(rt.alloc());
+    let mut log = Vec::new(rt.alloc());
+    let report = converters::convert_singly(job, input, &mut output, &mut log)?;
+    rt.stdout().write_all(&log)?;
+    println!(rt; "faithful: {}", report.faithful)?;
+    println!(rt; "{output:?}")?;
     Ok(())
 }
 
@@ -89,7 +119,8 @@ fn run_programs(rt: HostRuntime) -> anyhow::Result<()> {
         Some(lost) => println!(rt; "{lost} lost")?,
         None => bail!("there is no room"),
     }
-    run_own_texts(rt)
+    run_own_texts(rt)?;
+    run_converters(rt)
 }
 
 fn main(rt: HostRuntime) -> anyhow::Result<()> {

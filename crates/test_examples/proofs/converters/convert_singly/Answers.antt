@@ -1,0 +1,60 @@
+use Rattle.std.proofs.Common.{◌↔◌, Bool, IsTrue, List, ℕ, [], ◌∷◌, false, get_or, subst, sym, take}
+use Rattle.recode.specs.Job.{Faithful}
+use Rattle.std.proofs.lemmas.List.{take_all, take_more}
+use Rattle.recode.specs.calls.ConverterView.{seen}
+use Rattle.test_examples.specs.Calls.{Passes}
+use Rattle.test_examples.proofs.CallsLemmas.{converts_whole, passes_more, passes_start}
+use Rattle.test_examples.proofs.converters.convert_singly.Goals as goal
+
+pub bytes-init : goal.bytes-init
+bytes-init c =
+    let new = c.new-converter in
+    record {
+      passed = passes_start (seen new.result) c.args.output.now.items c.args.log.now.items new.ensures.ended;
+      over = new.ensures.over;
+      ended = new.ensures.ended;
+    }
+
+pub bytes-preserved : goal.bytes-preserved
+bytes-preserved c =
+    let part = c.in_ok-convert_part.ensures in
+    let new = c.convert_part.new in
+    let i = c.bytes.byte-index in
+    let x = c.args.input.now in
+    let next = take_more x i 0 c.bytes-test.true in
+    record {
+      passed = subst (λ (bytes : List ℕ). Passes (seen c.new-converter.result) (seen new.converter) false bytes [] c.args.output.now.items new.output.items c.args.log.now.items new.log.items)
+          (sym next)
+          (passes_more (seen c.new-converter.result) (seen c.bytes.converter) (seen new.converter) false (take i x) (get_or x i 0 ∷ [])
+          c.args.output.now.items c.bytes.output.items new.output.items c.args.log.now.items c.bytes.log.items new.log.items c.bytes.invariant.passed part.law);
+      over = part.ends.over;
+      ended = part.ends.ended;
+    }
+
+pub returns-clause-output : goal.returns-clause-output
+returns-clause-output c =
+    let part = c.in_ok-convert_part-2.ensures in
+    let all = take_all c.bytes.byte-index c.args.input.now c.bytes-test.false in
+    let new = c.convert_part-2.new in
+    (converts_whole (seen c.new-converter.result) (seen c.bytes.converter) (seen new.converter) c.args.job c.args.input.now
+    c.args.output.now.items c.bytes.output.items new.output.items c.args.log.now.items c.bytes.log.items new.log.items
+    c.new-converter.ensures c.requires.policy (rw all at c.bytes.invariant.passed) part.law part.ends).0
+
+pub returns-clause-logged : goal.returns-clause-logged
+returns-clause-logged c =
+    let part = c.in_ok-convert_part-2.ensures in
+    let all = take_all c.bytes.byte-index c.args.input.now c.bytes-test.false in
+    let new = c.convert_part-2.new in
+    (converts_whole (seen c.new-converter.result) (seen c.bytes.converter) (seen new.converter) c.args.job c.args.input.now
+    c.args.output.now.items c.bytes.output.items new.output.items c.args.log.now.items c.bytes.log.items new.log.items
+    c.new-converter.ensures c.requires.policy (rw all at c.bytes.invariant.passed) part.law part.ends).1
+
+pub returns-clause-verdict : goal.returns-clause-verdict
+returns-clause-verdict c =
+    let part = c.in_ok-convert_part-2.ensures in
+    let all = take_all c.bytes.byte-index c.args.input.now c.bytes-test.false in
+    let new = c.convert_part-2.new in
+    subst (λ (b : Bool). IsTrue b ↔ Faithful c.args.job c.args.input.now) (sym c.in-Some.ensures.tells.verdict)
+    (converts_whole (seen c.new-converter.result) (seen c.bytes.converter) (seen new.converter) c.args.job c.args.input.now
+    c.args.output.now.items c.bytes.output.items new.output.items c.args.log.now.items c.bytes.log.items new.log.items
+    c.new-converter.ensures c.requires.policy (rw all at c.bytes.invariant.passed) part.law part.ends).2
