@@ -30,6 +30,7 @@ PARTS = [
     ("recode_words", "The command line's words"),
     ("recode_system", "The program on its system"),
     ("jillapun_c", "What crosses to C"),
+    ("test_examples", "What callers say of their calls"),
 ]  # fmt: skip
 
 HEAD = """# Definitions

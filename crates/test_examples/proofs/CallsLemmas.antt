@@ -5,7 +5,7 @@ use Rattle.std.proofs.lemmas.List.{length-map, length-take-le}
 use Rattle.encoding_mem.specs.Coding.{reference_bytes}
 use Rattle.encoding_mem.specs.Items.{Item, Byte, LostAt, MalformedAt}
 use Rattle.encoding_mem.specs.declared.reference.Reference.{Reference}
-use Rattle.recode.specs.Converter.{ConverterView, ConvertsPart, EndsWith, IsConverted, IsNewConverter, IsWhole, WillKeep, found_items, owes}
+use Rattle.recode.specs.Converter.{ConverterView, ConvertsPart, ConverterEndsWith, AllIsConverted, IsFreshConverter, IsWhole, WillKeep, found_items, owes}
 use Rattle.recode.specs.Job.{Faithful, log_of, output_of, trace, whole_trace}
 use Rattle.recode.specs.Policy.{written_under}
 use Rattle.recode.specs.TaggedByte.{Line, Out, TaggedByte, log_bytes, output_bytes, tagged, tagged_item}
@@ -17,7 +17,7 @@ use Rattle.recode.specs.declared.job.Policy.{Policy}
 use Rattle.recode_log.specs.Line.{line_bytes}
 use Rattle.recode_log.specs.declared.line.LogLine.{LogLine}
 use Rattle.recode_log.specs.declared.line.LogLine.TheVariants.{Bad, Lost}
-use Rattle.test_examples.specs.Calls.{EndsTurn, Gains, HasValidFound, Passes}
+use Rattle.test_examples.specs.Calls.{EndsTurn, GainsItems, HasValidFound, PassesOn}
 
 -- ---- the bytes of items
 
@@ -67,11 +67,11 @@ on_ok (Err e) f h = tt
 
 -- ---- gains
 
-pub no_gains : (output log : List ℕ) → Gains output output log log []
+pub no_gains : (output log : List ℕ) → GainsItems output output log log []
 no_gains output log = record { written = sym (append-nil output); lined = sym (append-nil log) }
 
 -- what comes to the output alone
-pub gains_of_bytes : (output output' log : List ℕ) (bs : List ℕ) → output' ≡ output ++ bs → Gains output output' log log (map Byte bs)
+pub gains_of_bytes : (output output' log : List ℕ) (bs : List ℕ) → output' ≡ output ++ bs → GainsItems output output' log log (map Byte bs)
 gains_of_bytes output output' log bs is = record {
   written = is ∙ ap (λ l. output ++ l) (sym (output_of_bytes bs));
   lined = sym (append-nil log) ∙ ap (λ l. log ++ l) (sym (log_of_bytes bs));
@@ -79,7 +79,7 @@ gains_of_bytes output output' log bs is = record {
 
 -- the line of a malformed sequence
 pub gains_of_bad : (ref : Reference) (offset size : ℕ) (output log log' : List ℕ) → log' ≡ log ++ line_bytes (Bad offset size)
-    → Gains output output log log' (found_items ref (Found (Bad offset size)))
+    → GainsItems output output log log' (found_items ref (Found (Bad offset size)))
 gains_of_bad ref offset size output log log' is = record {
   written = sym (append-nil output) ∙ ap (λ l. output ++ l) (sym (output_behind_line (line_bytes (Bad offset size)) []));
   lined = is ∙ ap (λ l. log ++ l) (sym (log_before_bytes (line_bytes (Bad offset size)) []));
@@ -87,13 +87,13 @@ gains_of_bad ref offset size output log log' is = record {
 
 -- the line and the reference of a lost character
 pub gains_of_lost : (ref : Reference) (index scalar : ℕ) (output output' log log' : List ℕ) → output' ≡ output ++ reference_bytes ref scalar
-    → log' ≡ log ++ line_bytes (Lost index scalar) → Gains output output' log log' (found_items ref (Found (Lost index scalar)))
+    → log' ≡ log ++ line_bytes (Lost index scalar) → GainsItems output output' log log' (found_items ref (Found (Lost index scalar)))
 gains_of_lost ref index scalar output output' log log' is lines = record {
   written = is ∙ ap (λ l. output ++ l) (sym (output_behind_line (line_bytes (Lost index scalar)) (reference_bytes ref scalar)));
   lined = lines ∙ ap (λ l. log ++ l) (sym (log_before_bytes (line_bytes (Lost index scalar)) (reference_bytes ref scalar)));
 }
 
-pub gains_after : (o o1 o2 l l1 l2 : List ℕ) (s t : List Item) → Gains o o1 l l1 s → Gains o1 o2 l1 l2 t → Gains o o2 l l2 (s ++ t)
+pub gains_after : (o o1 o2 l l1 l2 : List ℕ) (s t : List Item) → GainsItems o o1 l l1 s → GainsItems o1 o2 l1 l2 t → GainsItems o o2 l l2 (s ++ t)
 gains_after o o1 o2 l l1 l2 s t g h = record {
   written = h.written ∙ ap (λ x. x ++ output_bytes (tagged t)) g.written ∙ append_assoc o (output_bytes (tagged s)) (output_bytes (tagged t))
       ∙ ap (λ x. o ++ x) (sym (output_appended (tagged s) (tagged t)) ∙ ap output_bytes (sym (flat_map-append tagged_item s t)));
@@ -107,7 +107,7 @@ true_not_false : ¬ (true ≡ false)
 true_not_false is = cc is
 
 -- how a call ended says that what it found is valid
-pub found_is_valid : (r : ConverterResult) (v : ConverterView) (rest : List ℕ) (last : Bool) (free : ℕ) → EndsWith v rest last free r → HasValidFound r
+pub found_is_valid : (r : ConverterResult) (v : ConverterView) (rest : List ℕ) (last : Bool) (free : ℕ) → ConverterEndsWith v rest last free r → HasValidFound r
 found_is_valid InputEmpty v rest last free ends = tt
 found_is_valid OutputFull v rest last free ends = tt
 found_is_valid (Found line) v rest last free ends = ends.0
@@ -132,7 +132,7 @@ found_some ref (Lost index scalar) = omega arith
 
 -- a call that fills a room of 4 bytes, or finds something, owes less after it
 pub turn_ends : (r : ConverterResult) (ref : Reference) (v v' : ConverterView) (last : Bool) (src rest written : List ℕ) (free : ℕ)
-    → ConvertsPart v v' last src rest (map Byte written ++ found_items ref r) → EndsWith v' rest last free r → 4 ≤ free + length written → EndsTurn v v' last src rest r
+    → ConvertsPart v v' last src rest (map Byte written ++ found_items ref r) → ConverterEndsWith v' rest last free r → 4 ≤ free + length written → EndsTurn v v' last src rest r
 turn_ends InputEmpty ref v v' last src rest written free law ends room = ends
 turn_ends OutputFull ref v v' last src rest written free law ends room =
     let size : length (map Byte written ++ []) ≡ length written = ap length (append-nil (map Byte written)) ∙ length-map written Byte in
@@ -147,7 +147,7 @@ turn_ends (Found line) ref v v' last src rest written free law ends room =
 
 -- the same of the bytes at the start of a room
 pub room_ends : (r : ConverterResult) (ref : Reference) (v v' : ConverterView) (last : Bool) (src rest room : List ℕ) (n : ℕ)
-    → ConvertsPart v v' last src rest (map Byte (take n room) ++ found_items ref r) → EndsWith v' rest last (length room - n) r → n ≤ length room → 4 ≤ length room
+    → ConvertsPart v v' last src rest (map Byte (take n room) ++ found_items ref r) → ConverterEndsWith v' rest last (length room - n) r → n ≤ length room → 4 ≤ length room
     → EndsTurn v v' last src rest r
 room_ends r ref v v' last src rest room n law ends within four =
     let size : length (take n room) ≡ n = length-take-le n room within in
@@ -161,7 +161,7 @@ turn_all OutputFull v v' last bytes rest is ends = absurd (cc is)
 turn_all (Found line) v v' last bytes rest is ends = absurd (cc is)
 
 -- no call takes nothing
-pub passes_none : (v : ConverterView) (last : Bool) (src output log : List ℕ) → (v.ended ≡ true → (src ≡ []) × (last ≡ true)) → Passes v v last src src output output log log
+pub passes_none : (v : ConverterView) (last : Bool) (src output log : List ℕ) → (v.ended ≡ true → (src ≡ []) × (last ≡ true)) → PassesOn v v last src src output output log log
 passes_none v last src output log ended = record {
   items = [];
   law = record {
@@ -178,7 +178,7 @@ passes_none v last src output log ended = record {
 
 -- calls for some bytes, and then calls for what they left and for more, if those were not the last
 pub passes_after : (v v1 v2 : ConverterView) (last1 last : Bool) (a r1 b r2 o o1 o2 l l1 l2 : List ℕ) → (last1 ≡ true → (last ≡ true) × (b ≡ []))
-    → Passes v v1 last1 a r1 o o1 l l1 → Passes v1 v2 last (r1 ++ b) r2 o1 o2 l1 l2 → Passes v v2 last (a ++ b) r2 o o2 l l2
+    → PassesOn v v1 last1 a r1 o o1 l l1 → PassesOn v1 v2 last (r1 ++ b) r2 o1 o2 l1 l2 → PassesOn v v2 last (a ++ b) r2 o o2 l l2
 passes_after v v1 v2 last1 last a r1 b r2 o o1 o2 l l1 l2 more p q = record {
   items = p.items ++ q.items;
   law = record {
@@ -206,34 +206,34 @@ passes_after v v1 v2 last1 last a r1 b r2 o o1 o2 l l1 l2 more p q = record {
 
 -- one call
 pub passes_once : (v v' : ConverterView) (last : Bool) (src rest bytes o o1 o2 l l2 : List ℕ) (ref form : Reference) (r : ConverterResult) → form ≡ ref
-    → ConvertsPart v v' last src rest (map Byte bytes ++ found_items ref r) → o1 ≡ o ++ bytes → Gains o1 o2 l l2 (found_items form r) → Passes v v' last src rest o o2 l l2
+    → ConvertsPart v v' last src rest (map Byte bytes ++ found_items ref r) → o1 ≡ o ++ bytes → GainsItems o1 o2 l l2 (found_items form r) → PassesOn v v' last src rest o o2 l l2
 passes_once v v' last src rest bytes o o1 o2 l l2 ref form r is law more found = record {
   items = map Byte bytes ++ found_items ref r;
   law = law;
-  gains = gains_after o o1 o2 l l l2 (map Byte bytes) (found_items ref r) (gains_of_bytes o o1 l bytes more) (subst (λ f. Gains o1 o2 l l2 (found_items f r)) is found);
+  gains = gains_after o o1 o2 l l l2 (map Byte bytes) (found_items ref r) (gains_of_bytes o o1 l bytes more) (subst (λ f. GainsItems o1 o2 l l2 (found_items f r)) is found);
 }
 
 -- calls before the first byte
-pub passes_start : (v : ConverterView) (output log : List ℕ) → v.ended ≡ false → Passes v v false [] [] output output log log
+pub passes_start : (v : ConverterView) (output log : List ℕ) → v.ended ≡ false → PassesOn v v false [] [] output output log log
 passes_start v output log open_ = passes_none v false [] output log (λ is. absurd (true_not_false (sym is ∙ open_)))
 
 -- calls for what is left
 pub passes_on : (v v1 v2 : ConverterView) (last : Bool) (a r1 r2 o o1 o2 l l1 l2 : List ℕ)
-    → Passes v v1 last a r1 o o1 l l1 → Passes v1 v2 last r1 r2 o1 o2 l1 l2 → Passes v v2 last a r2 o o2 l l2
+    → PassesOn v v1 last a r1 o o1 l l1 → PassesOn v1 v2 last r1 r2 o1 o2 l1 l2 → PassesOn v v2 last a r2 o o2 l l2
 passes_on v v1 v2 last a r1 r2 o o1 o2 l l1 l2 p q =
-    let whole : Passes v v2 last (a ++ []) r2 o o2 l l2 =
-    passes_after v v1 v2 last last a r1 [] r2 o o1 o2 l l1 l2 (λ is. (is, refl)) p (subst (λ x. Passes v1 v2 last x r2 o1 o2 l1 l2) (sym (append-nil r1)) q) in
-    subst (λ x. Passes v v2 last x r2 o o2 l l2) (append-nil a) whole
+    let whole : PassesOn v v2 last (a ++ []) r2 o o2 l l2 =
+    passes_after v v1 v2 last last a r1 [] r2 o o1 o2 l l1 l2 (λ is. (is, refl)) p (subst (λ x. PassesOn v1 v2 last x r2 o1 o2 l1 l2) (sym (append-nil r1)) q) in
+    subst (λ x. PassesOn v v2 last x r2 o o2 l l2) (append-nil a) whole
 
 -- calls for all that is left
 pub passes_to_end : (v v1 v2 : ConverterView) (last : Bool) (a r1 r2 o o1 o2 l l1 l2 : List ℕ) → r2 ≡ []
-    → Passes v v1 last a r1 o o1 l l1 → Passes v1 v2 last r1 r2 o1 o2 l1 l2 → Passes v v2 last a [] o o2 l l2
+    → PassesOn v v1 last a r1 o o1 l l1 → PassesOn v1 v2 last r1 r2 o1 o2 l1 l2 → PassesOn v v2 last a [] o o2 l l2
 passes_to_end v v1 v2 last a r1 r2 o o1 o2 l l1 l2 none p q =
-    subst (λ x. Passes v v2 last a x o o2 l l2) none (passes_on v v1 v2 last a r1 r2 o o1 o2 l l1 l2 p q)
+    subst (λ x. PassesOn v v2 last a x o o2 l l2) none (passes_on v v1 v2 last a r1 r2 o o1 o2 l l1 l2 p q)
 
 -- calls for more bytes, after all of those before
 pub passes_more : (v v1 v2 : ConverterView) (last : Bool) (a b o o1 o2 l l1 l2 : List ℕ)
-    → Passes v v1 false a [] o o1 l l1 → Passes v1 v2 last b [] o1 o2 l1 l2 → Passes v v2 last (a ++ b) [] o o2 l l2
+    → PassesOn v v1 false a [] o o1 l l1 → PassesOn v1 v2 last b [] o1 o2 l1 l2 → PassesOn v v2 last (a ++ b) [] o o2 l l2
 passes_more v v1 v2 last a b o o1 o2 l l1 l2 p q =
     passes_after v v1 v2 false last a [] b [] o o1 o2 l l1 l2 (λ is. absurd (true_not_false (sym is))) p q
 
@@ -244,11 +244,11 @@ written_if_unstopped Policy.Hexadecimal t goes = refl
 written_if_unstopped Policy.Stop t goes = absurd (goes refl)
 
 -- calls for a whole input, and then those that end it, give what the job makes of it
-pub converts_whole : (v v1 v2 : ConverterView) (j : Job) (x o o1 o2 l l1 l2 : List ℕ) → IsNewConverter v j → j.policy ≢ Policy.Stop → Passes v v1 false x [] o o1 l l1
-    → Passes v1 v2 true [] [] o1 o2 l1 l2 → IsConverted v2 [] true
+pub converts_whole : (v v1 v2 : ConverterView) (j : Job) (x o o1 o2 l l1 l2 : List ℕ) → IsFreshConverter v j → j.policy ≢ Policy.Stop → PassesOn v v1 false x [] o o1 l l1
+    → PassesOn v1 v2 true [] [] o1 o2 l1 l2 → AllIsConverted v2 [] true
     → (o2 ≡ o ++ output_of j x) × (l2 ≡ l ++ log_of j x) × (IsTrue v2.state.verdict.faithful ↔ Faithful j x)
 converts_whole v v1 v2 j x o o1 o2 l l1 l2 new goes p q ends =
-    let w : Passes v v2 true x [] o o2 l l2 = subst (λ y. Passes v v2 true y [] o o2 l l2) (append-nil x) (passes_more v v1 v2 true x [] o o1 o2 l l1 l2 p q) in
+    let w : PassesOn v v2 true x [] o o2 l l2 = subst (λ y. PassesOn v v2 true y [] o o2 l l2) (append-nil x) (passes_more v v1 v2 true x [] o o1 o2 l l1 l2 p q) in
     let whole : IsWhole v2 = ends.whole refl in
     let owed : owes v x ≡ w.items = owed_of_part v v2 true x [] w.items w.law ∙ ap (λ t. w.items ++ t) whole.written ∙ append-nil w.items in
     let items : w.items ≡ trace j x = sym owed ∙ new.owes_trace x ∙ sym (written_if_unstopped j.policy (whole_trace j x) goes) in

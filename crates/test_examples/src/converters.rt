@@ -3,12 +3,12 @@
 ghost use Rattle.std.specs.Prelude.{◌≡◌, ◌≢◌, ◌+◌, ◌≤◌, ◌++◌, ◌↔◌, [], true, false};
 ghost use Rattle.std.specs.Prelude.{IfOk, IsTrue, OnOk, drop, length};
 ghost use Rattle.encoding_mem.specs.Coding.{reference_bytes};
-ghost use Rattle.recode.specs.Converter.{IsConverted, found_items};
+ghost use Rattle.recode.specs.Converter.{AllIsConverted, found_items};
 ghost use Rattle.recode.specs.Job.{Faithful, IsValidJob, log_of, output_of};
 ghost use Rattle.recode.specs.Policy.{reference_form};
-ghost use Rattle.recode.specs.calls.ConverterView.{seen};
+ghost use Rattle.recode.specs.calls.ConverterView.{converter_view};
 ghost use Rattle.recode.specs.declared.job.Policy.{Policy};
-ghost use Rattle.test_examples.specs.Calls.{EndsTurn, Gains, HasValidFound, Passes};
+ghost use Rattle.test_examples.specs.Calls.{EndsTurn, GainsItems, HasValidFound, PassesOn};
 
 use encoding_front::write_reference;
 use recode::{Converter, ConverterResult, Job, LogLine, Policy, Reference, Report};
@@ -43,7 +43,7 @@ fn append_found(
     log: &mut Vec<u8>,
 ) -> Result<(), AllocError>
     requires { HasValidFound found }
-    ensures { OnOk result (Gains output.old.items output.new.items log.old.items log.new.items
+    ensures { OnOk result (GainsItems output.old.items output.new.items log.old.items log.new.items
         (found_items form found)) }
 {
     let ConverterResult::Found(line) = found else {
@@ -71,15 +71,17 @@ fn convert_once(
     output: &mut Vec<u8>,
     log: &mut Vec<u8>,
 ) -> Result<(ConverterResult, usize), AllocError>
-    requires over { (seen converter.old).over ≡ false }
-    requires ended { (seen converter.old).ended ≡ true → (src.now ≡ []) × (last ≡ true) }
-    requires limit { (seen converter.old).state.counts.read + length src.now
-        ≤ (seen converter.old).job.limit }
-    requires form { form ≡ reference_form (seen converter.old).job.policy }
-    ensures law { IfOk result (λ turn. Passes (seen converter.old) (seen converter.new) last
+    requires over { (converter_view converter.old).over ≡ false }
+    requires ended { (converter_view converter.old).ended ≡ true → (src.now ≡ []) × (last ≡ true) }
+    requires limit { (converter_view converter.old).state.counts.read + length src.now
+        ≤ (converter_view converter.old).job.limit }
+    requires form { form ≡ reference_form (converter_view converter.old).job.policy }
+    ensures law { IfOk result (λ turn. PassesOn
+        (converter_view converter.old) (converter_view converter.new) last
         src.now (drop turn.1 src.now)
         output.old.items output.new.items log.old.items log.new.items) }
-    ensures ends { IfOk result (λ turn. EndsTurn (seen converter.old) (seen converter.new) last
+    ensures ends { IfOk result (λ turn. EndsTurn
+        (converter_view converter.old) (converter_view converter.new) last
         src.now (drop turn.1 src.now) turn.0) }
     ensures within { IfOk result (λ turn. turn.1 ≤ length src.now) }
 {
@@ -99,14 +101,15 @@ fn convert_part(
     output: &mut Vec<u8>,
     log: &mut Vec<u8>,
 ) -> Result<(), AllocError>
-    requires over { (seen converter.old).over ≡ false }
-    requires ended { (seen converter.old).ended ≡ true → (src.now ≡ []) × (last ≡ true) }
-    requires limit { (seen converter.old).state.counts.read + length src.now
-        ≤ (seen converter.old).job.limit }
-    requires form { form ≡ reference_form (seen converter.old).job.policy }
-    ensures law { OnOk result (Passes (seen converter.old) (seen converter.new) last src.now []
+    requires over { (converter_view converter.old).over ≡ false }
+    requires ended { (converter_view converter.old).ended ≡ true → (src.now ≡ []) × (last ≡ true) }
+    requires limit { (converter_view converter.old).state.counts.read + length src.now
+        ≤ (converter_view converter.old).job.limit }
+    requires form { form ≡ reference_form (converter_view converter.old).job.policy }
+    ensures law { OnOk result (PassesOn
+        (converter_view converter.old) (converter_view converter.new) last src.now []
         output.old.items output.new.items log.old.items log.new.items) }
-    ensures ends { OnOk result (IsConverted (seen converter.new) [] last) }
+    ensures ends { OnOk result (AllIsConverted (converter_view converter.new) [] last) }
 {
     let mut rest = src;
     'turns: loop {

@@ -1,8 +1,8 @@
 use Rattle.std.proofs.Common.{◌↔◌, Bool, IsTrue, List, ℕ, [], ◌∷◌, false, get_or, subst, sym, take}
 use Rattle.recode.specs.Job.{Faithful}
 use Rattle.std.proofs.lemmas.List.{take_all, take_more}
-use Rattle.recode.specs.calls.ConverterView.{seen}
-use Rattle.test_examples.specs.Calls.{Passes}
+use Rattle.recode.specs.calls.ConverterView.{converter_view}
+use Rattle.test_examples.specs.Calls.{PassesOn}
 use Rattle.test_examples.proofs.CallsLemmas.{converts_whole, passes_more, passes_start}
 use Rattle.test_examples.proofs.converters.convert_singly.Goals as goal
 
@@ -10,7 +10,7 @@ pub bytes-init : goal.bytes-init
 bytes-init c =
     let new = c.new-converter in
     record {
-      passed = passes_start (seen new.result) c.args.output.now.items c.args.log.now.items new.ensures.ended;
+      passed = passes_start (converter_view new.result) c.args.output.now.items c.args.log.now.items new.ensures.ended;
       over = new.ensures.over;
       ended = new.ensures.ended;
     }
@@ -23,9 +23,9 @@ bytes-preserved c =
     let x = c.args.input.now in
     let next = take_more x i 0 c.bytes-test.true in
     record {
-      passed = subst (λ (bytes : List ℕ). Passes (seen c.new-converter.result) (seen new.converter) false bytes [] c.args.output.now.items new.output.items c.args.log.now.items new.log.items)
+      passed = subst (λ (bytes : List ℕ). PassesOn (converter_view c.new-converter.result) (converter_view new.converter) false bytes [] c.args.output.now.items new.output.items c.args.log.now.items new.log.items)
           (sym next)
-          (passes_more (seen c.new-converter.result) (seen c.bytes.converter) (seen new.converter) false (take i x) (get_or x i 0 ∷ [])
+          (passes_more (converter_view c.new-converter.result) (converter_view c.bytes.converter) (converter_view new.converter) false (take i x) (get_or x i 0 ∷ [])
           c.args.output.now.items c.bytes.output.items new.output.items c.args.log.now.items c.bytes.log.items new.log.items c.bytes.invariant.passed part.law);
       over = part.ends.over;
       ended = part.ends.ended;
@@ -36,7 +36,7 @@ returns-clause-output c =
     let part = c.in_ok-convert_part-2.ensures in
     let all = take_all c.bytes.byte-index c.args.input.now c.bytes-test.false in
     let new = c.convert_part-2.new in
-    (converts_whole (seen c.new-converter.result) (seen c.bytes.converter) (seen new.converter) c.args.job c.args.input.now
+    (converts_whole (converter_view c.new-converter.result) (converter_view c.bytes.converter) (converter_view new.converter) c.args.job c.args.input.now
     c.args.output.now.items c.bytes.output.items new.output.items c.args.log.now.items c.bytes.log.items new.log.items
     c.new-converter.ensures c.requires.policy (rw all at c.bytes.invariant.passed) part.law part.ends).0
 
@@ -45,7 +45,7 @@ returns-clause-logged c =
     let part = c.in_ok-convert_part-2.ensures in
     let all = take_all c.bytes.byte-index c.args.input.now c.bytes-test.false in
     let new = c.convert_part-2.new in
-    (converts_whole (seen c.new-converter.result) (seen c.bytes.converter) (seen new.converter) c.args.job c.args.input.now
+    (converts_whole (converter_view c.new-converter.result) (converter_view c.bytes.converter) (converter_view new.converter) c.args.job c.args.input.now
     c.args.output.now.items c.bytes.output.items new.output.items c.args.log.now.items c.bytes.log.items new.log.items
     c.new-converter.ensures c.requires.policy (rw all at c.bytes.invariant.passed) part.law part.ends).1
 
@@ -55,6 +55,6 @@ returns-clause-verdict c =
     let all = take_all c.bytes.byte-index c.args.input.now c.bytes-test.false in
     let new = c.convert_part-2.new in
     subst (λ (b : Bool). IsTrue b ↔ Faithful c.args.job c.args.input.now) (sym c.in-Some.ensures.tells.verdict)
-    (converts_whole (seen c.new-converter.result) (seen c.bytes.converter) (seen new.converter) c.args.job c.args.input.now
+    (converts_whole (converter_view c.new-converter.result) (converter_view c.bytes.converter) (converter_view new.converter) c.args.job c.args.input.now
     c.args.output.now.items c.bytes.output.items new.output.items c.args.log.now.items c.bytes.log.items new.log.items
     c.new-converter.ensures c.requires.policy (rw all at c.bytes.invariant.passed) part.law part.ends).2
