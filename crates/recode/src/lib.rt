@@ -6,7 +6,8 @@
 //! A `Job` says what to recode and how. `run` and `convert` make a whole conversion, from a reader
 //! to a writer and a log; `Session` makes it step by step; `program` does what the words of a
 //! command line ask for. Readers and writers are wrapped in `Counted`, and buffers are lent
-//! (`Buffers`): nothing is kept between calls but a few bytes.
+//! (`Buffers`): nothing is kept between calls but a few bytes. `Converter` does the same without
+//! devices: bytes are handed in and taken out, as of a decoder or an encoder.
 //!
 //! # Use
 //!
