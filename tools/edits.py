@@ -56,8 +56,9 @@ from edit_files import CRATES, TOP, below, read
 from edit_record import KINDS, REFUSED, RUN, STALE, THROUGH, UNREADABLE
 
 FUNCTION = re.compile(r'^ *(?:pub(?:\([^)]*\))? )?(?:extern "C" )?fn (\w+)')
-# The type of a block of methods, after the trait that it implements.
-BLOCK = re.compile(r"^(?:pub )?(?:impl|trait)\b(?:<.*?>)? (?:(\w+)(?:<.*?>)? for )?(\w+)")
+# The type of a block of methods, after its parameters and the trait that it implements, and before its arguments.
+BLOCK = re.compile(r"^(?:pub )?(?:impl|trait)\b(<.*?>)? (?:(\w+)(?:<.*?>)? for )?(\w+)(<.*>)?")
+WORD = re.compile(r"(?<!')\b[A-Za-z]\w*")
 
 # What a check says of a function; a note of an open goal stands before it.
 SAID = re.compile(r"fn \w+::(\S+): (.*)")
@@ -135,6 +136,13 @@ def without(text, goals):
     return "\n\n".join(part for part in parts if not (ANSWER.match(part) and ANSWER.match(part)[1] in goals))
 
 
+def block_name(block):
+    """How a check names a block: its type, with the types that stand for parameters, and its trait."""
+    parameters, trait, name, arguments = block.groups()
+    given = [word for word in WORD.findall(arguments or "") if word not in WORD.findall(parameters or "")]
+    return "+".join([name, *given]) + (trait or "")
+
+
 class Edit:
     """An edit, and the function that its changes stand in."""
 
@@ -160,7 +168,7 @@ class Edit:
             if is_found and function and not line.startswith(" "):
                 break
             if is_found and block:
-                names.append(block[2] + (block[1] or ""))
+                names.append(block_name(block))
                 break
         return "::".join([*names, self.function]) if is_found else None
 
