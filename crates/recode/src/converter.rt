@@ -173,8 +173,8 @@ impl<'t> Converter<'t> {
     ///
     /// Of `src` it leaves what it did not read, to be handed in again: what was still to be written
     /// for `src` and any bytes to come is what it wrote, what it found, and then what is still to
-    /// be written for the rest and those bytes. Its work is that for what it reads and writes, and a
-    /// copy of the 1 KiB that it holds.
+    /// be written for the rest and those bytes. Its work is that for what it reads and writes, and
+    /// a copy of the 1 KiB that it holds.
     ///
     /// Conditions: not all is written yet (`is_over`); `src` has no more bytes than the limit
     /// leaves (`bytes_left`); and once the end was read (`is_ended`), `src` is empty and `last` is
