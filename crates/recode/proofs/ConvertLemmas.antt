@@ -51,7 +51,7 @@ use Rattle.encoding_mem.specs.declared.form.EscapeState.TheVariants.{Ascii}
 use Rattle.recode.specs.Policy.{reference_form}
 use Rattle.recode.specs.calls.Chunk.{IsDoneWith}
 use Rattle.recode.specs.calls.Verdict.{IsToldAtEnd}
-use Rattle.recode.proofs.TraceLemmas.{bad_line_count-append, bad_line_count-bytes, lost_line_count-append, lost_line_count-bytes}
+use Rattle.recode.specs.laws.Items.{bad_line_count-append, bad_line_count-bytes, lost_line_count-append, lost_line_count-bytes}
 use Rattle.encoding_mem.specs.Coding.{reference_bytes}
 use Rattle.encoding_mem.specs.calls.EncoderCalls.{reported_item}
 use Rattle.encoding_mem.specs.declared.encoder_result.EncoderResult.{EncoderResult}

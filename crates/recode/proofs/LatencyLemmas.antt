@@ -34,7 +34,8 @@ use Rattle.recode.specs.declared.job.Job.{Job}
 use Rattle.recode.specs.declared.job.Policy.{Policy}
 use Rattle.recode.proofs.DecoderCallLemmas.{WellFormedCall}
 use Rattle.recode.proofs.HeldLemmas.{written_whole}
-use Rattle.recode.proofs.TraceLemmas.{log_bytes-append_of_items, tagged-append, output_bytes-append, log_bytes-trace, output_bytes-trace, whole_from-append}
+use Rattle.recode.specs.laws.Items.{log_bytes-append, tagged-append, output_bytes-append}
+use Rattle.recode.proofs.TraceLemmas.{log_bytes-trace, output_bytes-trace, whole_from-append}
 
 -- If it does not end.
 module _ (before after : DecoderState) (src : List ℕ) (read : ℕ) (t : List ℕ) where
@@ -111,7 +112,7 @@ module _ (ref : Reference) (e : Coding) (s s1 : EscapeState) (offset i offset1 i
       let rest : List ℕ = flat_map line_bytes (log_lines e offset1 i1 qs) in
       let all : own ++ rest ≡ log_bytes (tagged written_items) ++ rest =
       sym (log_bytes-append e offset i offset1 i1 taken qs offset_is index_is) ∙ sym (log_bytes-trace _ e s offset i (taken ++ qs)) ∙ ap (λ k. log_bytes (tagged k)) is
-      ∙ ap log_bytes (tagged-append written_items (trace_from ref e s1 offset1 i1 qs)) ∙ log_bytes-append_of_items (tagged written_items) (tagged (trace_from ref e s1 offset1 i1 qs))
+      ∙ ap log_bytes (tagged-append written_items (trace_from ref e s1 offset1 i1 qs)) ∙ log_bytes-append (tagged written_items) (tagged (trace_from ref e s1 offset1 i1 qs))
       ∙ ap (λ x. log_bytes (tagged written_items) ++ x) (log_bytes-trace _ e s1 offset1 i1 qs) in
       sym (append_cancel_right own (log_bytes (tagged written_items)) rest all)
 

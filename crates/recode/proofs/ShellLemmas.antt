@@ -26,7 +26,7 @@ use Rattle.recode.specs.calls.EngineView.{HoldsBetween, chars_between}
 use Rattle.recode.specs.declared.job.Pivot.{Pivot}
 use Rattle.recode.specs.declared.job.Pivot.TheVariants.{Utf8, Utf16}
 use Rattle.recode.specs.declared.counts.Counts.{Counts}
-use Rattle.recode.proofs.TraceLemmas.{lost_line_count-append, lost_line_count-bytes, spared_append, spared_nil}
+use Rattle.recode.specs.laws.Items.{lost_line_count-append, lost_line_count-bytes, spared_append, spared_nil}
 use Rattle.recode.proofs.TurnLemmas.{nothing_waits, turns_more, turns_start}
 
 pub ok_map : {T E A B : Type 0} (r : Result T E) → OnOk r A → (A → B) → OnOk r B

@@ -14,7 +14,8 @@ use Rattle.recode.specs.declared.job.Fault.{Fault}
 use Rattle.recode.specs.declared.job.Fault.TheVariants.{Read, Write, Log, TooLong, Unmappable}
 use Rattle.recode.proofs.LatencyLemmas.{advances_more, advances_start}
 use Rattle.recode.proofs.VerdictLemmas.{both_ways}
-use Rattle.recode.proofs.TraceLemmas.{Wrote-nil, Wrote-trans, tagged-append, AreCounted-trans, WritesItemsFor-start, left_behind, spared_append}
+use Rattle.recode.specs.laws.Items.{tagged-append, AreCounted-trans, spared_append}
+use Rattle.recode.proofs.TraceLemmas.{Wrote-nil, Wrote-trans, WritesItemsFor-start, left_behind}
 use Rattle.recode_log.specs.Counted.{IsTold}
 use Rattle.recode.specs.Conversion.{Breaks, CountsFlushes, IsFlushCause, RisesBy, message_of}
 use Rattle.recode.specs.Job.{trace}

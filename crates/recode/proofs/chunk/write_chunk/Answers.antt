@@ -13,7 +13,8 @@ use Rattle.recode.specs.declared.converter.ConverterResult.TheVariants.{Found}
 use Rattle.recode.specs.declared.job.Policy.{Policy}
 use Rattle.recode.proofs.BufferLemmas.{room_on, room_start, same_on, same_start, view_none}
 use Rattle.recode.proofs.ChunkLemmas.{decodes_delivered, delivered_under}
-use Rattle.recode.proofs.TraceLemmas.{hands_on_for, spared_append}
+use Rattle.recode.specs.laws.Items.{spared_append}
+use Rattle.recode.proofs.TraceLemmas.{hands_on_for}
 use Rattle.recode.proofs.HeldLemmas.{passes_then}
 use Rattle.recode_log.specs.Counted.{failures_of}
 use Rattle.recode.proofs.ShellLemmas.{between_none, found_some, found_spared, holds_none, left_any, left_at_start, left_found, ok_of, pumps_held, pumps_more, pumps_start, pumps_under, pumps_whole, ready_start, smaller_by, sound_start, spared_only}
