@@ -212,7 +212,6 @@ prefixes [] b [] d e = inl ([], refl)
 prefixes [] b (p ∷ c) d e = inr (p, c, refl, e)
 prefixes (q ∷ a) b [] d e = inl (q ∷ a, refl)
 prefixes (q ∷ a) b (p ∷ c) d e =
-    let whole : q ∷ (a ++ b) ≡ p ∷ (c ++ d) = e in
     let same : q ≡ p = cc in
     let tails : a ++ b ≡ c ++ d = cc in
     elim (prefixes a b c d tails) [
@@ -232,7 +231,6 @@ begins_with d p more e = ap head_piece e
 same_start : (a : List Piece) (p q : Piece) (c d : List Piece) → a ++ (p ∷ c) ≡ a ++ (q ∷ d) → p ≡ q
 same_start [] p q c d e = cc
 same_start (o ∷ a) p q c d e =
-    let whole : o ∷ (a ++ (p ∷ c)) ≡ o ∷ (a ++ (q ∷ d)) = e in
     let tails : a ++ (p ∷ c) ≡ a ++ (q ∷ d) = cc in
     same_start a p q c d tails
 

@@ -1,6 +1,7 @@
 pub mod PolicyLemmas
 pub mod TraceLemmas
 pub mod HeldLemmas
+pub mod HandsLemmas
 pub mod CompareLemmas
 pub mod VerdictLemmas
 pub mod NewVerdictLemmas

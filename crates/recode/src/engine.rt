@@ -109,33 +109,6 @@ impl<D: StreamDecoder, E: RawEncoder> Engine<D, E> {
     ghost use Rattle.recode.specs.calls.Turns.{stop_items, waits};
     ghost use Rattle.recode.specs.declared.job.Policy.{Policy};
 
-    // One call of the decoder. Returns how many bytes it read.
-    fn decode(&mut self, src: &[u8], pivot: &mut Pivot<'_>, last: bool) -> usize
-        requires ready { CanGoOn
-            (standing D.view E.parts Policy.Decimal self.old pivot.old) src.now last }
-        requires none { self.old.answer ≡ None }
-        requires pivot { HoldsAnyCharacter pivot.old }
-        ensures law { (p : Policy) → TakesTurns (standing D.view E.parts p self.old pivot.old)
-            (standing D.view E.parts p self.new pivot.new) last src.now
-            (drop result src.now) [] 0 0 }
-        ensures next { CanGoOn (standing D.view E.parts Policy.Decimal self.new pivot.new)
-            (drop result src.now) last }
-        ensures some { IsSome self.new.answer }
-        ensures fewer { self.new.answer ≡ Some DecoderResult.OutputFull → length
-            ((D.view self.new.decoder).state.pieces (drop result src.now))
-            < length ((D.view self.old.decoder).state.pieces src.now) }
-        ensures within { result ≤ length src.now }
-        ensures holds { HoldsBetween pivot.new self.new.from self.new.to }
-        ensures pivot { KeepsRoom pivot.old pivot.new }
-    {
-        let call = decode_to_pivot(&mut self.decoder, src, pivot, last, &mut self.counts.calls);
-        self.counts.read += call.read as u64;
-        self.answer = Some(call.answer);
-        self.from = 0;
-        self.to = call.written;
-        call.read
-    }
-
     // One call of the encoder, on the text that waits. What it writes is read back.
     fn encode(
         &mut self,
@@ -235,7 +208,7 @@ impl<D: StreamDecoder, E: RawEncoder> Engine<D, E> {
         }
     }
 
-    // Asks the decoder, if no text waits. Returns how many bytes it read.
+    // One call of the decoder, if no text waits. Returns how many bytes it read.
     fn fill(&mut self, src: &[u8], pivot: &mut Pivot<'_>, last: bool) -> usize
         requires ready { CanGoOn
             (standing D.view E.parts Policy.Decimal self.old pivot.old) src.now last }
@@ -255,10 +228,15 @@ impl<D: StreamDecoder, E: RawEncoder> Engine<D, E> {
         ensures holds { HoldsBetween pivot.new self.new.from self.new.to }
         ensures pivot { KeepsRoom pivot.old pivot.new }
     {
-        match self.answer {
-            Some(_) => 0,
-            None => self.decode(src, pivot, last),
+        if self.answer.is_some() {
+            return 0;
         }
+        let call = decode_to_pivot(&mut self.decoder, src, pivot, last, &mut self.counts.calls);
+        self.counts.read += call.read as u64;
+        self.answer = Some(call.answer);
+        self.from = 0;
+        self.to = call.written;
+        call.read
     }
 
     // One call of the encoder, after one of the decoder if no text waits. Returns how a call ends

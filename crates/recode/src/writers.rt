@@ -73,13 +73,8 @@ impl<'w, W: Write, L: Write> Writers<'w, W, L> {
     // Delivers the line that is held, if there is one, all of it or a prefix.
     fn deliver_line(&mut self) -> Result<(), Fault>
         requires ready { AreReady self.old }
-        ensures ok { OnOk result (Passes (writers_view W.contents L.contents self.old)
-            (writers_view W.contents L.contents self.new) []) }
+        ensures hands { HandsOn W.contents L.contents self.old self.new [] result }
         ensures none { OnOk result (self.new.line ≡ None) }
-        ensures err { IfErr result (λ f. (to_write : List Item) → LeavesPrefix
-            (writers_view W.contents L.contents self.old)
-            (writers_view W.contents L.contents self.new) self.old.policy f to_write) }
-        ensures failures { CountsWriterFault self.old self.new result }
     {
         let mut bytes = [0; 64];
         let len = put_held_line(self.line, &mut bytes);
@@ -90,13 +85,8 @@ impl<'w, W: Write, L: Write> Writers<'w, W, L> {
     /// Delivers what is held, all of it or a prefix.
     pub fn deliver_held(&mut self) -> Result<(), Fault>
         requires ready { AreReady self.old }
-        ensures ok { OnOk result (Passes (writers_view W.contents L.contents self.old)
-            (writers_view W.contents L.contents self.new) []) }
+        ensures hands { HandsOn W.contents L.contents self.old self.new [] result }
         ensures none { OnOk result (HoldNothing self.new) }
-        ensures err { IfErr result (λ f. (to_write : List Item) → LeavesPrefix
-            (writers_view W.contents L.contents self.old)
-            (writers_view W.contents L.contents self.new) self.old.policy f to_write) }
-        ensures failures { CountsWriterFault self.old self.new result }
     {
         self.deliver_line()?;
         let held = self.held;
@@ -109,13 +99,8 @@ impl<'w, W: Write, L: Write> Writers<'w, W, L> {
     /// Delivers what is held if too little room is left for some character.
     pub fn make_room(&mut self) -> Result<(), Fault>
         requires ready { AreReady self.old }
-        ensures ok { OnOk result (Passes (writers_view W.contents L.contents self.old)
-            (writers_view W.contents L.contents self.new) []) }
+        ensures hands { HandsOn W.contents L.contents self.old self.new [] result }
         ensures room { OnOk result (4 ≤ length self.new.buffer.now - self.new.held) }
-        ensures err { IfErr result (λ f. (to_write : List Item) → LeavesPrefix
-            (writers_view W.contents L.contents self.old)
-            (writers_view W.contents L.contents self.new) self.old.policy f to_write) }
-        ensures failures { CountsWriterFault self.old self.new result }
     {
         if self.buffer.len() - self.held < 4 {
             self.deliver_held()
@@ -164,17 +149,9 @@ impl<'w, W: Write, L: Write> Writers<'w, W, L> {
     pub fn log_lost(&mut self, index: u64, scalar: char) -> Result<(), Fault>
         requires valid { index ≤ 2 ^ 48 }
         requires ready { AreReady self.old }
-        ensures ok { OnOk result (Passes (writers_view W.contents L.contents self.old)
-            (writers_view W.contents L.contents self.new)
-            (found_items (reference_form self.old.policy)
-            (ConverterResult.Found (Lost index scalar)))) }
+        ensures hands { HandsOn W.contents L.contents self.old self.new
+            (found_items (reference_form self.old.policy) (Found (Lost index scalar))) result }
         ensures spared { OnOk result (¬ (self.old.policy ≡ Policy.Stop)) }
-        ensures err { IfErr result (λ f. (to_write : List Item) → LeavesPrefix
-            (writers_view W.contents L.contents self.old)
-            (writers_view W.contents L.contents self.new) self.old.policy f
-            (found_items (reference_form self.old.policy)
-            (ConverterResult.Found (Lost index scalar)) ++ to_write)) }
-        ensures failures { CountsWriterFault self.old self.new result }
     {
         self.log_line(LogLine::Lost { index, scalar })?;
         let form = self.policy.reference_at(index, scalar)?;
@@ -186,17 +163,10 @@ impl<'w, W: Write, L: Write> Writers<'w, W, L> {
     pub fn take_found(&mut self, line: LogLine) -> Result<(), Fault>
         requires valid { IsValid line }
         requires ready { AreReady self.old }
-        ensures ok { OnOk result (Passes (writers_view W.contents L.contents self.old)
-            (writers_view W.contents L.contents self.new)
-            (found_items (reference_form self.old.policy) (ConverterResult.Found line))) }
+        ensures hands { HandsOn W.contents L.contents self.old self.new
+            (found_items (reference_form self.old.policy) (Found line)) result }
         ensures spared { OnOk result (IsSpared self.old.policy
-            (found_items (reference_form self.old.policy) (ConverterResult.Found line))) }
-        ensures err { IfErr result (λ f. (to_write : List Item) → LeavesPrefix
-            (writers_view W.contents L.contents self.old)
-            (writers_view W.contents L.contents self.new) self.old.policy f
-            (found_items (reference_form self.old.policy) (ConverterResult.Found line)
-            ++ to_write)) }
-        ensures failures { CountsWriterFault self.old self.new result }
+            (found_items (reference_form self.old.policy) (Found line))) }
     {
         match line {
             LogLine::Bad { offset, length } => self.hold_line(MalformedLine { offset, length }),
@@ -207,13 +177,8 @@ impl<'w, W: Write, L: Write> Writers<'w, W, L> {
     // Delivers what is held if there are bytes among it, so that no more than a line is held.
     fn deliver_bytes(&mut self) -> Result<(), Fault>
         requires ready { AreReady self.old }
-        ensures ok { OnOk result (Passes (writers_view W.contents L.contents self.old)
-            (writers_view W.contents L.contents self.new) []) }
+        ensures hands { HandsOn W.contents L.contents self.old self.new [] result }
         ensures none { OnOk result (self.new.held ≡ 0) }
-        ensures err { IfErr result (λ f. (to_write : List Item) → LeavesPrefix
-            (writers_view W.contents L.contents self.old)
-            (writers_view W.contents L.contents self.new) self.old.policy f to_write) }
-        ensures failures { CountsWriterFault self.old self.new result }
     {
         if self.held == 0 {
             Ok(())
@@ -227,13 +192,8 @@ impl<'w, W: Write, L: Write> Writers<'w, W, L> {
     pub fn log_line(&mut self, line: LogLine) -> Result<(), Fault>
         requires valid { IsValid line }
         requires ready { AreReady self.old }
-        ensures ok { OnOk result (WritesLine (writers_view W.contents L.contents self.old)
-            (writers_view W.contents L.contents self.new) (item_of line)) }
-        ensures err { IfErr result (λ f. (to_write : List Item) → LeavesPrefix
-            (writers_view W.contents L.contents self.old)
-            (writers_view W.contents L.contents self.new) self.old.policy f
-            (item_of line ∷ to_write)) }
-        ensures failures { CountsWriterFault self.old self.new result }
+        ensures hands { HandsOn W.contents L.contents self.old self.new (item_of line ∷ []) result }
+        ensures none { OnOk result (HoldNothing self.new) }
     {
         self.deliver_bytes()?;
         let mut lines = [0; 64];
@@ -249,12 +209,8 @@ impl<'w, W: Write, L: Write> Writers<'w, W, L> {
     pub fn hold_line(&mut self, line: MalformedLine) -> Result<(), Fault>
         requires valid { IsValid (log_line_of line) }
         requires ready { AreReady self.old }
-        ensures ok { OnOk result (Passes (writers_view W.contents L.contents self.old)
-            (writers_view W.contents L.contents self.new) (item_of (log_line_of line) ∷ [])) }
-        ensures err { IfErr result (λ f. (to_write : List Item) → LeavesPrefix
-            (writers_view W.contents L.contents self.old)
-            (writers_view W.contents L.contents self.new) self.old.policy f to_write) }
-        ensures failures { CountsWriterFault self.old self.new result }
+        ensures hands { HandsOn W.contents L.contents self.old self.new
+            (item_of (log_line_of line) ∷ []) result }
     {
         self.deliver_held()?;
         self.line = Some(line);
@@ -265,13 +221,8 @@ impl<'w, W: Write, L: Write> Writers<'w, W, L> {
     /// room for it, it is delivered, after what is held, all of that or a prefix.
     pub fn put_reference(&mut self, c: char, form: Reference) -> Result<(), Fault>
         requires ready { AreReady self.old }
-        ensures ok { OnOk result (PassesBytes (writers_view W.contents L.contents self.old)
-            (writers_view W.contents L.contents self.new) (reference_bytes form c)) }
-        ensures err { IfErr result (λ f. (to_write : List Item) → LeavesPrefix
-            (writers_view W.contents L.contents self.old)
-            (writers_view W.contents L.contents self.new) self.old.policy f
-            (map Byte (reference_bytes form c) ++ to_write)) }
-        ensures failures { CountsWriterFault self.old self.new result }
+        ensures hands { HandsOn W.contents L.contents self.old self.new
+            (map Byte (reference_bytes form c)) result }
     {
         let mut bytes = [0; 10];
         let len = write_reference(c, form, &mut bytes);

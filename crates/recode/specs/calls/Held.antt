@@ -56,11 +56,6 @@ pub record Passes (before after : WritersView) (items : List Item) : Type 0 wher
 abbrev pub PassesBytes : (before after : WritersView) (bytes : List ℕ) → Type 0
 PassesBytes before after bytes = Passes before after (map Byte bytes)
 
--- The line of an item was passed, and all was written.
-pub record WritesLine (before after : WritersView) (item : Item) : Type 0 where
-  pub passes : Passes before after (item ∷ [])
-  pub none : held_items after ≡ []
-
 -- Items were passed, which are counted and of which none stops the conversion, and what was still to be passed is these,
 -- then what is still to be passed now.
 pub record PassesItems (before after : WritersView) (c c' : Counts) (p : Policy) (to_write to_write' : List Item) : Type 0 where

@@ -1,10 +1,11 @@
 -- What the two writers of a conversion have, and how the counts of their failed calls rise.
-use Rattle.std.specs.Prelude.{◌≡◌, ℕ, ◌+◌, ◌-◌, ◌^◌, ◌<◌, ◌≤◌, nat_eq, drop, length, take, Bool, List, Option, None, IfSome, Result}
+use Rattle.std.specs.Prelude.{◌≡◌, ℕ, ◌+◌, ◌-◌, ◌^◌, ◌<◌, ◌≤◌, ◌++◌, nat_eq, drop, length, take, Bool, List, Option, None, IfSome, Result, OnOk, IfErr}
 use Rattle.recode_log.specs.Counted.{failures_of}
 use Rattle.recode_log.specs.Line.{IsValid}
 use Rattle.recode.specs.Devices.{Written, written_in}
 use Rattle.recode.specs.Fault.{log_failures, of_other, reader_failures, writer_failures}
-use Rattle.recode.specs.calls.Held.{PassesBytes, WritersView, log_line_of}
+use Rattle.encoding_mem.specs.Items.{Item}
+use Rattle.recode.specs.calls.Held.{LeavesPrefix, Passes, PassesBytes, WritersView, log_line_of}
 use Rattle.recode.specs.declared.job.Fault.{Fault}
 use Rattle.recode.specs.declared.writers.MalformedLine.{MalformedLine}
 use Rattle.recode.specs.declared.writers.Writers.{Writers}
@@ -70,3 +71,10 @@ pub record CountsWriterFault {W L T : Type 0} (before after : Writers W L) (resu
 -- whether what was read is the end of the input: no bytes
 abbrev pub is_end : List ℕ → Bool
 is_end chunk = nat_eq (length chunk) 0
+
+-- Items were passed. Or a writer failed: its count rose, and what was taken is a prefix of what was held, of these items
+-- and of what follows them.
+pub record HandsOn {W L T : Type 0} (contents : W → Option (List ℕ)) (logged : L → Option (List ℕ)) (before after : Writers W L) (items : List Item) (result : Result T Fault) : Type 0 where
+  pub ok : OnOk result (Passes (writers_view contents logged before) (writers_view contents logged after) items)
+  pub err : IfErr result (λ f. (more : List Item) → LeavesPrefix (writers_view contents logged before) (writers_view contents logged after) before.policy f (items ++ more))
+  pub failures : CountsWriterFault before after result

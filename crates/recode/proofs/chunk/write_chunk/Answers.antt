@@ -137,42 +137,20 @@ returns-in-InputEmpty-clause-target g c =
     let start : Engine g.row.D.Denot g.row.E.Denot = record c.args.engine.now { from = 0; to = 0 } in
     let c0 = standing view parts p start c.args.pivot.now in
     let c1 = standing view parts p c.calls.engine c.calls.pivot in
-    let empty = between_none c.args.pivot.now in
-    let held = view_none g.W.Write.contents g.L.Write.contents c.args.writers.now c.requires.held in
     let k = c.convert-result in
     let rest = c.calls.rest.now in
-    let w2 = writers_view g.W.Write.contents g.L.Write.contents k.new.self in
-    let c2 = standing view parts p k.new.engine k.new.pivot in
-    let bytes = last_held k.new.self k.result.2 in
     let pumps = pumps_held w0 w w1 c0 c1 p last chunk rest 0 0 i.pumps c.in_ok-make_room.ensures.ok in
-    let policy1 = c.in_ok-make_room.ensures.failures.same.policy ∙ i.same.policy in
-    let policy2 = k.ensures.held.same.policy ∙ policy1 in
     (k.ensures.law p).target ∙ i.pumps.turns.target
 
 pub calls-smaller-in-OutputFull : goal.calls-smaller-in-OutputFull
 calls-smaller-in-OutputFull g c =
     let view = g.D.StreamDecoder.view in
     let parts = g.E.RawEncoder.parts in
-    let i = c.calls.invariant in
-    let p = c.args.writers.now.policy in
     let last = c.is_empty-last.result in
-    let chunk = c.args.chunk.now in
-    let w0 = writers_view g.W.Write.contents g.L.Write.contents c.args.writers.now in
-    let w = writers_view g.W.Write.contents g.L.Write.contents c.calls.writers in
-    let w1 = writers_view g.W.Write.contents g.L.Write.contents c.make_room.new.self in
-    let start : Engine g.row.D.Denot g.row.E.Denot = record c.args.engine.now { from = 0; to = 0 } in
-    let c0 = standing view parts p start c.args.pivot.now in
-    let c1 = standing view parts p c.calls.engine c.calls.pivot in
-    let empty = between_none c.args.pivot.now in
     let held = view_none g.W.Write.contents g.L.Write.contents c.args.writers.now c.requires.held in
     let k = c.convert-result in
     let rest = c.calls.rest.now in
-    let w2 = writers_view g.W.Write.contents g.L.Write.contents k.new.self in
-    let c2 = standing view parts p k.new.engine k.new.pivot in
     let bytes = last_held k.new.self k.result.2 in
-    let pumps = pumps_held w0 w w1 c0 c1 p last chunk rest 0 0 i.pumps c.in_ok-make_room.ensures.ok in
-    let policy1 = c.in_ok-make_room.ensures.failures.same.policy ∙ i.same.policy in
-    let policy2 = k.ensures.held.same.policy ∙ policy1 in
     let d1 = standing view parts Policy.Decimal c.calls.engine c.calls.pivot in
     let d2 = standing view parts Policy.Decimal k.new.engine k.new.pivot in
     let ends = rw c.in-OutputFull.is at (k.ensures.ends Policy.Decimal) in
@@ -194,7 +172,6 @@ calls-preserved-in-OutputFull g c =
     let start : Engine g.row.D.Denot g.row.E.Denot = record c.args.engine.now { from = 0; to = 0 } in
     let c0 = standing view parts p start c.args.pivot.now in
     let c1 = standing view parts p c.calls.engine c.calls.pivot in
-    let empty = between_none c.args.pivot.now in
     let held = view_none g.W.Write.contents g.L.Write.contents c.args.writers.now c.requires.held in
     let k = c.convert-result in
     let rest = c.calls.rest.now in
@@ -202,8 +179,6 @@ calls-preserved-in-OutputFull g c =
     let c2 = standing view parts p k.new.engine k.new.pivot in
     let bytes = last_held k.new.self k.result.2 in
     let pumps = pumps_held w0 w w1 c0 c1 p last chunk rest 0 0 i.pumps c.in_ok-make_room.ensures.ok in
-    let policy1 = c.in_ok-make_room.ensures.failures.same.policy ∙ i.same.policy in
-    let policy2 = k.ensures.held.same.policy ∙ policy1 in
     let ends = rw c.in-OutputFull.is at (k.ensures.ends Policy.Decimal) in
     let law = rw c.in-OutputFull.is at (k.ensures.law p) in
     let passed = subst (Passes w1 w2) (sym (append-nil (map Byte bytes))) k.ensures.held.bytes in
@@ -222,26 +197,10 @@ pub calls-smaller : goal.calls-smaller
 calls-smaller g c =
     let view = g.D.StreamDecoder.view in
     let parts = g.E.RawEncoder.parts in
-    let i = c.calls.invariant in
-    let p = c.args.writers.now.policy in
     let last = c.is_empty-last.result in
-    let chunk = c.args.chunk.now in
-    let w0 = writers_view g.W.Write.contents g.L.Write.contents c.args.writers.now in
-    let w = writers_view g.W.Write.contents g.L.Write.contents c.calls.writers in
-    let w1 = writers_view g.W.Write.contents g.L.Write.contents c.make_room.new.self in
-    let start : Engine g.row.D.Denot g.row.E.Denot = record c.args.engine.now { from = 0; to = 0 } in
-    let c0 = standing view parts p start c.args.pivot.now in
-    let c1 = standing view parts p c.calls.engine c.calls.pivot in
-    let empty = between_none c.args.pivot.now in
-    let held = view_none g.W.Write.contents g.L.Write.contents c.args.writers.now c.requires.held in
     let k = c.convert-result in
     let rest = c.calls.rest.now in
-    let w2 = writers_view g.W.Write.contents g.L.Write.contents k.new.self in
-    let c2 = standing view parts p k.new.engine k.new.pivot in
     let bytes = last_held k.new.self k.result.2 in
-    let pumps = pumps_held w0 w w1 c0 c1 p last chunk rest 0 0 i.pumps c.in_ok-make_room.ensures.ok in
-    let policy1 = c.in_ok-make_room.ensures.failures.same.policy ∙ i.same.policy in
-    let policy2 = k.ensures.held.same.policy ∙ policy1 in
     let d1 = standing view parts Policy.Decimal c.calls.engine c.calls.pivot in
     let d2 = standing view parts Policy.Decimal k.new.engine k.new.pivot in
     let law = rw c.in-Found.is at (k.ensures.law Policy.Decimal) in
@@ -261,7 +220,6 @@ calls-preserved g c =
     let start : Engine g.row.D.Denot g.row.E.Denot = record c.args.engine.now { from = 0; to = 0 } in
     let c0 = standing view parts p start c.args.pivot.now in
     let c1 = standing view parts p c.calls.engine c.calls.pivot in
-    let empty = between_none c.args.pivot.now in
     let held = view_none g.W.Write.contents g.L.Write.contents c.args.writers.now c.requires.held in
     let k = c.convert-result in
     let rest = c.calls.rest.now in
@@ -334,66 +292,19 @@ returns-in_err-take_found-in-Found-clause-target g c =
     let start : Engine g.row.D.Denot g.row.E.Denot = record c.args.engine.now { from = 0; to = 0 } in
     let c0 = standing view parts p start c.args.pivot.now in
     let c1 = standing view parts p c.calls.engine c.calls.pivot in
-    let empty = between_none c.args.pivot.now in
-    let held = view_none g.W.Write.contents g.L.Write.contents c.args.writers.now c.requires.held in
     let k = c.convert-result in
     let rest = c.calls.rest.now in
-    let w2 = writers_view g.W.Write.contents g.L.Write.contents k.new.self in
-    let c2 = standing view parts p k.new.engine k.new.pivot in
-    let bytes = last_held k.new.self k.result.2 in
     let pumps = pumps_held w0 w w1 c0 c1 p last chunk rest 0 0 i.pumps c.in_ok-make_room.ensures.ok in
-    let policy1 = c.in_ok-make_room.ensures.failures.same.policy ∙ i.same.policy in
-    let policy2 = k.ensures.held.same.policy ∙ policy1 in
     (k.ensures.law p).target ∙ i.pumps.turns.target
 
 pub returns-in-InputEmpty-clause-none : goal.returns-in-InputEmpty-clause-none
 returns-in-InputEmpty-clause-none g c =
-    let view = g.D.StreamDecoder.view in
-    let parts = g.E.RawEncoder.parts in
-    let i = c.calls.invariant in
     let p = c.args.writers.now.policy in
-    let last = c.is_empty-last.result in
-    let chunk = c.args.chunk.now in
-    let w0 = writers_view g.W.Write.contents g.L.Write.contents c.args.writers.now in
-    let w = writers_view g.W.Write.contents g.L.Write.contents c.calls.writers in
-    let w1 = writers_view g.W.Write.contents g.L.Write.contents c.make_room.new.self in
-    let start : Engine g.row.D.Denot g.row.E.Denot = record c.args.engine.now { from = 0; to = 0 } in
-    let c0 = standing view parts p start c.args.pivot.now in
-    let c1 = standing view parts p c.calls.engine c.calls.pivot in
-    let empty = between_none c.args.pivot.now in
-    let held = view_none g.W.Write.contents g.L.Write.contents c.args.writers.now c.requires.held in
     let k = c.convert-result in
-    let rest = c.calls.rest.now in
-    let w2 = writers_view g.W.Write.contents g.L.Write.contents k.new.self in
-    let c2 = standing view parts p k.new.engine k.new.pivot in
-    let bytes = last_held k.new.self k.result.2 in
-    let pumps = pumps_held w0 w w1 c0 c1 p last chunk rest 0 0 i.pumps c.in_ok-make_room.ensures.ok in
-    let policy1 = c.in_ok-make_room.ensures.failures.same.policy ∙ i.same.policy in
-    let policy2 = k.ensures.held.same.policy ∙ policy1 in
     ok_of c.deliver_held.result (rw c.in-InputEmpty.is at (k.ensures.ends p)).1
 
 pub take_found-requires-clause-valid : goal.take_found-requires-clause-valid
 take_found-requires-clause-valid g c =
-    let view = g.D.StreamDecoder.view in
-    let parts = g.E.RawEncoder.parts in
-    let i = c.calls.invariant in
     let p = c.args.writers.now.policy in
-    let last = c.is_empty-last.result in
-    let chunk = c.args.chunk.now in
-    let w0 = writers_view g.W.Write.contents g.L.Write.contents c.args.writers.now in
-    let w = writers_view g.W.Write.contents g.L.Write.contents c.calls.writers in
-    let w1 = writers_view g.W.Write.contents g.L.Write.contents c.make_room.new.self in
-    let start : Engine g.row.D.Denot g.row.E.Denot = record c.args.engine.now { from = 0; to = 0 } in
-    let c0 = standing view parts p start c.args.pivot.now in
-    let c1 = standing view parts p c.calls.engine c.calls.pivot in
-    let empty = between_none c.args.pivot.now in
-    let held = view_none g.W.Write.contents g.L.Write.contents c.args.writers.now c.requires.held in
     let k = c.convert-result in
-    let rest = c.calls.rest.now in
-    let w2 = writers_view g.W.Write.contents g.L.Write.contents k.new.self in
-    let c2 = standing view parts p k.new.engine k.new.pivot in
-    let bytes = last_held k.new.self k.result.2 in
-    let pumps = pumps_held w0 w w1 c0 c1 p last chunk rest 0 0 i.pumps c.in_ok-make_room.ensures.ok in
-    let policy1 = c.in_ok-make_room.ensures.failures.same.policy ∙ i.same.policy in
-    let policy2 = k.ensures.held.same.policy ∙ policy1 in
     (rw c.in-Found.is at (k.ensures.ends p)).0

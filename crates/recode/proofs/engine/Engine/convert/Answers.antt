@@ -31,8 +31,6 @@ turns-preserved g c =
     let parts = g.E.RawEncoder.parts in
     let i = c.turns.invariant in
     let t = c.turn-stop in
-    let c0 = standing view parts Policy.Decimal c.args.self.now c.args.pivot.now in
-    let c1 = standing view parts Policy.Decimal c.turns.self c.turns.pivot in
     let c2 = standing view parts Policy.Decimal t.new.self t.new.pivot in
     let ready = rw (take_rest c.args.src.now c.turns.read) at (t.ensures.goes_on c.in_default.is) in
     record {

@@ -17,7 +17,6 @@ encode-answer-requires-clause-ready g c =
     let view = g.D.StreamDecoder.view in
     let parts = g.E.RawEncoder.parts in
     let f = c.fill-read in
-    let a = answer_of f.new.self.answer f.ensures.some in
     let y = drop f.result c.args.src.now in
     let c1 = standing view parts Policy.Decimal f.new.self f.new.pivot in
     let ready = under_policy (standing view parts Policy.Decimal f.new.self f.new.pivot).state f.new.self.answer c1.text y c.args.last Policy.Decimal f.ensures.next in
@@ -47,7 +46,6 @@ returns-in-OutputFull-clause-ends g c = λ p.
     let e = c.encode-answer in
     let a = answer_of f.new.self.answer f.ensures.some in
     let y = drop f.result c.args.src.now in
-    let c0 = standing view parts p c.args.self.now c.args.pivot.now in
     let c1 = standing view parts p f.new.self f.new.pivot in
     let c2 = standing view parts p e.new.self f.new.pivot in
     let ready = under_policy (standing view parts Policy.Decimal f.new.self f.new.pivot).state f.new.self.answer c1.text y c.args.last p f.ensures.next in
@@ -59,18 +57,8 @@ returns-in-OutputFull-clause-ends g c = λ p.
 
 pub overflow_sub-index : goal.overflow_sub-index
 overflow_sub-index g c =
-    let view = g.D.StreamDecoder.view in
-    let parts = g.E.RawEncoder.parts in
-    let f = c.fill-read in
     let e = c.encode-answer in
-    let a = answer_of f.new.self.answer f.ensures.some in
-    let y = drop f.result c.args.src.now in
-    let c0 = standing view parts Policy.Decimal c.args.self.now c.args.pivot.now in
-    let c1 = standing view parts Policy.Decimal f.new.self f.new.pivot in
-    let c2 = standing view parts Policy.Decimal e.new.self f.new.pivot in
-    let ready = under_policy (standing view parts Policy.Decimal f.new.self f.new.pivot).state f.new.self.answer c1.text y c.args.last Policy.Decimal f.ensures.next in
     let once = rw c.in-Unmappable.is at (e.ensures.once Policy.Decimal) in
-    let turn = encode_turn_in c1 c2 a.0 c.ends-ends.result c.args.last y _ false a.1 e.ensures.answer (state_kept view parts Policy.Decimal f.new.self e.new.self e.ensures.decoder once.encodes.target) ready c.ends-ends.ensures once in
     some_passed c.fill-read.new.self.counts e.new.self.counts _ once.encodes.lines (lost_some (reference_form Policy.Decimal) (take e.result.1 e.new.dst) e.new.self.counts.index c.in-Unmappable.scalar) once.encodes.lost
 
 pub returns-in-Unmappable-clause-law : goal.returns-in-Unmappable-clause-law
@@ -97,7 +85,6 @@ returns-in-Unmappable-clause-ends g c = λ p.
     let e = c.encode-answer in
     let a = answer_of f.new.self.answer f.ensures.some in
     let y = drop f.result c.args.src.now in
-    let c0 = standing view parts p c.args.self.now c.args.pivot.now in
     let c1 = standing view parts p f.new.self f.new.pivot in
     let c2 = standing view parts p e.new.self f.new.pivot in
     let ready = under_policy (standing view parts Policy.Decimal f.new.self f.new.pivot).state f.new.self.answer c1.text y c.args.last p f.ensures.next in
@@ -115,18 +102,11 @@ replace-line-requires-clause-small g c =
     let e = c.encode-answer in
     let a = answer_of f.new.self.answer f.ensures.some in
     let y = drop f.result c.args.src.now in
-    let c0 = standing view parts Policy.Decimal c.args.self.now c.args.pivot.now in
     let c1 = standing view parts Policy.Decimal f.new.self f.new.pivot in
     let c2 = standing view parts Policy.Decimal e.new.self f.new.pivot in
     let ready = under_policy (standing view parts Policy.Decimal f.new.self f.new.pivot).state f.new.self.answer c1.text y c.args.last Policy.Decimal f.ensures.next in
     let once = rw c.in-InputEmpty.is at (e.ensures.once Policy.Decimal) in
     let turn = encode_turn_in c1 c2 a.0 c.ends-ends.result c.args.last y _ true a.1 e.ensures.answer (state_kept view parts Policy.Decimal f.new.self e.new.self e.ensures.decoder once.encodes.target) ready c.ends-ends.ensures once in
-    let decoder = ap (λ d. (view d).state) e.ensures.decoder in
-    let finished = ap (λ d. (view d).finished) e.ensures.decoder in
-    let is : e.new.self.answer ≡ Some (Malformed c.in-Malformed.size c.in-Malformed.after) = c.in-Some.is ∙ ap (λ x. Some x) c.in-Malformed.is in
-    let open_ = subst (λ x. IsOpenFor x c2 y c.args.last) is (open_still a.0 c1 c2 y c.args.last a.1 e.ensures.answer decoder finished ready.open_) in
-    let ended : c.ends-ends.result ≡ is_last_text (Some (Malformed c.in-Malformed.size c.in-Malformed.after)) c.args.last = c.ends-ends.ensures ∙ ap (λ x. is_last_text x c.args.last) (sym e.ensures.answer ∙ is) in
-    let done = once.done refl in
     omega (arith, turn.sound.bad, turn.sound.index, text_fits c2 turn.sound, once.encodes.read, ready.limit)
 
 pub replace-line-requires-clause-offset : goal.replace-line-requires-clause-offset
@@ -137,7 +117,6 @@ replace-line-requires-clause-offset g c =
     let e = c.encode-answer in
     let a = answer_of f.new.self.answer f.ensures.some in
     let y = drop f.result c.args.src.now in
-    let c0 = standing view parts Policy.Decimal c.args.self.now c.args.pivot.now in
     let c1 = standing view parts Policy.Decimal f.new.self f.new.pivot in
     let c2 = standing view parts Policy.Decimal e.new.self f.new.pivot in
     let ready = under_policy (standing view parts Policy.Decimal f.new.self f.new.pivot).state f.new.self.answer c1.text y c.args.last Policy.Decimal f.ensures.next in
@@ -147,8 +126,6 @@ replace-line-requires-clause-offset g c =
     let finished = ap (λ d. (view d).finished) e.ensures.decoder in
     let is : e.new.self.answer ≡ Some (Malformed c.in-Malformed.size c.in-Malformed.after) = c.in-Some.is ∙ ap (λ x. Some x) c.in-Malformed.is in
     let open_ = subst (λ x. IsOpenFor x c2 y c.args.last) is (open_still a.0 c1 c2 y c.args.last a.1 e.ensures.answer decoder finished ready.open_) in
-    let ended : c.ends-ends.result ≡ is_last_text (Some (Malformed c.in-Malformed.size c.in-Malformed.after)) c.args.last = c.ends-ends.ensures ∙ ap (λ x. is_last_text x c.args.last) (sym e.ensures.answer ∙ is) in
-    let done = once.done refl in
     offset_fits c2 c.in-Malformed.size c.in-Malformed.after is open_.3 turn.sound
 
 pub returns-in-InputEmpty-text-clause-law : goal.returns-in-InputEmpty-text-clause-law
@@ -165,11 +142,7 @@ returns-in-InputEmpty-text-clause-law g c = λ p.
     let ready = under_policy (standing view parts Policy.Decimal f.new.self f.new.pivot).state f.new.self.answer c1.text y c.args.last p f.ensures.next in
     let once = rw c.in-InputEmpty.is at (e.ensures.once p) in
     let turn = encode_turn_in c1 c2 a.0 c.ends-ends.result c.args.last y _ true a.1 e.ensures.answer (state_kept view parts p f.new.self e.new.self e.ensures.decoder once.encodes.target) ready c.ends-ends.ensures once in
-    let decoder = ap (λ d. (view d).state) e.ensures.decoder in
-    let finished = ap (λ d. (view d).finished) e.ensures.decoder in
     let is : e.new.self.answer ≡ Some InputEmpty = c.in-Some.is ∙ ap (λ x. Some x) c.in-InputEmpty-text.is in
-    let open_ = subst (λ x. IsOpenFor x c2 y c.args.last) is (open_still a.0 c1 c2 y c.args.last a.1 e.ensures.answer decoder finished ready.open_) in
-    let ended : c.ends-ends.result ≡ is_last_text (Some InputEmpty) c.args.last = c.ends-ends.ensures ∙ ap (λ x. is_last_text x c.args.last) (sym e.ensures.answer ∙ is) in
     let done = once.done refl in
     finish_empty_in c0 c2 c.args.last c.args.src.now y _ is done.0 (turns_more c0 c1 c2 c.args.last c.args.src.now y y [] _ 0 2 0 1 (f.ensures.law p) turn)
 
@@ -181,7 +154,6 @@ returns-in-InputEmpty-text-clause-ends g c = λ p.
     let e = c.encode-answer in
     let a = answer_of f.new.self.answer f.ensures.some in
     let y = drop f.result c.args.src.now in
-    let c0 = standing view parts p c.args.self.now c.args.pivot.now in
     let c1 = standing view parts p f.new.self f.new.pivot in
     let c2 = standing view parts p e.new.self f.new.pivot in
     let ready = under_policy (standing view parts Policy.Decimal f.new.self f.new.pivot).state f.new.self.answer c1.text y c.args.last p f.ensures.next in
@@ -209,11 +181,7 @@ returns-in-OutputFull-text-clause-law g c = λ p.
     let ready = under_policy (standing view parts Policy.Decimal f.new.self f.new.pivot).state f.new.self.answer c1.text y c.args.last p f.ensures.next in
     let once = rw c.in-InputEmpty.is at (e.ensures.once p) in
     let turn = encode_turn_in c1 c2 a.0 c.ends-ends.result c.args.last y _ true a.1 e.ensures.answer (state_kept view parts p f.new.self e.new.self e.ensures.decoder once.encodes.target) ready c.ends-ends.ensures once in
-    let decoder = ap (λ d. (view d).state) e.ensures.decoder in
-    let finished = ap (λ d. (view d).finished) e.ensures.decoder in
     let is : e.new.self.answer ≡ Some OutputFull = c.in-Some.is ∙ ap (λ x. Some x) c.in-OutputFull-text.is in
-    let open_ = subst (λ x. IsOpenFor x c2 y c.args.last) is (open_still a.0 c1 c2 y c.args.last a.1 e.ensures.answer decoder finished ready.open_) in
-    let ended : c.ends-ends.result ≡ is_last_text (Some OutputFull) c.args.last = c.ends-ends.ensures ∙ ap (λ x. is_last_text x c.args.last) (sym e.ensures.answer ∙ is) in
     let done = once.done refl in
     finish_full_in c0 c2 c.args.last c.args.src.now y _ is done.0 (turns_more c0 c1 c2 c.args.last c.args.src.now y y [] _ 0 2 0 1 (f.ensures.law p) turn)
 
@@ -225,12 +193,10 @@ returns-in-OutputFull-text-clause-goes_on g c =
     let e = c.encode-answer in
     let a = answer_of f.new.self.answer f.ensures.some in
     let y = drop f.result c.args.src.now in
-    let c0 = standing view parts Policy.Decimal c.args.self.now c.args.pivot.now in
     let c1 = standing view parts Policy.Decimal f.new.self f.new.pivot in
     let c2 = standing view parts Policy.Decimal e.new.self f.new.pivot in
     let ready = under_policy (standing view parts Policy.Decimal f.new.self f.new.pivot).state f.new.self.answer c1.text y c.args.last Policy.Decimal f.ensures.next in
     let once = rw c.in-InputEmpty.is at (e.ensures.once Policy.Decimal) in
-    let turn = encode_turn_in c1 c2 a.0 c.ends-ends.result c.args.last y _ true a.1 e.ensures.answer (state_kept view parts Policy.Decimal f.new.self e.new.self e.ensures.decoder once.encodes.target) ready c.ends-ends.ensures once in
     let decoder = ap (λ d. (view d).state) e.ensures.decoder in
     let finished = ap (λ d. (view d).finished) e.ensures.decoder in
     let is : e.new.self.answer ≡ Some OutputFull = c.in-Some.is ∙ ap (λ x. Some x) c.in-OutputFull-text.is in
@@ -262,7 +228,6 @@ returns-in-Malformed-clause-law g c = λ p.
     let finished = ap (λ d. (view d).finished) e.ensures.decoder in
     let is : e.new.self.answer ≡ Some (Malformed c.in-Malformed.size c.in-Malformed.after) = c.in-Some.is ∙ ap (λ x. Some x) c.in-Malformed.is in
     let open_ = subst (λ x. IsOpenFor x c2 y c.args.last) is (open_still a.0 c1 c2 y c.args.last a.1 e.ensures.answer decoder finished ready.open_) in
-    let ended : c.ends-ends.result ≡ is_last_text (Some (Malformed c.in-Malformed.size c.in-Malformed.after)) c.args.last = c.ends-ends.ensures ∙ ap (λ x. is_last_text x c.args.last) (sym e.ensures.answer ∙ is) in
     let done = once.done refl in
     let r = c.replace-line.ensures in
     rw (r.line, r.same, r.text) (subst (λ l. TakesTurns c0 (record { state = replaced_state c2.state; answer = Some OutputFull; text = 0xFFFD ∷ [] }) c.args.last c.args.src.now y (l ++ MalformedAt (e.new.self.counts.read - c.in-Malformed.after - c.in-Malformed.size) c.in-Malformed.size ∷ []) 0 0) (append-nil (map Byte (take e.result.1 e.new.dst)))
@@ -276,7 +241,6 @@ returns-in-Malformed-clause-ends g c = λ p.
     let e = c.encode-answer in
     let a = answer_of f.new.self.answer f.ensures.some in
     let y = drop f.result c.args.src.now in
-    let c0 = standing view parts p c.args.self.now c.args.pivot.now in
     let c1 = standing view parts p f.new.self f.new.pivot in
     let c2 = standing view parts p e.new.self f.new.pivot in
     let ready = under_policy (standing view parts Policy.Decimal f.new.self f.new.pivot).state f.new.self.answer c1.text y c.args.last p f.ensures.next in
