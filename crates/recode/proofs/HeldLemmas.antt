@@ -58,10 +58,6 @@ left_after w w' v p f passed a b h spared e k = record {
   left = left_behind p f h.delivered k.taken (held_items w ++ a) (held_items w' ++ b) (delivered_spared w w' p passed h spared) (passed_of w w' passed a b h e) k.left;
 }
 
--- after what was held is written
-pub left_held : (w w' : WritersView) (v : Written) (p : Policy) (f : Fault) (a : List Item) → Passes w w' [] → WritesPrefix w'.written v p f (held_items w' ++ a) → WritesPrefix w.written v p f (held_items w ++ a)
-left_held w w' v p f a h k = left_after w w' v p f [] a a h (spared_nil p) refl k
-
 -- ---- items that are counted
 
 pub pays_under : (w w' : WritersView) (v : Written) (x y : Counts) (p : Policy) (f : Fault) (a b : List Item) → PassesItems w w' x y p a b → WritesPrefix w'.written v p f (held_items w' ++ b) → WritesPrefix w.written v p f (held_items w ++ a)

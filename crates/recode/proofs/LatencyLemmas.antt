@@ -37,19 +37,6 @@ use Rattle.recode.proofs.HeldLemmas.{written_whole}
 use Rattle.recode.specs.laws.Items.{log_bytes-append, tagged-append, output_bytes-append}
 use Rattle.recode.proofs.TraceLemmas.{log_bytes-trace, output_bytes-trace, whole_from-append}
 
--- If it does not end.
-module _ (before after : DecoderState) (src : List ℕ) (read : ℕ) (t : List ℕ) where
-  pub well_formed_advances : (last : Bool) (k : WellFormedCall before after src last read t) (e : Coding) (s s' : EscapeState) (c c' : Counts) → last ≡ false → s' ≡ last_set e s t → c'.index ≡ c.index + length t
-      → Advances (λ r. before.pieces (src ++ r)) (λ r. after.pieces (drop read src ++ r)) e s s' c c'
-  well_formed_advances last k e s s' c c' on set_is index_is =
-      let is : t ≡ text k.taken = k.text_is ∙ sym (well_formed_text k.taken k.fine) in
-      record {
-        taken = k.taken;
-        rest = λ r. k.rest r (λ h. absurd (false≢true (sym on ∙ h)));
-        set = set_is ∙ ap (last_set e s) is;
-        index = omega (arith, index_is, ap length is);
-      }
-
 pub advances_start : (d : List ℕ → List Piece) (e : Coding) (s : EscapeState) (c : Counts) → Advances d d e s s c c
 advances_start d e s c = record { taken = []; rest = λ r. refl; set = refl; index = sym (add-zero c.index) }
 

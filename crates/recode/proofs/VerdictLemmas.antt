@@ -192,26 +192,6 @@ next_tells e v s t h = record {
 pub both_ways : {A B C : Type 0} → A ↔ B → B ↔ C → A ↔ C
 both_ways h k = (λ a. k.0 (h.0 a), λ c. h.1 (k.1 c))
 
--- pieces whose text was encoded, and those after them
-pub faithful_on : (ref : Reference) (e : Coding) (last : Bool) (v v' : VerdictView) (s s' : EscapeState) (taken behind all : List Piece) (t : List ℕ) → VerdictIsKept e last v s t v' s' [] → (IsTrue last → text behind ≡ []) → AreWellFormed taken → text taken ≡ t
-    → all ≡ taken ++ behind → IsFaithfulFor ref v e s all ↔ IsFaithfulFor ref v' e s' behind
-faithful_on ref e last v v' s s' taken behind all t keeps ends good same is =
-    let both = keeps ref (text behind) ends in
-    let whole : text all ≡ t ++ text behind = ap text is ∙ text-append taken behind ∙ ap (λ l. l ++ text behind) same in (
-      λ h.
-          let on = both.0 (h.0, subst (ReadsWhole ref e (to_read v) s) whole h.2) in
-          (on.0, (well_formed_parts taken behind (subst AreWellFormed is h.1)).1, on.1),
-      λ h.
-          let on = both.1 (h.0, h.2) in
-          (on.0, subst AreWellFormed (sym is) (AreWellFormed-append taken behind good h.1), subst (ReadsWhole ref e (to_read v) s) (sym whole) on.1),
-    )
-
-module _ (ref : Reference) (before after : DecoderState) (src : List ℕ) (last : Bool) (read : ℕ) (t : List ℕ) (e : Coding) (v v' : VerdictView) (s s' : EscapeState) where
-  pub well_formed_verdict : (k : WellFormedCall before after src last read t) (ended : Bool) → VerdictIsKept e ended v s t v' s' [] → (IsTrue ended → (r : List ℕ) → (last ≡ true → r ≡ []) → after.pieces (drop read src ++ r) ≡ [])
-      → (r : List ℕ) → (last ≡ true → r ≡ []) → IsFaithfulFor ref v e s (before.pieces (src ++ r)) ↔ IsFaithfulFor ref v' e s' (after.pieces (drop read src ++ r))
-  well_formed_verdict k ended keeps none r h =
-      faithful_on ref e ended v v' s s' k.taken (after.pieces (drop read src ++ r)) (before.pieces (src ++ r)) t keeps (λ end. ap text (none end r h)) k.fine (well_formed_text k.taken k.fine ∙ sym k.text_is) (k.rest r h)
-
 -- if all is written, the verdict is known
 pub verdict_told : (ref : Reference) (e : Coding) (need : ℕ) → IsCoding need e → (v : VerdictView) (s : EscapeState) (ps : List Piece) → ps ≡ [] → s ≡ Ascii → IsToldAtEnd v → IsFaithfulFor ref v e s ps ↔ IsTrue v.faithful
 verdict_told ref e need coding v s ps none closed told = rw (none, closed) (λ h. h.0, λ h. (h, tt, ends_along ref e coding (to_read v) (told h)))

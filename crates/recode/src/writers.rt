@@ -53,11 +53,11 @@ impl<'w, W: Write, L: Write> Writers<'w, W, L> {
     ghost use Rattle.encoding_mem.specs.calls.EncoderRule.{EncoderCall};
     ghost use Rattle.recode_log.specs.Line.{IsValid};
     ghost use Rattle.recode.specs.Work.{IsCounted};
-    ghost use Rattle.recode.specs.calls.Held.{LeavesPrefix, Passes, PassesBytes, WritesLine};
     ghost use Rattle.recode.specs.calls.Held.{item_of, log_line_of};
     ghost use Rattle.recode.specs.calls.PivotText.{IsCutInto, IsWholeText, pivot_chars};
-    ghost use Rattle.recode.specs.calls.Writers.{AreReady, AreTheSame, CountsWriterFault};
-    ghost use Rattle.recode.specs.calls.Writers.{HoldNothing, HoldsMore, last_held, writers_view};
+    ghost use Rattle.recode.specs.calls.Writers.{AreReady, HandsOn, HoldNothing};
+    ghost use Rattle.recode.specs.calls.Writers.{HoldsMore, last_held};
+    ghost use Rattle.recode.specs.declared.converter.ConverterResult.TheVariants.{Found};
     ghost use Rattle.std.specs.Prelude.{◌*◌, ◌^◌, drop};
     ghost use Rattle.recode_log.specs.declared.line.LogLine.TheVariants.{Lost};
     ghost use Rattle.recode.specs.Policy.{reference_form};
