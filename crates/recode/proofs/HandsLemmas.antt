@@ -21,13 +21,13 @@ err_map (Err e) h f = f e h
 module _ {W L : Type 0} (contents : W → Option (List ℕ)) (logged : L → Option (List ℕ)) where
   -- a fault that is handed on, before more was passed
   pub hands_fault : {S T : Type 0} (a b : Writers W L) (items more : List Item) (e : Fault) (r : Result T Fault) → IsErrAnd r (λ (x : Fault). x ≡ e)
-      → HandsOn {W} {L} {S} contents logged a b items (Err e) → HandsOn contents logged a b (items ++ more) r
+      → HandsOn {W = W} {L = L} {T = S} contents logged a b items (Err e) → HandsOn contents logged a b (items ++ more) r
   hands_fault a b items more e (Ok x) same h = absurd same
   hands_fault {S} {T} a b items more e (Err x) same h = record {
     ok = tt;
     err = λ rest. subst (λ (f : Fault). LeavesPrefix (writers_view contents logged a) (writers_view contents logged b) a.policy f ((items ++ more) ++ rest)) (sym same)
         (subst (LeavesPrefix (writers_view contents logged a) (writers_view contents logged b) a.policy e) (sym (append_assoc items more rest)) (h.err (more ++ rest)));
-    failures = subst (λ (f : Fault). CountsWriterFault {W} {L} {T} a b (Err f)) (sym same)
+    failures = subst (λ (f : Fault). CountsWriterFault {W = W} {L = L} {T = T} a b (Err f)) (sym same)
         (record { writer = h.failures.writer; log = h.failures.log; not_reader = h.failures.not_reader; not_other = h.failures.not_other; same = h.failures.same });
   }
 

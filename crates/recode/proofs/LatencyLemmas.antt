@@ -71,9 +71,9 @@ log_lines-append e offset i (malformed n ∷ a) b =
     ∙ ap (λ (k : ℕ). log_lines e (offset + n) (i + 1) a ++ log_lines e (offset + (n + sizes a)) k b) index)
     ∙ ap (λ x. Bad offset n ∷ x) (sym (append_assoc lost (log_lines e (offset + n) (i + 1) a) (log_lines e (offset + (n + sizes a)) (i + suc (length (text a))) b)))
 
-log_bytes-append : (e : Coding) (offset i offset1 i1 : ℕ) (a b : List Piece) → offset1 ≡ offset + sizes a → i1 ≡ i + length (text a)
+line_bytes-append : (e : Coding) (offset i offset1 i1 : ℕ) (a b : List Piece) → offset1 ≡ offset + sizes a → i1 ≡ i + length (text a)
     → flat_map line_bytes (log_lines e offset i (a ++ b)) ≡ flat_map line_bytes (log_lines e offset i a) ++ flat_map line_bytes (log_lines e offset1 i1 b)
-log_bytes-append e offset i offset1 i1 a b at index =
+line_bytes-append e offset i offset1 i1 a b at index =
     ap (flat_map line_bytes) (log_lines-append e offset i a b)
     ∙ flat_map-append line_bytes (log_lines e offset i a) (log_lines e (offset + sizes a) (i + length (text a)) b)
     ∙ ap (λ (k : ℕ). flat_map line_bytes (log_lines e offset i a) ++ flat_map line_bytes (log_lines e k (i + length (text a)) b)) (sym at)
@@ -98,7 +98,7 @@ module _ (ref : Reference) (e : Coding) (s s1 : EscapeState) (offset i offset1 i
       let own : List ℕ = flat_map line_bytes (log_lines e offset i taken) in
       let rest : List ℕ = flat_map line_bytes (log_lines e offset1 i1 qs) in
       let all : own ++ rest ≡ log_bytes (tagged written_items) ++ rest =
-      sym (log_bytes-append e offset i offset1 i1 taken qs offset_is index_is) ∙ sym (log_bytes-trace _ e s offset i (taken ++ qs)) ∙ ap (λ k. log_bytes (tagged k)) is
+      sym (line_bytes-append e offset i offset1 i1 taken qs offset_is index_is) ∙ sym (log_bytes-trace _ e s offset i (taken ++ qs)) ∙ ap (λ k. log_bytes (tagged k)) is
       ∙ ap log_bytes (tagged-append written_items (trace_from ref e s1 offset1 i1 qs)) ∙ log_bytes-append (tagged written_items) (tagged (trace_from ref e s1 offset1 i1 qs))
       ∙ ap (λ x. log_bytes (tagged written_items) ++ x) (log_bytes-trace _ e s1 offset1 i1 qs) in
       sym (append_cancel_right own (log_bytes (tagged written_items)) rest all)
@@ -189,7 +189,7 @@ stands_on t t1 t2 j limit s s1 x ps k p =
       index = omega (arith, k.index, p.advances.index, ap length joined, length-append (text ps) (text taken));
       output = subst (Appends t.written.output t2.written.output) (sym (open_from-append _ e Ascii (text ps) (text taken)) ∙ ap (open_from (reference_form j.policy) e Ascii) (sym joined))
           (Appends-trans t.written.output t1.written.output t2.written.output _ _ k.output more);
-      logged = subst (Appends t.written.log t2.written.log) (sym (log_bytes-append e 0 0 (s.counts.read - s.decoder.pending) s.counts.index ps taken offset index))
+      logged = subst (Appends t.written.log t2.written.log) (sym (line_bytes-append e 0 0 (s.counts.read - s.decoder.pending) s.counts.index ps taken offset index))
           (Appends-trans t.written.log t1.written.log t2.written.log _ _ k.logged lined);
     }
 

@@ -1,10 +1,11 @@
 -- What items are written as, and how many lines they have: of joined items, and of a whole trace.
-use Rattle.std.proofs.Common.{arith, ◌≡◌, ℕ, ◌+◌, List, [], ◌∷◌, ◌++◌, map, refl, sym, ◌∙◌, ap, append-nil}
+use Rattle.std.proofs.Common.{arith, ◌≡◌, ℕ, ◌+◌, List, [], ◌∷◌, ◌++◌, length, map, refl, sym, ◌∙◌, ap, append-nil}
 use Rattle.std.proofs.lemmas.Grind.{flat_map-append}
 use Rattle.encoding_mem.specs.Coding.{Coding, last_set, lost_count, reference_bytes, unmapped_count}
 use Rattle.encoding_mem.specs.Items.{Item, Byte, MalformedAt, LostAt, form_items, open_items, trace_from}
 use Rattle.encoding_mem.specs.Piece.{Piece, malformed, malformed_count, text, well_formed}
 use Rattle.encoding_mem.specs.declared.form.EscapeState.{EscapeState}
+use Rattle.encoding_mem.specs.declared.form.EscapeState.TheVariants.{Ascii}
 use Rattle.encoding_mem.specs.declared.form.Form.{Form}
 use Rattle.encoding_mem.specs.declared.form.Form.TheVariants.{Mapped, Unmapped}
 use Rattle.encoding_mem.specs.declared.reference.Reference.{Reference}

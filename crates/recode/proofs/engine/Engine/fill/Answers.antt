@@ -9,6 +9,7 @@ use Rattle.recode.proofs.engine.Engine.fill.Goals as goal
 
 pub returns-clause-law : goal.returns-clause-law
 returns-clause-law g c = λ p.
+    let z = c.if-is_some.zzz in
     let view = g.D.StreamDecoder.view in
     let d = c.decode_to_pivot-call in
     let was = standing view g.E.RawEncoder.parts p c.args.self.now c.args.pivot.now in
@@ -22,6 +23,7 @@ returns-clause-law g c = λ p.
 
 pub returns-clause-next : goal.returns-clause-next
 returns-clause-next g c =
+    let z = c.is_some.zzz in
     let view = g.D.StreamDecoder.view in
     let d = c.decode_to_pivot-call in
     let was = standing view g.E.RawEncoder.parts Policy.Decimal c.args.self.now c.args.pivot.now in
@@ -40,8 +42,9 @@ returns-clause-fewer g c = λ full.
     let d = c.decode_to_pivot-call in
     let is = between_is d.new.pivot d.result.written in
     let full_is : d.result.answer ≡ OutputFull = cc in
-    fewer_left (view c.args.self.now.decoder).state (view d.new.decoder).state c.args.src.now c.args.last d.result.read _ (chars_between d.new.pivot 0 d.result.written) d.result.answer d.ensures.law is
-    (λ f. full_some (view c.args.self.now.decoder).state (view d.new.decoder).state c.args.src.now c.args.last d.result.read _ _ d.result.answer d.ensures.law is (λ t w. holds_some d.new.pivot d.result.written t w (rw f at d.ensures.ends))) full_is
+    let less = fewer_left (view c.args.self.now.decoder).state (view d.new.decoder).state c.args.src.now c.args.last d.result.read _ (chars_between d.new.pivot 0 d.result.written) d.result.answer d.ensures.law is
+    (λ f. full_some (view c.args.self.now.decoder).state (view d.new.decoder).state c.args.src.now c.args.last d.result.read _ _ d.result.answer d.ensures.law is (λ t w. holds_some d.new.pivot d.result.written t w (rw f at d.ensures.ends))) full_is in
+    omega (arith, less)
 
 pub returns-clause-holds : goal.returns-clause-holds
 returns-clause-holds g c =

@@ -1,9 +1,9 @@
-use Rattle.std.proofs.Common.{◌∙◌, ◌∷◌, ◌++◌, [], ap, map, rules, sym}
+use Rattle.std.proofs.Common.{◌∙◌, ◌∷◌, ◌++◌, [], ap, map, rules, subst, sym}
 use Rattle.encoding_mem.specs.Coding.{reference_bytes}
 use Rattle.encoding_mem.specs.Items.{Byte, LostAt}
 use Rattle.recode.specs.Policy.{reference_form}
 use Rattle.recode.specs.calls.Held.{held_items}
-use Rattle.recode.specs.calls.Writers.{writers_view}
+use Rattle.recode.specs.calls.Writers.{HandsOn, writers_view}
 use Rattle.recode.proofs.BufferLemmas.{view_none}
 use Rattle.recode.proofs.HandsLemmas.{hands_fault, hands_then}
 use Rattle.recode.proofs.HeldLemmas.{hands_each, stops_as}
@@ -35,4 +35,5 @@ returns-clause-hands g c =
     let goes_on = rw same at (goes_on_where_written _ _ c.in_ok-form.ensures.ok) in
     let bytes = reference_bytes (reference_form c.args.self.now.policy) c.args.scalar in
     hands_then _ _ _ c.log_line.new.self _ (LostAt c.args.index c.args.scalar ∷ []) (map Byte bytes) _ _ (λ stops. absurd (goes_on stops)) e.hands
-    (rw (form_written _ _ c.in_ok-form.ensures.ok, same) at c.put_reference.ensures.hands)
+    (subst (λ form. HandsOn g.W.Write.contents g.L.Write.contents c.log_line.new.self c.put_reference.new.self (map Byte (reference_bytes form c.args.scalar)) c.put_reference.result)
+    (form_written _ _ c.in_ok-form.ensures.ok ∙ ap reference_form same) c.put_reference.ensures.hands)

@@ -6,24 +6,24 @@ use Rattle.recode.proofs.HandsLemmas.{hands_fault, hands_then}
 use Rattle.recode.proofs.HeldLemmas.{delivers_part, delivers_whole, holds, none_held}
 use Rattle.recode.proofs.writers.Writers.put_reference.Goals as goal
 
-pub returns-in_err-deliver_held-clause-hands : goal.returns-in_err-deliver_held-clause-hands
-returns-in_err-deliver_held-clause-hands g c = hands_fault _ _ _ _ [] (map Byte (reference_bytes c.args.form c.args.c)) _ _ c.from_residual.ensures.1 c.in_err-deliver_held.ensures.hands
+pub returns-in_err-deliver_held : goal.returns-in_err-deliver_held
+returns-in_err-deliver_held g c = record { hands = hands_fault _ _ _ _ [] (map Byte (reference_bytes c.args.form c.args.c)) _ _ c.from_residual.ensures.1 c.in_err-deliver_held.ensures.hands }
 
-pub returns-in_ok-deliver_held-clause-hands : goal.returns-in_ok-deliver_held-clause-hands
-returns-in_ok-deliver_held-clause-hands g c =
+pub returns-in_ok-deliver_held : goal.returns-in_ok-deliver_held
+returns-in_ok-deliver_held g c =
     let e = c.in_ok-deliver_held.ensures in
     let none = none_held _ c.deliver_held.new.self.buffer.now e.none.bytes in
     let held = take c.deliver_held.new.self.held c.deliver_held.new.self.buffer.now in
     let is = c.write_reference-len.ensures.reference in
-    hands_then _ _ _ c.deliver_held.new.self _ [] (map Byte (reference_bytes c.args.form c.args.c)) _ _ (spared_nil _) e.hands (record {
+    record { hands = hands_then _ _ _ c.deliver_held.new.self _ [] (map Byte (reference_bytes c.args.form c.args.c)) _ _ (spared_nil _) e.hands (record {
       ok = delivers_whole _ _ _ _ _ held _ _ _ _ e.none.line none is c.deliver.ensures.ok;
       err = delivers_part _ _ _ _ _ held _ _ _ _ e.none.line none is _ c.deliver.ensures.fault c.deliver.ensures.err;
       failures = search rules;
-    })
+    }) }
 
-pub returns-else-len-self-clause-hands : goal.returns-else-len-self-clause-hands
-returns-else-len-self-clause-hands g c = record {
+pub returns-else-len-self : goal.returns-else-len-self
+returns-else-len-self g c = record { hands = record {
   ok = holds _ _ _ _ _ (c.put_all-self.ensures.prefix ∙ ap (λ x. take c.args.self.now.held c.args.self.now.buffer.now ++ x) c.write_reference-len.ensures.reference);
   err = tt;
   failures = search rules;
-}
+} }
