@@ -1,4 +1,4 @@
-use Rattle.std.proofs.Common.{◌≡◌, arith, length-drop, refl}
+use Rattle.std.proofs.Common.{◌≡◌, None, arith, length-drop, refl, rules}
 use Rattle.encoding_mem.specs.declared.decoder_result.DecoderResult.TheVariants.{OutputFull}
 use Rattle.recode.specs.calls.EngineView.{chars_between, standing}
 use Rattle.recode.specs.declared.job.Policy.{Policy}
@@ -9,13 +9,13 @@ use Rattle.recode.proofs.engine.Engine.fill.Goals as goal
 
 pub returns-clause-law : goal.returns-clause-law
 returns-clause-law g c = λ p.
-    let z = c.if-is_some.zzz in
+    let none : c.args.self.now.answer ≡ None = search rules in
     let view = g.D.StreamDecoder.view in
     let d = c.decode_to_pivot-call in
     let was = standing view g.E.RawEncoder.parts p c.args.self.now c.args.pivot.now in
-    let open_ = none_open (standing view g.E.RawEncoder.parts Policy.Decimal c.args.self.now c.args.pivot.now) c.args.src.now c.args.last was.answer c.requires.none c.requires.ready.open_ in
+    let open_ = none_open (standing view g.E.RawEncoder.parts Policy.Decimal c.args.self.now c.args.pivot.now) c.args.src.now c.args.last was.answer none c.requires.ready.open_ in
     let is = between_is d.new.pivot d.result.written in
-    decode_turn_from was c.requires.none open_.0 (record { index = c.requires.ready.sound.index; bad = c.requires.ready.sound.bad; lost = c.requires.ready.sound.lost })
+    decode_turn_from was none open_.0 (record { index = c.requires.ready.sound.index; bad = c.requires.ready.sound.bad; lost = c.requires.ready.sound.lost })
     (view d.new.decoder).state (view d.new.decoder).finished (view d.new.decoder).source c.args.src.now c.args.last d.result.read d.new.calls d.result.answer (chars_between d.new.pivot 0 d.result.written)
     (decoded_by (view c.args.self.now.decoder).state (view d.new.decoder).state c.args.src.now c.args.last d.result.read _ _ d.result.answer d.ensures.law is
     (λ full. full_some (view c.args.self.now.decoder).state (view d.new.decoder).state c.args.src.now c.args.last d.result.read _ _ d.result.answer d.ensures.law is (λ t w. holds_some d.new.pivot d.result.written t w (rw full at d.ensures.ends))))
@@ -23,11 +23,11 @@ returns-clause-law g c = λ p.
 
 pub returns-clause-next : goal.returns-clause-next
 returns-clause-next g c =
-    let z = c.is_some.zzz in
+    let none : c.args.self.now.answer ≡ None = search rules in
     let view = g.D.StreamDecoder.view in
     let d = c.decode_to_pivot-call in
     let was = standing view g.E.RawEncoder.parts Policy.Decimal c.args.self.now c.args.pivot.now in
-    let open_ = none_open was c.args.src.now c.args.last was.answer c.requires.none c.requires.ready.open_ in
+    let open_ = none_open was c.args.src.now c.args.last was.answer none c.requires.ready.open_ in
     let is = between_is d.new.pivot d.result.written in
     record {
       sound = (returns-clause-law g c Policy.Decimal).sound;
