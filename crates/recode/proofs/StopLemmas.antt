@@ -217,6 +217,7 @@ module _ (j : Job) (x : List ℕ) (v : IsValidJob j) where
         | inl follows ↦
             let behind = (reads_on (P Ascii) (P l) (open_from Decimal e Ascii before) before follows.taken follows.rest follows.well_formed follows.same escape (c ∷ rest)).0
             (subst (λ w. ReadsAs (P Ascii) (w ++ escape) (before ++ c ∷ rest)) (sym (mapped_open Decimal e Ascii before mapped)) read) in
+            let never : [] ≡ c ∷ rest = sym (steps.ignored l (e.set l c)).same ∙ behind.same in
             absurd (cc)
         | inr broken ↦
             broken_never_reads_on (P Ascii) (open_from Decimal e Ascii before) before broken escape (c ∷ rest) (subst (λ w. ReadsAs (P Ascii) (w ++ escape) (before ++ c ∷ rest)) (sym (mapped_open Decimal e Ascii before mapped)) read)
