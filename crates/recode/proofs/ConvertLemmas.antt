@@ -382,6 +382,9 @@ last_is buffer room n m within fits =
     let after = put_mid n (length buffer - n) buffer room in
     ap (λ k. take m (drop k after)) (omega arith) ∙ sym (drop-take n m after) ∙ ap (drop n) (take_into n (length buffer - n) m buffer room within fits) ∙ drop_at (take n buffer) (take m room) n (length-take-le n buffer within)
 
-pub free_into : (xs ys : List ℕ) (w k n : ℕ) → w ≤ length xs → k ≡ length xs - w → length ys ≡ k → length ys - n ≡ length (put_mid w k xs ys) - (w + n)
-free_into xs ys w k n within size long =
+pub size_into : (xs ys : List ℕ) (w k : ℕ) → w ≤ length xs → k ≡ length xs - w → length ys ≡ k → length (put_mid w k xs ys) ≡ length xs
+size_into xs ys w k within size long =
     omega (arith, within, size, long, length-append (take w xs) (ys ++ post_of w k xs), length-append ys (post_of w k xs), length-take-le w xs within, length-drop k (drop w xs), length-drop w xs)
+
+pub free_into : (xs ys : List ℕ) (w k n : ℕ) → w ≤ length xs → k ≡ length xs - w → length ys ≡ k → length ys - n ≡ length (put_mid w k xs ys) - (w + n)
+free_into xs ys w k n within size long = omega (arith, within, size, long, size_into xs ys w k within size long)

@@ -1,22 +1,28 @@
 -- How what the writers' functions promise is put together, and what is left if one of them failed.
-use Rattle.std.proofs.Common.{◌≡◌, ◌+◌, ℕ, List, [], ◌++◌, Option, Result, Ok, Err, IsErrAnd, OnOk, IfErr, refl, sym, ap, subst, arith, append_assoc, take, drop}
-use Rattle.encoding_mem.specs.Items.{Item}
+use Rattle.std.proofs.Common.{◌≡◌, ◌+◌, ◌-◌, ◌≤◌, ℕ, List, [], ◌++◌, Option, Result, Ok, Err, IsErrAnd, OnOk, IfErr, refl, sym, ap, subst, arith, append_assoc, length, map, take}
+use borrow.Rule.Slice.PartMut.{put_mid}
+use Rattle.encoding_mem.specs.Items.{Byte, Item}
 use Rattle.recode.specs.WrittenItems.{IsSpared, WritesPrefix}
-use Rattle.recode.specs.calls.Held.{LeavesPrefix}
-use Rattle.recode.specs.calls.Writers.{CountsWriterFault, HandsOn, writers_view}
+use Rattle.recode.specs.calls.Held.{LeavesPrefix, PassesBytes}
+use Rattle.recode.specs.calls.Writers.{AreReady, CountsWriterFault, HandsOn, written_by, writers_view}
 use Rattle.recode.specs.declared.job.Fault.{Fault}
 use Rattle.recode.specs.declared.job.Policy.{Policy}
 use Rattle.recode.specs.declared.writers.Writers.{Writers}
-use Rattle.recode.proofs.BufferLemmas.{same_on}
-use Rattle.recode.proofs.HeldLemmas.{left_after, passes_then}
+use Rattle.recode.proofs.BufferLemmas.{same_on, same_start}
+use Rattle.recode.proofs.ConvertLemmas.{last_is, size_into}
+use Rattle.recode.proofs.HeldLemmas.{holds_behind, left_after, passes_none, passes_then}
 
-ok_map : {T E A B : Type 0} (r : Result T E) → OnOk r A → (A → B) → OnOk r B
+pub ok_map : {T E A B : Type 0} (r : Result T E) → OnOk r A → (A → B) → OnOk r B
 ok_map (Ok x) k f = f k
 ok_map (Err e) k f = tt
 
-err_map : {T E : Type 0} {P Q : E → Type 0} (r : Result T E) → IfErr r P → ((e : E) → P e → Q e) → IfErr r Q
+pub err_map : {T E : Type 0} {P Q : E → Type 0} (r : Result T E) → IfErr r P → ((e : E) → P e → Q e) → IfErr r Q
 err_map (Ok x) h f = tt
 err_map (Err e) h f = f e h
+
+-- writers that hold so many bytes of a room behind those that they held
+abbrev pub holding_more : {W L : Type 0} → Writers W L → List ℕ → ℕ → Writers W L
+holding_more a room n = record a { buffer = record a.buffer { now = put_mid a.held (length a.buffer.now - a.held) a.buffer.now room }; held = a.held + n }
 
 module _ {W L : Type 0} (contents : W → Option (List ℕ)) (logged : L → Option (List ℕ)) where
   -- a fault that is handed on, before more was passed
@@ -45,4 +51,41 @@ module _ {W L : Type 0} (contents : W → Option (List ℕ)) (logged : L → Opt
       not_other = k.failures.not_other;
       same = same_on h.failures.same k.failures.same;
     };
+  }
+
+  -- nothing was passed
+  pub hands_start : (a : Writers W L) → AreReady a → HandsOn {T = Unit {0}} contents logged a a [] (Ok tt)
+  hands_start a ready = record {
+    ok = passes_none (writers_view contents logged a);
+    err = tt;
+    failures = record { writer = omega arith; log = omega arith; not_reader = refl; not_other = refl; same = same_start a ready };
+  }
+
+  -- bytes are held behind those that were
+  pub hands_held : (a : Writers W L) (room : List ℕ) (n : ℕ) → AreReady a → length room ≡ length a.buffer.now - a.held → n ≤ length room
+      → HandsOn {T = Unit {0}} contents logged a (holding_more a room n) (map Byte (take n room)) (Ok tt)
+  hands_held a room n ready size fits = record {
+    ok = subst (λ t. PassesBytes (writers_view contents logged a) (writers_view contents logged (holding_more a room n)) t)
+        (last_is a.buffer.now room a.held n ready.within fits) (holds_behind (written_by contents logged a) a.line a.held n a.buffer.now room ready.within);
+    err = tt;
+    failures = record {
+      writer = omega arith;
+      log = omega arith;
+      not_reader = refl;
+      not_other = refl;
+      same = record { output = refl; buffer = refl; room = long; within = omega (arith, ready.within, size, fits, long); line = ready.line; log = refl; policy = refl };
+    };
+  }
+    where
+      long : length (put_mid a.held (length a.buffer.now - a.held) a.buffer.now room) ≡ length a.buffer.now
+      long = size_into a.buffer.now room a.held (length a.buffer.now - a.held) ready.within refl size
+
+  -- the writers are ready still
+  pub hands_ready : (a b : Writers W L) (items : List Item) → AreReady a → HandsOn {T = Unit {0}} contents logged a b items (Ok tt) → AreReady b
+  hands_ready a b items ready h = record {
+    output = omega (arith, ready.output, h.failures.writer);
+    log = omega (arith, ready.log, h.failures.log);
+    room = omega (arith, ready.room, h.failures.same.room);
+    within = h.failures.same.within;
+    line = h.failures.same.line;
   }

@@ -101,7 +101,7 @@ impl<D: StreamDecoder, E: RawEncoder> Engine<D, E> {
     ghost use Rattle.recode.specs.calls.CodecCalls.{writes_all};
     ghost use Rattle.recode.specs.calls.EngineView.{HoldsBetween, chars_between, standing};
     ghost use Rattle.recode.specs.calls.EngineView.{engine_state, engine_target};
-    ghost use Rattle.recode.specs.calls.Lent.{AreLent};
+    ghost use Rattle.recode.specs.calls.Lent.{AreLent, KeepsLent};
     ghost use Rattle.recode.specs.calls.Text.{CanEncode};
     ghost use Rattle.recode.specs.calls.Turns.{CanGoOn, ConvertEndsWith, EncodesOnce, TakesTurns};
     ghost use Rattle.recode.specs.Converter.{found_items};
@@ -272,8 +272,7 @@ impl<D: StreamDecoder, E: RawEncoder> Engine<D, E> {
         ensures within { result.1 ≤ length src.now }
         ensures wrote { WritesBytes dst.old dst.new result.2 }
         ensures holds { HoldsBetween pivot.new self.new.from self.new.to }
-        ensures pivot { KeepsRoom pivot.old pivot.new }
-        ensures check { KeepsRoom check.old check.new }
+        ensures lent { KeepsLent pivot.old check.old pivot.new check.new }
     {
         let read = self.fill(src, pivot, last);
         if dst.len() < 4 {
@@ -335,8 +334,7 @@ impl<D: StreamDecoder, E: RawEncoder> Engine<D, E> {
         ensures within { result.1 ≤ length src.now }
         ensures wrote { WritesBytes dst.old dst.new result.2 }
         ensures holds { HoldsBetween pivot.new self.new.from self.new.to }
-        ensures pivot { KeepsRoom pivot.old pivot.new }
-        ensures check { KeepsRoom check.old check.new }
+        ensures lent { KeepsLent pivot.old check.old pivot.new check.new }
     {
         let mut read = 0;
         let mut written = 0;

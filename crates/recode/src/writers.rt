@@ -4,11 +4,8 @@ ghost use Rattle.std.specs.Prelude.{◌≡◌, ◌≤◌, take};
 ghost use Rattle.recode.specs.calls.Held.{held_line_bytes};
 ghost use Rattle.recode.specs.calls.Writers.{HasValidLine};
 
-use crate::converter::ConverterResult;
-use crate::engine::Engine;
-use crate::job::{Fault, Pivot, Policy};
-use encoding_front::{Reference, StreamDecoder, write_reference};
-use encoding_mem::RawEncoder;
+use crate::job::{Fault, Policy};
+use encoding_front::{Reference, write_reference};
 use encoding_mem::encode::put_all;
 use recode_log::counted::Counted;
 use recode_log::deliver::deliver;
@@ -50,24 +47,15 @@ impl<'w, W: Write, L: Write> Writers<'w, W, L> {
     ghost use Rattle.std.specs.Prelude.{None, OnOk, IfErr};
     ghost use Rattle.encoding_mem.specs.Coding.{reference_bytes};
     ghost use Rattle.encoding_mem.specs.Items.{Item, Byte};
-    ghost use Rattle.encoding_mem.specs.calls.EncoderRule.{EncoderCall};
     ghost use Rattle.recode_log.specs.Line.{IsValid};
-    ghost use Rattle.recode.specs.Work.{IsCounted};
     ghost use Rattle.recode.specs.calls.Held.{item_of, log_line_of};
-    ghost use Rattle.recode.specs.calls.PivotText.{IsCutInto, IsWholeText, pivot_chars};
     ghost use Rattle.recode.specs.calls.Writers.{AreReady, HandsOn, HoldNothing};
-    ghost use Rattle.recode.specs.calls.Writers.{HoldsMore, last_held};
     ghost use Rattle.recode.specs.declared.converter.ConverterResult.TheVariants.{Found};
-    ghost use Rattle.std.specs.Prelude.{◌*◌, ◌^◌, drop};
+    ghost use Rattle.std.specs.Prelude.{◌^◌};
     ghost use Rattle.recode_log.specs.declared.line.LogLine.TheVariants.{Lost};
     ghost use Rattle.recode.specs.Policy.{reference_form};
     ghost use Rattle.recode.specs.WrittenItems.{IsSpared};
-    ghost use Rattle.recode.specs.calls.Buffers.{KeepsRoom};
-    ghost use Rattle.recode.specs.calls.EngineView.{HoldsBetween, standing};
-    ghost use Rattle.recode.specs.calls.Lent.{AreLent};
-    ghost use Rattle.recode.specs.calls.Turns.{CanGoOn, ConvertEndsWith, TakesTurns, end_count};
     ghost use Rattle.recode.specs.Converter.{found_items};
-    ghost use Rattle.recode.specs.declared.converter.ConverterResult.{ConverterResult};
     ghost use Rattle.recode.specs.declared.job.Policy.{Policy};
 
     // Delivers the line that is held, if there is one, all of it or a prefix.
@@ -107,42 +95,6 @@ impl<'w, W: Write, L: Write> Writers<'w, W, L> {
         } else {
             Ok(())
         }
-    }
-
-    /// One call of the engine, which writes after the bytes that are held: what it writes is held,
-    /// too.
-    pub fn convert<D: StreamDecoder, E: RawEncoder>(
-        &mut self,
-        engine: &mut Engine<D, E>,
-        src: &[u8],
-        pivot: &mut Pivot<'_>,
-        check: &mut Pivot<'_>,
-        last: bool,
-    ) -> (ConverterResult, usize, usize)
-        requires writers { AreReady self.old }
-        requires ready { CanGoOn
-            (standing D.view E.parts Policy.Decimal engine.old pivot.old) src.now last }
-        requires holds { HoldsBetween pivot.old engine.old.from engine.old.to }
-        requires lent { AreLent pivot.old check.old }
-        ensures law { (p : Policy) → TakesTurns (standing D.view E.parts p engine.old pivot.old)
-            (standing D.view E.parts p engine.new pivot.new) last src.now
-            (drop result.1 src.now) (map Byte (last_held self.new result.2)
-            ++ found_items (reference_form p) result.0)
-            (3 * end_count result.0) (2 * end_count result.0) }
-        ensures ends { (p : Policy) → ConvertEndsWith
-            (standing D.view E.parts p engine.new pivot.new)
-            (drop result.1 src.now) last (length self.new.buffer.now - self.new.held) result.0 }
-        ensures held { HoldsMore W.contents L.contents self.old self.new result.2 }
-        ensures within { result.1 ≤ length src.now }
-        ensures waits { HoldsBetween pivot.new engine.new.from engine.new.to }
-        ensures pivot { KeepsRoom pivot.old pivot.new }
-        ensures check { KeepsRoom check.old check.new }
-    {
-        let held = self.held;
-        let room = &mut self.buffer[held..];
-        let (result, read, written) = engine.convert(src, room, pivot, check, last);
-        self.held += written;
-        (result, read, written)
     }
 
     /// Logs a lost character, and holds its reference, or stops.
