@@ -41,10 +41,6 @@ lent_start p c lent = record { pivot = room_start p lent.pivot; check = room_sta
 pub lent_on : {p c p1 c1 p2 c2 : Pivot} → KeepsLent p c p1 c1 → KeepsLent p1 c1 p2 c2 → KeepsLent p c p2 c2
 lent_on h k = record { pivot = room_on h.pivot k.pivot; check = room_on h.check k.check }
 
--- what is lent is enough still
-pub lent_still : {p c p' c' : Pivot} → AreLent p c → KeepsLent p c p' c' → AreLent p' c'
-lent_still h k = record { pivot = k.pivot.roomy; check = k.check.roomy; one_form = k.check.kind ∙ h.one_form ∙ sym k.pivot.kind }
-
 pub kept_enough : (b c : Buffers) → AreEnough b → KeepSizes b c → AreEnough c
 kept_enough b c e k = record {
   input = omega (arith, e.input, k.input);

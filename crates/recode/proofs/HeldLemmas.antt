@@ -60,40 +60,7 @@ left_after w w' v p f passed a b h spared e k = record {
 
 -- ---- items that are counted
 
-pub pays_under : (w w' : WritersView) (v : Written) (x y : Counts) (p : Policy) (f : Fault) (a b : List Item) → PassesItems w w' x y p a b → WritesPrefix w'.written v p f (held_items w' ++ b) → WritesPrefix w.written v p f (held_items w ++ a)
-pays_under w w' v x y p f a b h k = left_after w w' v p f h.passed a b h.passes h.spared h.equals k
-
--- bytes
-pub pays_bytes : (w w' : WritersView) (x y : Counts) (p : Policy) (bytes : List ℕ) (a b : List Item) → PassesBytes w w' bytes → y.bad ≡ x.bad → y.lost ≡ x.lost → a ≡ map Byte bytes ++ b → PassesItems w w' x y p a b
-pays_bytes w w' x y p bytes a b h same same' e = record {
-  passed = map Byte bytes;
-  passes = h;
-  counted = record { bad = omega (arith, same, bad_line_count-bytes bytes); lost = omega (arith, same', lost_line_count-bytes bytes) };
-  spared = λ is. lost_line_count-bytes bytes;
-  equals = e;
-}
-
 -- ---- for every continuation
-
-pub pays_for_then : (w w' w'' : WritersView) (x y z : Counts) (p : Policy) (last : Bool) (a b c : List ℕ → List Item) → PassesItemsFor w w' x y p last a b → PassesItemsFor w' w'' y z p last b c → PassesItemsFor w w'' x z p last a c
-pays_for_then w w' w'' x y z p last a b c h k = record {
-  passed = h.passed ++ k.passed;
-  passes = passes_then w w' w'' h.passed k.passed h.passes k.passes;
-  counted = AreCounted-trans x y z h.passed k.passed h.counted k.counted;
-  spared = spared_append p h.passed k.passed h.spared k.spared;
-  equals = λ r none. h.equals r none ∙ ap (λ l. h.passed ++ l) (k.equals r none) ∙ sym (append_assoc h.passed k.passed (c r));
-}
-
-pub pays_for_under : (w w' w'' : WritersView) (x y : Counts) (p : Policy) (f : Fault) (last : Bool) (a b : List ℕ → List Item) → PassesItemsFor w w' x y p last a b → LeavesPrefixFor w' w'' p f last b → LeavesPrefixFor w w'' p f last a
-pays_for_under w w' w'' x y p f last a b h k = record {
-  taken = tagged h.passes.delivered ++ k.taken;
-  wrote = Wrote-trans w.written w'.written w''.written _ _ h.passes.wrote k.wrote;
-  left = λ r none. left_behind p f h.passes.delivered k.taken (held_items w ++ a r) (held_items w' ++ b r) (delivered_spared w w' p h.passed h.passes h.spared) (passed_of w w' h.passed (a r) (b r) h.passes (h.equals r none)) (k.left r none);
-}
-
--- what was held was written
-pub pays_for_held : (w w' : WritersView) (x : Counts) (p : Policy) (last : Bool) (a : List ℕ → List Item) → Passes w w' [] → PassesItemsFor w w' x x p last a a
-pays_for_held w w' x p last a h = record { passed = []; passes = h; counted = record { bad = omega arith; lost = omega arith }; spared = spared_nil p; equals = λ r none. refl }
 
 pub left_for_of : (w w' : WritersView) (p : Policy) (f : Fault) (last : Bool) (total : List Item) (a : List ℕ → List Item) → LeavesPrefix w w' p f total
     → ((r : List ℕ) → (last ≡ true → r ≡ []) → (rest : List Item) × (a r ≡ total ++ rest)) → LeavesPrefixFor w w' p f last a

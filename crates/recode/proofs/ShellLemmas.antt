@@ -46,50 +46,68 @@ owed_none s r = ap (λ (n : ℕ). trace_from (reference_form s.policy) s.coding 
 owed_first : (c : Standing) (r : List ℕ) → c.answer ≡ None → c.text ≡ [] → owed c r ≡ to_write c.state r
 owed_first c r none empty = ap (λ (z : Standing). owed z r) (as_nothing_waits c none empty) ∙ owed_none c.state r
 
-module _ {W L : Type 0} (contents : W → Option (List ℕ)) (logged : L → Option (List ℕ)) (w0 : Writers W L) (c0 : Standing) (last : Bool) (x : List ℕ) where
+pub spared_only : (p : Policy) (bytes : List ℕ) → IsSpared p (map Byte bytes)
+spared_only p bytes = λ stops. lost_line_count-bytes bytes
+
+module _ {W L : Type 0} {contents : W → Option (List ℕ)} {logged : L → Option (List ℕ)} {w0 : Writers W L} {c0 : Standing} {last : Bool} {x : List ℕ} where
   pub pumps_start : AreReady w0 → AreCountedSoundly c0 → Pumps contents logged w0 w0 c0 c0 last x x 0 0
-  pumps_start ready sound = record { items = []; hands = hands_start contents logged w0 ready; spared = spared_nil w0.policy; turns = turns_start c0 last x sound }
+  pumps_start ready sound = record { items = []; hands = hands_start ready; spared = spared_nil w0.policy; turns = turns_start c0 last x sound }
 
   -- what is held was written
-  pub pumps_held : (w1 w2 : Writers W L) (c1 : Standing) (y : List ℕ) (m l : ℕ) → Pumps contents logged w0 w1 c0 c1 last x y m l → HandsOn {T = Unit {0}} contents logged w1 w2 [] (Ok tt) → Pumps contents logged w0 w2 c0 c1 last x y m l
-  pumps_held w1 w2 c1 y m l h k = record {
+  pub pumps_held : {w1 w2 : Writers W L} {c1 : Standing} {y : List ℕ} {m l : ℕ} → Pumps contents logged w0 w1 c0 c1 last x y m l → HandsOn {T = Unit {0}} contents logged w1 w2 [] (Ok tt) → Pumps contents logged w0 w2 c0 c1 last x y m l
+  pumps_held {w1} {w2} {c1} {y} {m} {l} h k = record {
     items = h.items;
-    hands = subst (λ t. HandsOn {T = Unit {0}} contents logged w0 w2 t (Ok tt)) (append-nil h.items) (hands_then contents logged w0 w1 w2 h.items [] tt (Ok tt) h.spared h.hands k);
+    hands = subst (λ t. HandsOn {T = Unit {0}} contents logged w0 w2 t (Ok tt)) (append-nil h.items) (hands_then h.spared h.hands k);
     spared = h.spared;
     turns = h.turns;
   }
 
   -- a call of the engine, and what was passed for it
-  pub pumps_more : (w1 w2 : Writers W L) (c1 c2 : Standing) (y z : List ℕ) (items : List Item) (m l : ℕ) → Pumps contents logged w0 w1 c0 c1 last x y 0 0 → HandsOn {T = Unit {0}} contents logged w1 w2 items (Ok tt)
+  pub pumps_more : {w1 w2 : Writers W L} {c1 c2 : Standing} {y z : List ℕ} {items : List Item} {m l : ℕ} → Pumps contents logged w0 w1 c0 c1 last x y 0 0 → HandsOn {T = Unit {0}} contents logged w1 w2 items (Ok tt)
       → IsSpared w0.policy items → TakesTurns c1 c2 last y z items m l → Pumps contents logged w0 w2 c0 c2 last x z m l
-  pumps_more w1 w2 c1 c2 y z items m l h k spared t =
+  pumps_more {w1} {w2} {c1} {c2} {y} {z} {items} {m} {l} h k spared t =
       let most : 0 + m ≡ m = omega arith in
       let least : 0 + l ≡ l = omega arith in
       record {
         items = h.items ++ items;
-        hands = hands_then contents logged w0 w1 w2 h.items items tt (Ok tt) h.spared h.hands k;
+        hands = hands_then h.spared h.hands k;
         spared = spared_append w0.policy h.items items h.spared spared;
         turns = subst (λ (n : ℕ). TakesTurns c0 c2 last x z (h.items ++ items) n l) most
             (subst (λ (n : ℕ). TakesTurns c0 c2 last x z (h.items ++ items) (0 + m) n) least (turns_more c0 c1 c2 last x y z h.items items 0 m 0 l h.turns t));
       }
 
-  -- a writer may fail after it: what was taken is a prefix of what was owed at the start
-  module _ {T : Type 0} (w1 w2 : Writers W L) (c1 c2 : Standing) (y z : List ℕ) (items : List Item) (m l : ℕ) (r : Result T Fault) (h : Pumps contents logged w0 w1 c0 c1 last x y m l) (k : HandsOn contents logged w1 w2 items r) where
-    pub pumps_hands : HandsOn contents logged w0 w2 (h.items ++ items) r
-    pumps_hands = hands_then contents logged w0 w1 w2 h.items items tt r h.spared h.hands k
+  -- the same, if nothing was found
+  pub pumps_bytes : {w1 w2 : Writers W L} {c1 c2 : Standing} {y z : List ℕ} {m l : ℕ} (bytes : List ℕ) → Pumps contents logged w0 w1 c0 c1 last x y 0 0 → HandsOn {T = Unit {0}} contents logged w1 w2 (map Byte bytes) (Ok tt)
+      → TakesTurns c1 c2 last y z (map Byte bytes ++ []) m l → Pumps contents logged w0 w2 c0 c2 last x z m l
+  pumps_bytes {w1} {w2} bytes h k t =
+      pumps_more h (subst (λ items. HandsOn {T = Unit {0}} contents logged w1 w2 items (Ok tt)) (sym (append-nil (map Byte bytes))) k)
+      (spared_append w0.policy (map Byte bytes) [] (spared_only w0.policy bytes) (spared_nil w0.policy)) t
 
-    pub pumps_under : c0.answer ≡ None → c0.text ≡ [] → HoldNothing w0 → ((r : List ℕ) → (last ≡ true → r ≡ []) → owed c1 (y ++ r) ≡ items ++ owed c2 (z ++ r))
-        → IfErr r (λ (f : Fault). WritesPrefixFor (written_by contents logged w0) (written_by contents logged w2) w0.policy f last (λ r. to_write c0.state (x ++ r)))
-    pumps_under none empty nothing owes = err_map r pumps_hands.err (λ f q.
-        let left : LeavesPrefixFor (writers_view contents logged w0) (writers_view contents logged w2) w0.policy f last (λ r. owed c0 (x ++ r)) =
-        left_for_of (writers_view contents logged w0) (writers_view contents logged w2) w0.policy f last ((h.items ++ items) ++ []) (λ r. owed c0 (x ++ r)) (q []) (λ r end. (owed c2 (z ++ r), h.turns.owes r end ∙ ap (λ t. h.items ++ t) (owes r end) ∙ sym (append_assoc h.items items (owed c2 (z ++ r)))
-            ∙ ap (λ t. t ++ owed c2 (z ++ r)) (sym (append-nil (h.items ++ items))))) in
-        let from : WritesPrefixFor (written_by contents logged w0) (written_by contents logged w2) w0.policy f last (λ r. owed c0 (x ++ r)) =
-        subst (λ (v : WritersView). LeavesPrefixFor v (writers_view contents logged w2) w0.policy f last (λ r. owed c0 (x ++ r))) (view_none contents logged w0 nothing) left in
-        record { taken = from.taken; wrote = from.wrote; left = λ r end. subst (λ t. IsLeft w0.policy f from.taken t) (owed_first c0 (x ++ r) none empty) (from.left r end) })
+  -- a writer may fail after it: what was taken is a prefix of what was owed at the start
+  pub pumps_owed : {T : Type 0} {w1 w2 : Writers W L} {c1 : Standing} {y : List ℕ} {items : List Item} {m l : ℕ} {r : Result T Fault} → (owes : List ℕ → List Item) → Pumps contents logged w0 w1 c0 c1 last x y m l → HandsOn contents logged w1 w2 items r
+      → c0.answer ≡ None → c0.text ≡ [] → HoldNothing w0 → ((r : List ℕ) → (last ≡ true → r ≡ []) → owed c1 (y ++ r) ≡ items ++ owes r)
+      → IfErr r (λ (f : Fault). WritesPrefixFor (written_by contents logged w0) (written_by contents logged w2) w0.policy f last (λ r. to_write c0.state (x ++ r)))
+  pumps_owed {T} {w1} {w2} {c1} {y} {items} {m} {l} {r} owes h k none empty nothing owed_is = err_map r (hands_then h.spared h.hands k).err (λ f q.
+      let left : LeavesPrefixFor (writers_view contents logged w0) (writers_view contents logged w2) w0.policy f last (λ r. owed c0 (x ++ r)) =
+      left_for_of (writers_view contents logged w0) (writers_view contents logged w2) w0.policy f last ((h.items ++ items) ++ []) (λ r. owed c0 (x ++ r)) (q [])
+      (λ r end. (owes r, h.turns.owes r end ∙ ap (λ t. h.items ++ t) (owed_is r end) ∙ sym (append_assoc h.items items (owes r)) ∙ ap (λ t. t ++ owes r) (sym (append-nil (h.items ++ items))))) in
+      let from : WritesPrefixFor (written_by contents logged w0) (written_by contents logged w2) w0.policy f last (λ r. owed c0 (x ++ r)) =
+      subst (λ (v : WritersView). LeavesPrefixFor v (writers_view contents logged w2) w0.policy f last (λ r. owed c0 (x ++ r))) (view_none contents logged w0 nothing) left in
+      record { taken = from.taken; wrote = from.wrote; left = λ r end. subst (λ t. IsLeft w0.policy f from.taken t) (owed_first c0 (x ++ r) none empty) (from.left r end) })
+
+  pub pumps_under : {T : Type 0} {w1 w2 : Writers W L} {c1 c2 : Standing} {y z : List ℕ} {items : List Item} {m l m' l' : ℕ} {r : Result T Fault} → Pumps contents logged w0 w1 c0 c1 last x y m l → HandsOn contents logged w1 w2 (items ++ []) r
+      → TakesTurns c1 c2 last y z items m' l' → c0.answer ≡ None → c0.text ≡ [] → HoldNothing w0
+      → IfErr r (λ (f : Fault). WritesPrefixFor (written_by contents logged w0) (written_by contents logged w2) w0.policy f last (λ r. to_write c0.state (x ++ r)))
+  pumps_under {T} {w1} {w2} {c1} {c2} {y} {z} {items} h k t none empty nothing =
+      pumps_owed (λ r. owed c2 (z ++ r)) h k none empty nothing (λ r end. t.owes r end ∙ ap (λ q. q ++ owed c2 (z ++ r)) (sym (append-nil items)))
+
+  -- or while what is held is delivered
+  pub pumps_stuck : {T : Type 0} {w1 w2 : Writers W L} {c1 : Standing} {y : List ℕ} {m l : ℕ} {r : Result T Fault} → Pumps contents logged w0 w1 c0 c1 last x y m l → HandsOn contents logged w1 w2 [] r → c0.answer ≡ None → c0.text ≡ [] → HoldNothing w0
+      → IfErr r (λ (f : Fault). WritesPrefixFor (written_by contents logged w0) (written_by contents logged w2) w0.policy f last (λ r. to_write c0.state (x ++ r)))
+  pumps_stuck {T} {w1} {w2} {c1} {y} h k none empty nothing = pumps_owed (λ r. owed c1 (y ++ r)) h k none empty nothing (λ r end. refl)
 
   -- all of a chunk was converted
-  pub pumps_whole : (w1 : Writers W L) (c1 : Standing) (y : List ℕ) → c0.answer ≡ None → c0.text ≡ [] → c1.answer ≡ None → c1.text ≡ [] → c0.state.policy ≡ w0.policy → Pumps contents logged w0 w1 c0 c1 last x y 3 2
+  pumps_whole : (w1 : Writers W L) (c1 : Standing) (y : List ℕ) → c0.answer ≡ None → c0.text ≡ [] → c1.answer ≡ None → c1.text ≡ [] → c0.state.policy ≡ w0.policy → Pumps contents logged w0 w1 c0 c1 last x y 3 2
       → ConvertsTo (writers_view contents logged w0) (writers_view contents logged w1) c0.state c1.state last x y 1
   pumps_whole w1 c1 y none empty none' empty' is h =
       let t : TakesTurns (nothing_waits c0.state) (nothing_waits c1.state) last x y h.items 3 2 =
@@ -115,11 +133,11 @@ module _ {W L : Type 0} (contents : W → Option (List ℕ)) (logged : L → Opt
       }
 
   -- and what was held is delivered
-  pub pumps_done : {T : Type 0} (w1 w2 : Writers W L) (c1 : Standing) (r : Result T Fault) → c0.answer ≡ None → c0.text ≡ [] → c1.answer ≡ None → c1.text ≡ [] → c0.state.policy ≡ w0.policy → HoldNothing w0 → IsDoneWith c1.state last
+  pub pumps_done : {T : Type 0} {w1 w2 : Writers W L} {c1 : Standing} {r : Result T Fault} → c0.answer ≡ None → c0.text ≡ [] → c1.answer ≡ None → c1.text ≡ [] → c0.state.policy ≡ w0.policy → HoldNothing w0 → IsDoneWith c1.state last
       → Pumps contents logged w0 w1 c0 c1 last x [] 3 2 → HandsOn contents logged w1 w2 [] r → OnOk r (HoldNothing w2) → OnOk r (DecodesChunk (written_by contents logged w0) (written_by contents logged w2) c0.state c1.state x last)
-  pumps_done w1 w2 c1 (Err f) none empty none' empty' is nothing done h k after = tt
-  pumps_done w1 w2 c1 (Ok u) none empty none' empty' is nothing done h k after =
-      let all = pumps_held w1 w2 c1 [] 3 2 h (record { ok = k.ok; err = tt; failures = record { writer = k.failures.writer; log = k.failures.log; not_reader = refl; not_other = refl; same = k.failures.same } }) in
+  pumps_done {T} {w1} {w2} {c1} {r = Err f} none empty none' empty' is nothing done h k after = tt
+  pumps_done {T} {w1} {w2} {c1} {r = Ok u} none empty none' empty' is nothing done h k after =
+      let all = pumps_held h (record { ok = k.ok; err = tt; failures = record { writer = k.failures.writer; log = k.failures.log; not_reader = refl; not_other = refl; same = k.failures.same } }) in
       record {
         converts = subst (λ (v : WritersView). ConvertsTo (holding_none (written_by contents logged w0)) v c0.state c1.state last x [] 1) (view_none contents logged w2 after)
             (subst (λ (v : WritersView). ConvertsTo v (writers_view contents logged w2) c0.state c1.state last x [] 1) (view_none contents logged w0 nothing) (pumps_whole w2 c1 [] none empty none' empty' is all));
@@ -135,8 +153,8 @@ owes_less : (a b : List Item) (items : List Item) → a ≡ items ++ b → 0 < l
 owes_less a b items is some = omega (arith, ap length is, length-append items b, some)
 
 -- fewer items are owed
-pub smaller_by : (c1 c2 : Standing) (last : Bool) (y z : List ℕ) (items : List Item) (m l : ℕ) → TakesTurns c1 c2 last y z items m l → 0 < length items → length (owed c2 z) < length (owed c1 y)
-smaller_by c1 c2 last y z items m l t some =
+pub smaller_by : {c1 c2 : Standing} {last : Bool} {y z : List ℕ} {items : List Item} {m l : ℕ} → TakesTurns c1 c2 last y z items m l → 0 < length items → length (owed c2 z) < length (owed c1 y)
+smaller_by {c1} {c2} {last} {y} {z} {items} t some =
     owes_less (owed c1 y) (owed c2 z) items (ap (owed c1) (sym (append-nil y)) ∙ t.owes [] (λ _. refl) ∙ ap (λ x. items ++ owed c2 x) (append-nil z)) some
 
 pub between_none : (p : Pivot) → chars_between p 0 0 ≡ []
@@ -157,9 +175,6 @@ ready_start c src last none empty limit h = subst (λ (z : Standing). CanGoOn z 
   tells = h.tells;
   open_ = (refl, h.open_);
 })
-
-pub spared_only : (p : Policy) (bytes : List ℕ) → IsSpared p (map Byte bytes)
-spared_only p bytes = λ stops. lost_line_count-bytes bytes
 
 pub found_some : (ref : Reference) (bytes : List ℕ) (line : LogLine) → 0 < length (map Byte bytes ++ found_items ref (Found line))
 found_some ref bytes (Bad offset size) = omega (arith, length-append (map Byte bytes) (found_items ref (Found (Bad offset size))))

@@ -170,9 +170,6 @@ pub handed_on : {T : Type 0} (P : Fault → Type 0) (r : Result T Fault) (e : Fa
 handed_on P (Ok x) e same h = tt
 handed_on P (Err x) e same h = subst P (sym same) h
 
-pub hands_on_for : {T : Type 0} (r : Result T Fault) (e : Fault) (w w' : Written) (p : Policy) (last : Bool) (a : List ℕ → List Item) → IsErrAnd r (λ (x : Fault). x ≡ e) → WritesPrefixFor w w' p e last a → IfErr r (λ (g : Fault). WritesPrefixFor w w' p g last a)
-hands_on_for r e w w' p last a same h = handed_on (λ (q : Fault). WritesPrefixFor w w' p q last a) r e same h
-
 -- after the last escape nothing is left to write for an empty text
 closed_nil : (ref : Reference) (need : ℕ) (e : Coding) (last : Bool) (s : EscapeState) (i : ℕ) → IsCoding need e → (last ≡ true → s ≡ Ascii) → whole_items ref e last s i [] ≡ []
 closed_nil _ need e true s i k h = ap (closing e) (h refl) ∙ ap (map Byte) (k.same Ascii)

@@ -2,19 +2,19 @@ use Rattle.std.proofs.Common.{[], ◌++◌, ap, map, refl, rules, take}
 use Rattle.encoding_mem.specs.Items.{Byte}
 use Rattle.recode.specs.calls.Held.{line_items}
 use Rattle.recode.specs.laws.Items.{spared_nil}
-use Rattle.recode.proofs.HandsLemmas.{hands_fault, hands_then}
+use Rattle.recode.proofs.HandsLemmas.{hands_after, hands_fault}
 use Rattle.recode.proofs.HeldLemmas.{delivers, hands_each}
 use Rattle.recode.proofs.TraceLemmas.{under_bytes}
 use Rattle.recode.proofs.writers.Writers.deliver_held.Goals as goal
 
 pub returns-in_err-deliver_line-clause-hands : goal.returns-in_err-deliver_line-clause-hands
-returns-in_err-deliver_line-clause-hands g c = hands_fault _ _ _ _ [] [] _ _ c.from_residual.ensures.1 c.in_err-deliver_line.ensures.hands
+returns-in_err-deliver_line-clause-hands g c = hands_fault [] c.from_residual.ensures.1 c.in_err-deliver_line.ensures.hands
 
 pub returns-in_err-deliver-clause-hands : goal.returns-in_err-deliver-clause-hands
 returns-in_err-deliver-clause-hands g c =
     let e = c.in_ok-deliver_line.ensures in
     let held = take c.deliver_line.new.self.held c.deliver_line.new.self.buffer.now in
-    hands_then _ _ _ c.deliver_line.new.self _ [] [] _ _ (spared_nil _) e.hands (record {
+    hands_after e.hands (record {
       ok = search rules;
       err = hands_each _ _ _ _ _ _ c.from_residual-in_err-deliver.ensures.1 (λ more. under_bytes _ _ _ _ _ held _ _ more c.in_err-deliver.ensures.fault c.in_err-deliver.ensures.err.2
           (ap (λ line. (line_items line ++ map Byte held) ++ more) e.none));
@@ -24,7 +24,7 @@ returns-in_err-deliver-clause-hands g c =
 pub returns-clause-hands : goal.returns-clause-hands
 returns-clause-hands g c =
     let e = c.in_ok-deliver_line.ensures in
-    hands_then _ _ _ c.deliver_line.new.self _ [] [] _ _ (spared_nil _) e.hands (record {
+    hands_after e.hands (record {
       ok = rw e.none (delivers _ _ _ _ _ c.in_ok-deliver.ensures.ok.0 refl);
       err = tt;
       failures = search rules;

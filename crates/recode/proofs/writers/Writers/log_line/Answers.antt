@@ -1,12 +1,12 @@
 use Rattle.std.proofs.Common.{[], ◌∷◌, ◌∙◌, ap, ◌++◌, rules, take}
 use Rattle.recode.specs.calls.Held.{held_line_bytes, item_of}
 use Rattle.recode.specs.laws.Items.{spared_nil}
-use Rattle.recode.proofs.HandsLemmas.{hands_fault, hands_then}
+use Rattle.recode.proofs.HandsLemmas.{hands_after, hands_fault}
 use Rattle.recode.proofs.HeldLemmas.{lines_part, lines_whole, none_held}
 use Rattle.recode.proofs.writers.Writers.log_line.Goals as goal
 
 pub returns-in_err-deliver_bytes-clause-hands : goal.returns-in_err-deliver_bytes-clause-hands
-returns-in_err-deliver_bytes-clause-hands g c = hands_fault _ _ _ _ [] (item_of c.args.line ∷ []) _ _ c.from_residual.ensures.1 c.in_err-deliver_bytes.ensures.hands
+returns-in_err-deliver_bytes-clause-hands g c = hands_fault (item_of c.args.line ∷ []) c.from_residual.ensures.1 c.in_err-deliver_bytes.ensures.hands
 
 pub returns-clause-hands : goal.returns-clause-hands
 returns-clause-hands g c =
@@ -14,7 +14,7 @@ returns-clause-hands g c =
     let none = none_held _ c.deliver_bytes.new.self.buffer.now e.none in
     let line = c.deliver_bytes.new.self.line in
     let is = c.put_all-end.ensures.prefix ∙ ap (λ x. x ++ take c.write_into-len.result c.write_into-len.new.dst) c.put_held_line-start.ensures.bytes ∙ ap (λ x. held_line_bytes line ++ x) c.write_into-len.ensures.line in
-    hands_then _ _ _ c.deliver_bytes.new.self _ [] (item_of c.args.line ∷ []) _ _ (spared_nil _) e.hands (record {
+    hands_after e.hands (record {
       ok = lines_whole _ _ _ _ line _ _ c.args.line _ _ none is c.deliver.ensures.ok;
       err = lines_part _ _ _ _ line _ _ c.args.line _ _ none is _ c.deliver.ensures.fault c.deliver.ensures.err;
       failures = search rules;

@@ -13,7 +13,7 @@ use Rattle.recode.proofs.writers.Writers.log_lost.Goals as goal
 pub returns-in_err-log_line-clause-hands : goal.returns-in_err-log_line-clause-hands
 returns-in_err-log_line-clause-hands g c =
     let bytes = reference_bytes (reference_form c.args.self.now.policy) c.args.scalar in
-    hands_fault _ _ _ _ (LostAt c.args.index c.args.scalar ∷ []) (map Byte bytes) _ _ c.from_residual.ensures.1 c.in_err-log_line.ensures.hands
+    hands_fault (map Byte bytes) c.from_residual.ensures.1 c.in_err-log_line.ensures.hands
 
 pub returns-in_err-form-clause-hands : goal.returns-in_err-form-clause-hands
 returns-in_err-form-clause-hands g c =
@@ -34,6 +34,6 @@ returns-clause-hands g c =
     let same = e.hands.failures.same.policy in
     let goes_on = rw same at (goes_on_where_written _ _ c.in_ok-form.ensures.ok) in
     let bytes = reference_bytes (reference_form c.args.self.now.policy) c.args.scalar in
-    hands_then _ _ _ c.log_line.new.self _ (LostAt c.args.index c.args.scalar ∷ []) (map Byte bytes) _ _ (λ stops. absurd (goes_on stops)) e.hands
+    hands_then (λ stops. absurd (goes_on stops)) e.hands
     (subst (λ form. HandsOn g.W.Write.contents g.L.Write.contents c.log_line.new.self c.put_reference.new.self (map Byte (reference_bytes form c.args.scalar)) c.put_reference.result)
     (form_written _ _ c.in_ok-form.ensures.ok ∙ ap reference_form same) c.put_reference.ensures.hands)

@@ -2,12 +2,12 @@ use Rattle.std.proofs.Common.{[], ◌++◌, ◌∙◌, ap, map, rules, take}
 use Rattle.encoding_mem.specs.Coding.{reference_bytes}
 use Rattle.encoding_mem.specs.Items.{Byte}
 use Rattle.recode.specs.laws.Items.{spared_nil}
-use Rattle.recode.proofs.HandsLemmas.{hands_fault, hands_then}
+use Rattle.recode.proofs.HandsLemmas.{hands_after, hands_fault}
 use Rattle.recode.proofs.HeldLemmas.{delivers_part, delivers_whole, holds, none_held}
 use Rattle.recode.proofs.writers.Writers.put_reference.Goals as goal
 
 pub returns-in_err-deliver_held : goal.returns-in_err-deliver_held
-returns-in_err-deliver_held g c = record { hands = hands_fault _ _ _ _ [] (map Byte (reference_bytes c.args.form c.args.c)) _ _ c.from_residual.ensures.1 c.in_err-deliver_held.ensures.hands }
+returns-in_err-deliver_held g c = record { hands = hands_fault (map Byte (reference_bytes c.args.form c.args.c)) c.from_residual.ensures.1 c.in_err-deliver_held.ensures.hands }
 
 pub returns-in_ok-deliver_held : goal.returns-in_ok-deliver_held
 returns-in_ok-deliver_held g c =
@@ -15,7 +15,7 @@ returns-in_ok-deliver_held g c =
     let none = none_held _ c.deliver_held.new.self.buffer.now e.none.bytes in
     let held = take c.deliver_held.new.self.held c.deliver_held.new.self.buffer.now in
     let is = c.write_reference-len.ensures.reference in
-    record { hands = hands_then _ _ _ c.deliver_held.new.self _ [] (map Byte (reference_bytes c.args.form c.args.c)) _ _ (spared_nil _) e.hands (record {
+    record { hands = hands_after e.hands (record {
       ok = delivers_whole _ _ _ _ _ held _ _ _ _ e.none.line none is c.deliver.ensures.ok;
       err = delivers_part _ _ _ _ _ held _ _ _ _ e.none.line none is _ c.deliver.ensures.fault c.deliver.ensures.err;
       failures = search rules;
