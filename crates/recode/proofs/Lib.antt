@@ -21,7 +21,6 @@ pub mod CharacterLemmas
 pub mod PivotLemmas
 pub mod LatencyLemmas
 pub mod TextLemmas
-pub mod ChunkLemmas
 pub mod LoadLemmas
 pub mod TurnLemmas
 pub mod ConvertLemmas

@@ -7,6 +7,7 @@ use Rattle.recode.proofs.entry.run_words.Goals as goal
 
 unknown_of : (r : Option Encoding) (label bytes : List ℕ) → bytes ≡ label → r ≡ None → ((e : Encoding) → (r ≡ Some e) ↔ HasLabel e bytes) → IsUnknown label
 unknown_of r label bytes same none law e h =
+    let some : r ≡ Some e = (law e).1 (rw same h) in
     cc
 
 known_of : (r : Option Encoding) (label bytes : List ℕ) (e : Encoding) → bytes ≡ label → r ≡ Some e → ((e : Encoding) → (r ≡ Some e) ↔ HasLabel e bytes) → HasLabel e label
