@@ -11,8 +11,8 @@ use Rattle.recode_log.specs.declared.line.LogLine.TheVariants.{Bad, Lost}
 use Rattle.recode.specs.Devices.{Written}
 use Rattle.recode.specs.Policy.{written_under}
 use Rattle.recode.specs.TaggedByte.{Line, Wrote, tagged, tagged_item}
-use Rattle.recode.specs.WrittenItems.{IsSpared, WritesItemsFor, WritesPrefix, lost_line_count}
-use Rattle.recode.specs.calls.Held.{LeavesPrefix, LeavesPrefixFor, Passes, PassesBytes, PassesItems, PassesItemsFor, WritersView, held_items, held_line_bytes, holding_none, item_of, line_items, log_line_of}
+use Rattle.recode.specs.WrittenItems.{IsSpared, WritesPrefix, lost_line_count}
+use Rattle.recode.specs.calls.Held.{LeavesPrefix, LeavesPrefixFor, Passes, PassesBytes, WritersView, held_items, held_line_bytes, item_of, line_items, log_line_of}
 use Rattle.recode.specs.declared.job.Fault.{Fault}
 use Rattle.recode.specs.declared.job.Fault.TheVariants.{Write, Log, Unmappable}
 use Rattle.recode.specs.declared.job.Policy.{Policy}
@@ -58,24 +58,12 @@ left_after w w' v p f passed a b h spared e k = record {
   left = left_behind p f h.delivered k.taken (held_items w ++ a) (held_items w' ++ b) (delivered_spared w w' p passed h spared) (passed_of w w' passed a b h e) k.left;
 }
 
--- ---- items that are counted
-
 -- ---- for every continuation
 
 pub left_for_of : (w w' : WritersView) (p : Policy) (f : Fault) (last : Bool) (total : List Item) (a : List ℕ → List Item) → LeavesPrefix w w' p f total
     → ((r : List ℕ) → (last ≡ true → r ≡ []) → (rest : List Item) × (a r ≡ total ++ rest)) → LeavesPrefixFor w w' p f last a
 left_for_of w w' p f last total a h e = WritesPrefixFor-of w.written w'.written p f last (held_items w ++ total) (λ r. held_items w ++ a r) h
     (λ r none. let m = e r none in (m.0, ap (λ x. held_items w ++ x) m.1 ∙ sym (append_assoc (held_items w) total m.0)))
-
--- if nothing is held before and after
-pub written_whole : (w w' : Written) (x y : Counts) (p : Policy) (last : Bool) (a b : List ℕ → List Item) → PassesItemsFor (holding_none w) (holding_none w') x y p last a b → WritesItemsFor w w' x y p last a b
-written_whole w w' x y p last a b h = record {
-  written_items = h.passed;
-  wrote = subst (λ t. Wrote w w' (tagged t)) (sym (h.passes.in_order ∙ append-nil h.passes.delivered)) h.passes.wrote;
-  counted = h.counted;
-  spared = h.spared;
-  equals = h.equals;
-}
 
 -- ---- bytes
 

@@ -20,7 +20,7 @@ use Rattle.recode_log.specs.Line.{line_bytes}
 use Rattle.recode_log.specs.declared.line.LogLine.{LogLine}
 use Rattle.recode_log.specs.declared.line.LogLine.TheVariants.{Bad}
 use Rattle.recode.specs.Job.{input_pieces, log_lines, lost_log_lines, target_of}
-use Rattle.recode.specs.calls.Chunk.{DecodesChunk}
+use Rattle.recode.specs.calls.Chunk.{ConvertsChunk}
 use Rattle.recode.specs.Latency.{HasReached, WroteDecided}
 use Rattle.recode.specs.Policy.{reference_form}
 use Rattle.recode.specs.State.{State}
@@ -33,7 +33,6 @@ use Rattle.recode.specs.declared.counts.Counts.{Counts}
 use Rattle.recode.specs.declared.job.Job.{Job}
 use Rattle.recode.specs.declared.job.Policy.{Policy}
 use Rattle.recode.proofs.DecoderCallLemmas.{WellFormedCall}
-use Rattle.recode.proofs.HeldLemmas.{written_whole}
 use Rattle.recode.specs.laws.Items.{log_bytes-append, tagged-append, output_bytes-append}
 use Rattle.recode.proofs.TraceLemmas.{log_bytes-trace, output_bytes-trace, whole_from-append}
 
@@ -109,41 +108,39 @@ taken_sizes d d1 chunk taken is = omega (arith, d.whole (chunk ++ []), d1.whole 
 
 -- the clause of a step that goes on
 pub steps_on : (before after : Devices) (limit : ℕ) (s s1 : State) (chunk : List ℕ) (last : Bool) → Consumes before.input after.input chunk → 0 < length chunk → s1.counts.read ≤ limit → AreSound s.decoder.pending s.counts
-    → last ≡ false → DecodesChunk before.written after.written s s1 chunk last → StepsOn before after limit s s1
+    → last ≡ false → ConvertsChunk before.written after.written s s1 chunk last → StepsOn before after limit s s1
 steps_on before after limit s s1 chunk last read_in some within sound goes_on k =
-    let c = k.converts in
-    let pays = written_whole before.written after.written s.counts s1.counts s.policy last _ _ c.pays in
-    let p = c.advances goes_on in
+    let pays = k.pays in
+    let p = k.advances goes_on in
     let e = s.coding in
     let offset = s.counts.read - s.decoder.pending in
     let offset1 = s1.counts.read - s1.decoder.pending in
     let i = s.counts.index in
     let i1 = s1.counts.index in
     let qs = s1.decoder.pieces [] in
-    let counted : s1.counts.read ≡ s.counts.read + length chunk = omega (arith, c.counted) in
-    let offset_is : offset1 ≡ offset + sizes p.taken = omega (arith, taken_sizes s.decoder s1.decoder chunk p.taken (p.rest []), counted, sound.index) in
+    let offset_is : offset1 ≡ offset + sizes p.taken = omega (arith, taken_sizes s.decoder s1.decoder chunk p.taken (p.rest []), k.counted, sound.index) in
     let is : trace_from (reference_form s.policy) e s.set offset i (p.taken ++ qs) ≡ pays.written_items ++ trace_from (reference_form s.policy) e s1.set offset1 i1 qs =
     ap (trace_from (reference_form s.policy) e s.set offset i) (sym (p.rest [])) ∙ pays.equals [] (λ _. refl)
-    ∙ ap (λ (q : Coding). pays.written_items ++ trace_from (reference_form s1.policy) q s1.set offset1 i1 qs) c.target
-    ∙ ap (λ (q : Policy). pays.written_items ++ trace_from (reference_form q) e s1.set offset1 i1 qs) c.policy in
+    ∙ ap (λ (q : Coding). pays.written_items ++ trace_from (reference_form s1.policy) q s1.set offset1 i1 qs) k.target
+    ∙ ap (λ (q : Policy). pays.written_items ++ trace_from (reference_form q) e s1.set offset1 i1 qs) k.policy in
     let none : (r : List ℕ) → last ≡ true → r ≡ [] = λ r h. absurd (false≢true (sym goes_on ∙ h)) in
     record {
       chunk = chunk;
       consumed = read_in;
-      counted = counted;
-      grows = omega (arith, counted, some);
+      counted = k.counted;
+      grows = omega (arith, k.counted, some);
       within = within;
-      target = c.target;
-      policy = c.policy;
-      source = λ r. c.source r (none r);
+      target = k.target;
+      policy = k.policy;
+      source = λ r. k.source r (none r);
       pays = record { written_items = pays.written_items; wrote = pays.wrote; counted = pays.counted; spared = pays.spared; equals = λ r h. pays.equals r (none r) };
       advances = p;
       output = subst (Appends before.written.output after.written.output) (paid_output (reference_form s.policy) e s.set s1.set offset i offset1 i1 p.taken qs pays.written_items p.set offset_is p.index is) pays.wrote.output;
       logged = subst (Appends before.written.log after.written.log) (paid_lines (reference_form s.policy) e s.set s1.set offset i offset1 i1 p.taken qs pays.written_items p.set offset_is p.index is) pays.wrote.lined;
       settled = k.done.settled;
-      verdict = λ r. c.verdict r (none r);
-      calls = λ r. c.calls r (none r);
-      least = c.least;
+      verdict = λ r. k.verdict r (none r);
+      calls = λ r. k.calls r (none r);
+      least = k.least;
     }
 
 -- A session that has read nothing, and one that steps on.

@@ -12,10 +12,11 @@ use Rattle.recode_log.specs.declared.line.LogLine.TheVariants.{Bad, Lost}
 use Rattle.recode.specs.Converter.{found_items}
 use Rattle.recode.specs.Policy.{reference_form}
 use Rattle.recode.specs.State.{State, to_write}
+use Rattle.recode.specs.TaggedByte.{Wrote, tagged}
 use Rattle.recode.specs.WrittenItems.{IsLeft, IsSpared, WritesPrefixFor}
-use Rattle.recode.specs.calls.Chunk.{CanConvert, ConvertsTo, DecodesChunk, IsDoneWith}
+use Rattle.recode.specs.calls.Chunk.{CanConvert, ConvertsChunk, IsDoneWith}
 use Rattle.recode.specs.calls.EngineView.{HoldsBetween, chars_between}
-use Rattle.recode.specs.calls.Held.{LeavesPrefixFor, WritersView, holding_none}
+use Rattle.recode.specs.calls.Held.{LeavesPrefixFor, Passes, WritersView, held_items}
 use Rattle.recode.specs.calls.TraceToWrite.{AreSound}
 use Rattle.recode.specs.calls.Turns.{AreCountedSoundly, CanGoOn, Standing, TakesTurns, owed}
 use Rattle.recode.specs.calls.Writers.{AreReady, HandsOn, HoldNothing, written_by, writers_view}
@@ -106,41 +107,35 @@ module _ {W L : Type 0} {contents : W → Option (List ℕ)} {logged : L → Opt
       → IfErr r (λ (f : Fault). WritesPrefixFor (written_by contents logged w0) (written_by contents logged w2) w0.policy f last (λ r. to_write c0.state (x ++ r)))
   pumps_stuck {T} {w1} {w2} {c1} {y} h k none empty nothing = pumps_owed (λ r. owed c1 (y ++ r)) h k none empty nothing (λ r end. refl)
 
-  -- all of a chunk was converted
-  pumps_whole : (w1 : Writers W L) (c1 : Standing) (y : List ℕ) → c0.answer ≡ None → c0.text ≡ [] → c1.answer ≡ None → c1.text ≡ [] → c0.state.policy ≡ w0.policy → Pumps contents logged w0 w1 c0 c1 last x y 3 2
-      → ConvertsTo (writers_view contents logged w0) (writers_view contents logged w1) c0.state c1.state last x y 1
-  pumps_whole w1 c1 y none empty none' empty' is h =
-      let t : TakesTurns (nothing_waits c0.state) (nothing_waits c1.state) last x y h.items 3 2 =
-      subst (λ (a : Standing). TakesTurns a (nothing_waits c1.state) last x y h.items 3 2) (as_nothing_waits c0 none empty)
-      (subst (λ (a : Standing). TakesTurns c0 a last x y h.items 3 2) (as_nothing_waits c1 none' empty') h.turns) in
+  -- all of a chunk was converted, and what is held is delivered
+  pub pumps_done : {T : Type 0} {w1 w2 : Writers W L} {c1 : Standing} {r : Result T Fault} → c0.answer ≡ None → c0.text ≡ [] → c1.answer ≡ None → c1.text ≡ [] → c0.state.policy ≡ w0.policy → HoldNothing w0 → IsDoneWith c1.state last
+      → Pumps contents logged w0 w1 c0 c1 last x [] 3 2 → HandsOn contents logged w1 w2 [] r → OnOk r (HoldNothing w2) → OnOk r (ConvertsChunk (written_by contents logged w0) (written_by contents logged w2) c0.state c1.state x last)
+  pumps_done {r = Err f} none empty none' empty' is nothing done h k after = tt
+  pumps_done {T} {w1} {w2} {c1} {r = Ok u} none empty none' empty' is nothing done h k after =
+      let t : TakesTurns (nothing_waits c0.state) (nothing_waits c1.state) last x [] h.items 3 2 =
+      subst (λ (a : Standing). TakesTurns a (nothing_waits c1.state) last x [] h.items 3 2) (as_nothing_waits c0 none empty)
+      (subst (λ (a : Standing). TakesTurns c0 a last x [] h.items 3 2) (as_nothing_waits c1 none' empty') h.turns) in
+      let passes : Passes (writers_view contents logged w0) (writers_view contents logged w2) (h.items ++ []) = (hands_then h.spared h.hands k).ok in
+      let all : h.items ≡ passes.delivered =
+      sym (append-nil h.items) ∙ ap (λ (v : WritersView). held_items v ++ (h.items ++ [])) (sym (view_none contents logged w0 nothing)) ∙ passes.in_order
+      ∙ ap (λ (v : WritersView). passes.delivered ++ held_items v) (view_none contents logged w2 after) ∙ append-nil passes.delivered in
       record {
-        counted = t.counted;
+        counted = omega (arith, t.counted);
         target = t.target;
         policy = t.policy;
         sound = record { index = omega (arith, t.sound.index); bad = omega (arith, t.sound.bad); lost = t.sound.lost };
         source = t.source;
         pays = record {
-          passed = h.items;
-          passes = h.hands.ok;
+          written_items = h.items;
+          wrote = subst (λ items. Wrote (written_by contents logged w0) (written_by contents logged w2) (tagged items)) (sym all) passes.wrote;
           counted = t.lines;
           spared = λ stops. h.spared (sym is ∙ stops);
-          equals = λ r end. sym (owed_none c0.state (x ++ r)) ∙ t.owes r end ∙ ap (λ q. h.items ++ q) (owed_none c1.state (y ++ r));
+          equals = λ r end. sym (owed_none c0.state (x ++ r)) ∙ t.owes r end ∙ ap (λ q. h.items ++ q) (owed_none c1.state r);
         };
         verdict = t.verdict;
-        calls = λ r end. omega (arith, t.calls r end, ap length (owed_none c0.state (x ++ r)), ap length (owed_none c1.state (y ++ r)));
+        calls = λ r end. omega (arith, t.calls r end, ap length (owed_none c0.state (x ++ r)), ap length (owed_none c1.state r));
         least = λ under. omega (arith, t.least_calls under, t.lines.bad);
         advances = λ on. let a = t.advances on in record { taken = a.taken; rest = a.rest_is; set = a.set; index = omega (arith, a.index) };
-      }
-
-  -- and what was held is delivered
-  pub pumps_done : {T : Type 0} {w1 w2 : Writers W L} {c1 : Standing} {r : Result T Fault} → c0.answer ≡ None → c0.text ≡ [] → c1.answer ≡ None → c1.text ≡ [] → c0.state.policy ≡ w0.policy → HoldNothing w0 → IsDoneWith c1.state last
-      → Pumps contents logged w0 w1 c0 c1 last x [] 3 2 → HandsOn contents logged w1 w2 [] r → OnOk r (HoldNothing w2) → OnOk r (DecodesChunk (written_by contents logged w0) (written_by contents logged w2) c0.state c1.state x last)
-  pumps_done {T} {w1} {w2} {c1} {r = Err f} none empty none' empty' is nothing done h k after = tt
-  pumps_done {T} {w1} {w2} {c1} {r = Ok u} none empty none' empty' is nothing done h k after =
-      let all = pumps_held h (record { ok = k.ok; err = tt; failures = record { writer = k.failures.writer; log = k.failures.log; not_reader = refl; not_other = refl; same = k.failures.same } }) in
-      record {
-        converts = subst (λ (v : WritersView). ConvertsTo (holding_none (written_by contents logged w0)) v c0.state c1.state last x [] 1) (view_none contents logged w2 after)
-            (subst (λ (v : WritersView). ConvertsTo v (writers_view contents logged w2) c0.state c1.state last x [] 1) (view_none contents logged w0 nothing) (pumps_whole w2 c1 [] none empty none' empty' is all));
         done = done;
       }
 

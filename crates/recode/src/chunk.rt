@@ -4,7 +4,7 @@
 ghost use Rattle.std.specs.Prelude.{◌≡◌, ◌+◌, ◌^◌, ◌≤◌, ◌++◌, IfErr, None, OnOk, length};
 ghost use Rattle.recode.specs.State.{to_write};
 ghost use Rattle.recode.specs.WrittenItems.{WritesPrefixFor};
-ghost use Rattle.recode.specs.calls.Chunk.{CanConvert, DecodesChunk};
+ghost use Rattle.recode.specs.calls.Chunk.{CanConvert, ConvertsChunk};
 ghost use Rattle.recode.specs.calls.EngineView.{engine_state};
 ghost use Rattle.recode.specs.calls.Lent.{AreLent, KeepsLent};
 ghost use Rattle.recode.specs.calls.Writers.{AreReady, CountsWriterFault, HoldNothing, is_end};
@@ -34,7 +34,7 @@ pub fn write_chunk<D: StreamDecoder, E: RawEncoder, W: Write, L: Write>(
     requires lent { AreLent pivot.old check.old }
     requires writers { AreReady writers.old }
     requires held { HoldNothing writers.old }
-    ensures chunk { OnOk result (DecodesChunk
+    ensures chunk { OnOk result (ConvertsChunk
         (written_by W.contents L.contents writers.old)
         (written_by W.contents L.contents writers.new)
         (engine_state D.view E.parts writers.old.policy engine.old)
