@@ -15,7 +15,7 @@ use Rattle.encoding_mem.specs.declared.decoder_result.DecoderResult.{DecoderResu
 use Rattle.encoding_mem.specs.declared.decoder_result.DecoderResult.TheVariants.{InputEmpty, OutputFull, Malformed}
 use Rattle.encoding_mem.specs.laws.Piece.{scalars-append, sizes-append}
 use Rattle.encoding_mem.specs.laws.EncoderCalls.{last_set-append}
-use Rattle.recode.specs.calls.TraceToWrite.{trace_to_write, AreSound}
+use Rattle.recode.specs.calls.TraceToWrite.{trace_to_write}
 use Rattle.recode.specs.declared.counts.Counts.{Counts}
 
 -- of texts in a row

@@ -1,8 +1,8 @@
 -- How what the writers' functions promise is put together, and what is left if one of them failed.
-use Rattle.std.proofs.Common.{◌≡◌, ◌+◌, ◌-◌, ◌≤◌, ℕ, List, [], ◌++◌, Option, Result, Ok, Err, IsErrAnd, OnOk, IfErr, refl, sym, ap, subst, arith, append_assoc, length, map, take}
+use Rattle.std.proofs.Common.{◌≡◌, ◌+◌, ◌-◌, ◌≤◌, ℕ, List, [], ◌++◌, Option, Result, Ok, Err, IsErrAnd, OnOk, IfErr, refl, sym, subst, arith, append_assoc, length, map, take}
 use borrow.Rule.Slice.PartMut.{put_mid}
 use Rattle.encoding_mem.specs.Items.{Byte, Item}
-use Rattle.recode.specs.WrittenItems.{IsSpared, WritesPrefix}
+use Rattle.recode.specs.WrittenItems.{IsSpared}
 use Rattle.recode.specs.calls.Held.{LeavesPrefix, PassesBytes}
 use Rattle.recode.specs.calls.Writers.{AreReady, CountsWriterFault, HandsOn, written_by, writers_view}
 use Rattle.recode.specs.declared.job.Fault.{Fault}

@@ -16,9 +16,8 @@ use Rattle.recode.specs.calls.Held.{LeavesPrefix, LeavesPrefixFor, Passes, Passe
 use Rattle.recode.specs.declared.job.Fault.{Fault}
 use Rattle.recode.specs.declared.job.Fault.TheVariants.{Write, Log, Unmappable}
 use Rattle.recode.specs.declared.job.Policy.{Policy}
-use Rattle.recode.specs.declared.counts.Counts.{Counts}
 use Rattle.recode.specs.declared.writers.MalformedLine.{MalformedLine}
-use Rattle.recode.specs.laws.Items.{AreCounted-trans, bad_line_count-bytes, lost_line_count-append, lost_line_count-bytes, spared_append, spared_nil, tagged-append, written_spared}
+use Rattle.recode.specs.laws.Items.{lost_line_count-append, lost_line_count-bytes, tagged-append, written_spared}
 use Rattle.recode.proofs.TraceLemmas.{Wrote-nil, Wrote-trans, WritesPrefixFor-of, handed_on, left_behind, under_bytes, under_lines, written_first, wrote_bytes, wrote_line}
 
 -- ---- items in a row

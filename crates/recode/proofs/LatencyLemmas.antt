@@ -1,5 +1,5 @@
 -- What was taken while the input goes on, and what that says of the output and the log.
-use Rattle.std.proofs.Common.{◌≡◌, ◌⊎◌, ℕ, suc, ◌+◌, ◌-◌, ◌≤◌, ◌<◌, Bool, true, false, List, [], ◌∷◌, ◌++◌, length, drop, Some, refl, sym, ◌∙◌, ap, subst, arith, append_assoc, length-append, add-zero, inl, inr}
+use Rattle.std.proofs.Common.{◌≡◌, ◌⊎◌, ℕ, suc, ◌+◌, ◌-◌, ◌≤◌, ◌<◌, Bool, true, false, List, [], ◌∷◌, ◌++◌, length, Some, refl, sym, ◌∙◌, ap, subst, arith, append_assoc, length-append, add-zero, inl, inr}
 use Rattle.std.specs.Io.KnownBytes.{Appends, Consumes}
 use Rattle.std.specs.List.{flat_map}
 use Rattle.std.proofs.KnownBytes.{Appends-kept, Appends-nil, Appends-trans, Consumes-nil, Consumes-trans}
@@ -14,7 +14,7 @@ use Rattle.encoding_mem.specs.Items.{Item, trace_from}
 use Rattle.encoding_mem.specs.declared.form.EscapeState.{EscapeState}
 use Rattle.encoding_mem.specs.declared.form.EscapeState.TheVariants.{Ascii}
 use Rattle.encoding_mem.specs.Decided.{AreBytes, IsDecided, IsFixed}
-use Rattle.encoding_mem.specs.laws.Piece.{sizes-append, text-append, well_formed_text}
+use Rattle.encoding_mem.specs.laws.Piece.{sizes-append, text-append}
 use Rattle.encoding_mem.specs.laws.EncoderCalls.{last_set-append, open_from-append}
 use Rattle.recode_log.specs.Line.{line_bytes}
 use Rattle.recode_log.specs.declared.line.LogLine.{LogLine}
@@ -32,7 +32,6 @@ use Rattle.recode.specs.Session.{IsNewSession, View}
 use Rattle.recode.specs.declared.counts.Counts.{Counts}
 use Rattle.recode.specs.declared.job.Job.{Job}
 use Rattle.recode.specs.declared.job.Policy.{Policy}
-use Rattle.recode.proofs.DecoderCallLemmas.{WellFormedCall}
 use Rattle.recode.specs.laws.Items.{log_bytes-append, tagged-append, output_bytes-append}
 use Rattle.recode.proofs.TraceLemmas.{log_bytes-trace, output_bytes-trace, whole_from-append}
 

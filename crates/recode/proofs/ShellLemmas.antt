@@ -1,8 +1,7 @@
 -- What the loop that calls the writers makes of the engine's calls.
-use Rattle.std.proofs.Common.{◌≡◌, ℕ, ◌+◌, ◌-◌, ◌≤◌, ◌^◌, Bool, true, List, [], ◌++◌, map, take, drop, length, length-append, length-take-le, ◌<◌, Option, None, Result, Ok, Err, OnOk, IfErr, refl, sym, ◌∙◌, ap, subst, arith, append-nil, append_assoc}
+use Rattle.std.proofs.Common.{◌≡◌, ℕ, ◌+◌, ◌-◌, ◌≤◌, ◌^◌, Bool, true, List, [], ◌++◌, map, length, length-append, ◌<◌, Option, None, Result, Ok, Err, OnOk, IfErr, refl, sym, ◌∙◌, ap, subst, arith, append-nil, append_assoc}
 use Rattle.std.proofs.lemmas.Str.{chars-nil}
 use Rattle.std.specs.Str.{all_scalars, encode_utf8_all}
-use borrow.Rule.Slice.PartMut.{put_mid}
 use Rattle.encoding_mem.proofs.Utf16Lemmas.{no_units}
 use Rattle.encoding_mem.specs.Items.{Byte, Item, trace_from}
 use Rattle.encoding_mem.specs.calls.Writing.{encode_utf16_all}
@@ -29,7 +28,7 @@ use Rattle.recode.specs.declared.writers.Writers.{Writers}
 use Rattle.recode.specs.laws.Items.{lost_line_count-bytes, spared_append, spared_nil}
 use Rattle.recode.proofs.BufferLemmas.{view_none}
 use Rattle.recode.proofs.ConvertLemmas.{as_nothing_waits}
-use Rattle.recode.proofs.HandsLemmas.{err_map, hands_start, hands_then, ok_map}
+use Rattle.recode.proofs.HandsLemmas.{err_map, hands_start, hands_then}
 use Rattle.recode.proofs.HeldLemmas.{left_for_of}
 use Rattle.recode.proofs.TurnLemmas.{nothing_waits, turns_more, turns_start}
 

@@ -1,5 +1,5 @@
 -- What a call of an encoder makes of the verdict, if it was read back, and if something is lost.
-use Rattle.std.proofs.Common.{◌≡◌, ◌⊎◌, ◌↔◌, ℕ, Bool, true, false, IsTrue, IsFalse, List, [], ◌∷◌, ◌++◌, drop, refl, sym, ◌∙◌, ap, subst, inl, inr}
+use Rattle.std.proofs.Common.{◌≡◌, ◌⊎◌, ◌↔◌, ℕ, Bool, true, false, IsTrue, IsFalse, List, [], ◌∷◌, ◌++◌, refl, sym, ◌∙◌, ap, subst, inl, inr}
 use Rattle.std.proofs.Math.Logic.{∥∥₁_elim, ∥∥₁_map}
 use Rattle.std.proofs.Props.{props}
 use Rattle.std.specs.Bool.{MatchBool}
@@ -8,10 +8,7 @@ use Rattle.std.proofs.lemmas.Bool.{false≢true}
 use Rattle.encoding_mem.specs.Coding.{Coding, IsCoding}
 use Rattle.encoding_mem.specs.calls.EncoderCalls.{Encodes}
 use Rattle.encoding_mem.specs.Piece.{Piece, well_formed, malformed, text, AreWellFormed}
-use Rattle.encoding_mem.specs.calls.ReadCalls.{CallsAlong, HoldsAfter, KeepsVerdict, IsNotUnmappable, ReadsAlong, ReadsWhole}
-use Rattle.encoding_mem.specs.calls.Decoding.{DecoderState}
-use Rattle.encoding_mem.specs.laws.Agreement.{well_formed_parts}
-use Rattle.encoding_mem.specs.laws.Piece.{AreWellFormed-append, text-append, well_formed_text}
+use Rattle.encoding_mem.specs.calls.ReadCalls.{CallsAlong, HoldsAfter, KeepsVerdict, IsNotUnmappable, ReadsAlong}
 use Rattle.encoding_mem.specs.laws.ReadCalls.{begins_along, differing_part_never_reads, ends_along, lost_never_reads, next_along, verdict_of_call}
 use Rattle.encoding_mem.specs.laws.Verdict.{keeps_agreed, keeps_false, keeps_lost}
 use Rattle.encoding_mem.specs.declared.form.EscapeState.{EscapeState}
@@ -20,7 +17,6 @@ use Rattle.encoding_mem.specs.declared.reference.Reference.{Reference}
 use Rattle.encoding_mem.specs.declared.encoder_result.EncoderResult.{EncoderResult}
 use Rattle.encoding_mem.specs.declared.encoder_result.EncoderResult.TheVariants.{InputEmpty, OutputFull, Unmappable}
 use Rattle.recode.specs.calls.Verdict.{CanTell, IsFaithfulFor, IsReadAlong, IsReadBack, IsToldAtEnd, IsToldByLog, VerdictIsKept, ReadsAsOther, ReadsAsText, VerdictView, to_read}
-use Rattle.recode.proofs.DecoderCallLemmas.{WellFormedCall}
 
 -- ---- facts that have one proof
 

@@ -1,5 +1,5 @@
 -- What is held of the log and of the output, and how lines and bytes are passed on after it.
-use Rattle.std.specs.Prelude.{◌≡◌, List, [], ◌∷◌, ◌++◌, map, Bool, true, ℕ, Option, Some, None}
+use Rattle.std.specs.Prelude.{◌≡◌, List, [], ◌∷◌, ◌++◌, map, Bool, ℕ, Option, Some, None}
 use Rattle.encoding_mem.specs.Items.{Item, Byte, LostAt, MalformedAt}
 use Rattle.recode_log.specs.Line.{line_bytes}
 use Rattle.recode_log.specs.declared.line.LogLine.{LogLine}

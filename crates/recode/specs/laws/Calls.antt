@@ -1,11 +1,9 @@
 -- Calls of a converter add up, and together are the conversion of what they were handed.
-use Rattle.std.proofs.Common.{◌≡◌, ℕ, ◌+◌, ◌↔◌, Bool, true, false, IsTrue, List, [], ◌++◌, length, refl, sym, ◌∙◌, ap, subst, arith, append_assoc, append-nil, length-append}
+use Rattle.std.proofs.Common.{◌≡◌, ℕ, ◌↔◌, Bool, true, false, List, [], ◌++◌, refl, sym, ◌∙◌, ap, subst, arith, append_assoc, append-nil, length-append}
 use Rattle.encoding_mem.specs.Items.{Item}
-use Rattle.encoding_mem.specs.Coding.{lost_count}
-use Rattle.encoding_mem.specs.Piece.{malformed_count}
 use Rattle.encoding_mem.specs.declared.form.EscapeState.TheVariants.{Ascii}
 use Rattle.recode.specs.Converter.{ConverterView, ConvertsPart, HasTaken, IsFreshConverter, IsReportButCalls, IsWhole, WillKeep, owes}
-use Rattle.recode.specs.Job.{Faithful, input_pieces, input_text, target_of, whole_trace}
+use Rattle.recode.specs.Job.{input_pieces, target_of, whole_trace}
 use Rattle.recode.specs.Policy.{reference_form}
 use Rattle.recode.specs.Session.{ReportsOn}
 use Rattle.recode.specs.WrittenItems.{bad_line_count, lost_line_count}

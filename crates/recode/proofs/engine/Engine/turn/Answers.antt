@@ -1,13 +1,12 @@
-use Rattle.std.proofs.Common.{append-nil, ◌∷◌, ◌-◌, ◌++◌, ◌∙◌, ◌≡◌, [], Some, true, false, arith, refl, sym, ap, map, take, drop, subst}
+use Rattle.std.proofs.Common.{append-nil, ◌∷◌, ◌-◌, ◌++◌, ◌∙◌, ◌≡◌, [], Some, arith, refl, sym, ap, map, take, drop, subst}
 use Rattle.encoding_mem.specs.Items.{Byte}
 use Rattle.recode.specs.Policy.{reference_form}
 use Rattle.recode.specs.calls.EngineView.{standing}
 use Rattle.recode.specs.declared.job.Policy.{Policy}
 use Rattle.encoding_mem.specs.Items.{MalformedAt}
 use Rattle.encoding_mem.specs.declared.decoder_result.DecoderResult.TheVariants.{InputEmpty, Malformed, OutputFull}
-use Rattle.recode.specs.calls.Turns.{IsOpenFor, TakesTurns, is_last_text}
-use Rattle.recode.specs.calls.Verdict.{CanTell}
-use Rattle.recode.proofs.TurnLemmas.{replaced_state, turns_more}
+use Rattle.recode.specs.calls.Turns.{TakesTurns, is_last_text}
+use Rattle.recode.proofs.TurnLemmas.{replaced_state}
 use Rattle.recode.proofs.VerdictLemmas.{lost_tells}
 use Rattle.recode.proofs.ConvertLemmas.{done_in, encoded, finish_empty_in, finish_full_in, lost_some, offset_fits, replace_turn_in, some_passed, text_fits}
 use Rattle.recode.proofs.engine.Engine.turn.Goals as goal

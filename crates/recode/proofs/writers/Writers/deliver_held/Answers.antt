@@ -1,7 +1,6 @@
 use Rattle.std.proofs.Common.{[], ◌++◌, ap, map, refl, rules, take}
 use Rattle.encoding_mem.specs.Items.{Byte}
 use Rattle.recode.specs.calls.Held.{line_items}
-use Rattle.recode.specs.laws.Items.{spared_nil}
 use Rattle.recode.proofs.HandsLemmas.{hands_after, hands_fault}
 use Rattle.recode.proofs.HeldLemmas.{delivers, hands_each}
 use Rattle.recode.proofs.TraceLemmas.{under_bytes}

@@ -1,6 +1,5 @@
 use Rattle.std.proofs.Common.{[], ◌∷◌, rules}
 use Rattle.recode.specs.calls.Held.{item_of, log_line_of}
-use Rattle.recode.specs.laws.Items.{spared_nil}
 use Rattle.recode.proofs.HandsLemmas.{hands_after, hands_fault}
 use Rattle.recode.proofs.HeldLemmas.{holds_line, none_held}
 use Rattle.recode.proofs.writers.Writers.hold_line.Goals as goal

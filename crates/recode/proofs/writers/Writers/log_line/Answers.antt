@@ -1,6 +1,5 @@
 use Rattle.std.proofs.Common.{[], ◌∷◌, ◌∙◌, ap, ◌++◌, rules, take}
 use Rattle.recode.specs.calls.Held.{held_line_bytes, item_of}
-use Rattle.recode.specs.laws.Items.{spared_nil}
 use Rattle.recode.proofs.HandsLemmas.{hands_after, hands_fault}
 use Rattle.recode.proofs.HeldLemmas.{lines_part, lines_whole, none_held}
 use Rattle.recode.proofs.writers.Writers.log_line.Goals as goal

@@ -1,6 +1,6 @@
-use Rattle.std.proofs.Common.{◌∙◌, ◌∷◌, ◌++◌, [], ap, map, rules, subst, sym}
+use Rattle.std.proofs.Common.{◌∙◌, ◌++◌, ap, map, rules, subst, sym}
 use Rattle.encoding_mem.specs.Coding.{reference_bytes}
-use Rattle.encoding_mem.specs.Items.{Byte, LostAt}
+use Rattle.encoding_mem.specs.Items.{Byte}
 use Rattle.recode.specs.Policy.{reference_form}
 use Rattle.recode.specs.calls.Held.{held_items}
 use Rattle.recode.specs.calls.Writers.{HandsOn, writers_view}

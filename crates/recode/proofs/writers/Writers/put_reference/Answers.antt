@@ -1,7 +1,6 @@
-use Rattle.std.proofs.Common.{[], ◌++◌, ◌∙◌, ap, map, rules, take}
+use Rattle.std.proofs.Common.{◌++◌, ◌∙◌, ap, map, rules, take}
 use Rattle.encoding_mem.specs.Coding.{reference_bytes}
 use Rattle.encoding_mem.specs.Items.{Byte}
-use Rattle.recode.specs.laws.Items.{spared_nil}
 use Rattle.recode.proofs.HandsLemmas.{hands_after, hands_fault}
 use Rattle.recode.proofs.HeldLemmas.{delivers_part, delivers_whole, holds, none_held}
 use Rattle.recode.proofs.writers.Writers.put_reference.Goals as goal
