@@ -100,7 +100,7 @@ impl<D: StreamDecoder, E: RawEncoder> Engine<D, E> {
     ghost use Rattle.recode.specs.calls.Buffers.{HoldsAnyCharacter, KeepsRoom, is_wide};
     ghost use Rattle.recode.specs.calls.CodecCalls.{writes_all};
     ghost use Rattle.recode.specs.calls.EngineView.{HoldsBetween, chars_between, standing};
-    ghost use Rattle.recode.specs.calls.EngineView.{engine_state, engine_target};
+    ghost use Rattle.recode.specs.calls.EngineView.{engine_state, engine_target, replacing};
     ghost use Rattle.recode.specs.calls.Lent.{AreLent, KeepsLent};
     ghost use Rattle.recode.specs.calls.Text.{CanEncode};
     ghost use Rattle.recode.specs.calls.Turns.{CanGoOn, ConvertEndsWith, EncodesOnce, TakesTurns};
@@ -162,13 +162,7 @@ impl<D: StreamDecoder, E: RawEncoder> Engine<D, E> {
         requires offset { after + size ≤ self.old.counts.read }
         requires pivot { HoldsAnyCharacter pivot.old }
         ensures line { result ≡ LogLine.Bad (self.old.counts.read - after - size) size }
-        ensures same { self.new ≡ record self.old {
-          counts = record self.old.counts { bad = self.old.counts.bad + 1 };
-          verdict = record self.old.verdict { faithful = false };
-          answer = Some DecoderResult.OutputFull;
-          from = 0;
-          to = self.new.to;
-        } }
+        ensures same { self.new ≡ replacing self.old self.new.to }
         ensures text { chars_between pivot.new 0 self.new.to ≡ 0xFFFD ∷ [] }
         ensures holds { HoldsBetween pivot.new 0 self.new.to }
         ensures pivot { KeepsRoom pivot.old pivot.new }

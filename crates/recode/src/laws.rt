@@ -324,11 +324,9 @@ pub fn decided_pieces_are_converted()
         → sizes qs + 3 ≤ length x → IsPrefix qs ps }
 {}
 
-/// Calls of a converter keep the promise of `run`. A new one was handed nothing, and each call is
-/// added to those before: it is handed what they left, and more. Once all is written, what they
-/// wrote and found is what the job makes of all that they were handed, and what is reported is the
-/// report on it. Before that it is the first part of it, however the input goes on.
-pub fn calls_are_a_conversion()
+/// A new converter was handed nothing. Each call is added to those before: it is handed what they
+/// left, and more, or nothing more after the last bytes.
+pub fn calls_add_up()
     ensures begins { (j : Job) (v : ConverterView) → IsFreshConverter v j
         → HasTaken j false [] [] [] v }
     ensures goes_on { (j : Job) (last last' : Bool) (bytes rest more rest' : List ℕ)
@@ -336,6 +334,12 @@ pub fn calls_are_a_conversion()
         → (last ≡ true → (last' ≡ true) × (more ≡ [])) → HasTaken j last bytes rest items v
         → ConvertsPart v v' last' (rest ++ more) rest' items'
         → HasTaken j last' (bytes ++ more) rest' (items ++ items') v' }
+{}
+
+/// Calls of a converter keep the promise of `run`. Once all is written, what they wrote and found
+/// is what the job makes of all that they were handed, and what is reported is the report on it.
+/// Before that it is the first part of it, however the input goes on.
+pub fn calls_are_a_conversion()
     ensures owes { (j : Job) (last : Bool) (bytes rest : List ℕ) (items : List Item)
         (v : ConverterView) → HasTaken j last bytes rest items v
         → (r : List ℕ) → (last ≡ true → r ≡ [])
