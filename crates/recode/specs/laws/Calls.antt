@@ -11,47 +11,49 @@ use Rattle.recode.specs.declared.job.Job.{Job}
 use Rattle.recode.specs.declared.job.Report.{Report}
 use Rattle.recode.specs.laws.Items.{AreCounted-trans, bad_line_count-trace, lost_line_count-trace}
 
--- a new converter was handed nothing
-pub taken_first : (j : Job) (v : ConverterView) → IsFreshConverter v j → HasTaken j false [] [] [] v
-taken_first j v fresh = record {
-  new = v;
-  fresh = fresh;
-  law = record {
-    job = refl;
-    owed = λ r none. refl;
-    verdict = λ r none. ((λ k. k), (λ k. k));
-    source = λ r none. refl;
-    counted = refl;
-    lines = record { bad = omega arith; lost = omega arith };
-    ended = λ is. absurd (cc (sym is ∙ fresh.ended));
-  };
+-- no call takes nothing
+pub part_none : (v : ConverterView) (last : Bool) (src : List ℕ) → (v.ended ≡ true → (last ≡ true) × (src ≡ [])) → ConvertsPart v v last src src []
+part_none v last src ended = record {
+  job = refl;
+  owed = λ r none. refl;
+  verdict = λ r none. ((λ k. k), (λ k. k));
+  source = λ r none. refl;
+  counted = refl;
+  lines = record { bad = omega arith; lost = omega arith };
+  ended = ended;
 }
 
 -- one more call, for what the calls before it left and for more, if that was not the last
-pub taken_on : (j : Job) (last last' : Bool) (bytes rest more rest' : List ℕ) (items items' : List Item) (v v' : ConverterView) → (last ≡ true → (last' ≡ true) × (more ≡ []))
-    → HasTaken j last bytes rest items v → ConvertsPart v v' last' (rest ++ more) rest' items' → HasTaken j last' (bytes ++ more) rest' (items ++ items') v'
-taken_on j last last' bytes rest more rest' items items' v v' end h p = record {
-  new = h.new;
-  fresh = h.fresh;
-  law = record {
-    job = p.job ∙ h.law.job;
-    owed = λ r none. ap (owes h.new) (append_assoc bytes more r) ∙ h.law.owed (more ++ r) (nothing r none) ∙ ap (λ x. items ++ owes v x) (sym (append_assoc rest more r))
-        ∙ ap (λ x. items ++ x) (p.owed r none) ∙ sym (append_assoc items items' (owes v' (rest' ++ r)));
-    verdict = λ r none.
-        let first : WillKeep h.new ((bytes ++ more) ++ r) ↔ WillKeep v ((rest ++ more) ++ r) =
-        subst (λ x. WillKeep h.new x ↔ WillKeep v ((rest ++ more) ++ r)) (sym (append_assoc bytes more r))
-        (subst (λ x. WillKeep h.new (bytes ++ (more ++ r)) ↔ WillKeep v x) (sym (append_assoc rest more r)) (h.law.verdict (more ++ r) (nothing r none))) in
-        let second = p.verdict r none in
-        ((λ k. second.0 (first.0 k)), (λ k. first.1 (second.1 k)));
-    source = λ r none. ap h.new.state.source (append_assoc bytes more r) ∙ h.law.source (more ++ r) (nothing r none) ∙ ap v.state.source (sym (append_assoc rest more r)) ∙ p.source r none;
-    counted = omega (arith, h.law.counted, p.counted, length-append rest more, length-append bytes more);
-    lines = AreCounted-trans h.new.state.counts v.state.counts v'.state.counts items items' h.law.lines p.lines;
-    ended = p.ended;
-  };
+pub part_then : (v v1 v2 : ConverterView) (last last' : Bool) (bytes rest more rest' : List ℕ) (items items' : List Item) → (last ≡ true → (last' ≡ true) × (more ≡ []))
+    → ConvertsPart v v1 last bytes rest items → ConvertsPart v1 v2 last' (rest ++ more) rest' items' → ConvertsPart v v2 last' (bytes ++ more) rest' (items ++ items')
+part_then v v1 v2 last last' bytes rest more rest' items items' end p q = record {
+  job = q.job ∙ p.job;
+  owed = λ r none. ap (owes v) (append_assoc bytes more r) ∙ p.owed (more ++ r) (nothing r none) ∙ ap (λ x. items ++ owes v1 x) (sym (append_assoc rest more r))
+      ∙ ap (λ x. items ++ x) (q.owed r none) ∙ sym (append_assoc items items' (owes v2 (rest' ++ r)));
+  verdict = λ r none.
+      let first : WillKeep v ((bytes ++ more) ++ r) ↔ WillKeep v1 ((rest ++ more) ++ r) =
+      subst (λ x. WillKeep v x ↔ WillKeep v1 ((rest ++ more) ++ r)) (sym (append_assoc bytes more r))
+      (subst (λ x. WillKeep v (bytes ++ (more ++ r)) ↔ WillKeep v1 x) (sym (append_assoc rest more r)) (p.verdict (more ++ r) (nothing r none))) in
+      let second = q.verdict r none in
+      ((λ k. second.0 (first.0 k)), (λ k. first.1 (second.1 k)));
+  source = λ r none. ap v.state.source (append_assoc bytes more r) ∙ p.source (more ++ r) (nothing r none) ∙ ap v1.state.source (sym (append_assoc rest more r)) ∙ q.source r none;
+  counted = omega (arith, p.counted, q.counted, length-append rest more, length-append bytes more);
+  lines = AreCounted-trans v.state.counts v1.state.counts v2.state.counts items items' p.lines q.lines;
+  ended = q.ended;
 }
   where
     nothing : (r : List ℕ) → (last' ≡ true → r ≡ []) → last ≡ true → more ++ r ≡ []
     nothing r none is = ap (λ x. x ++ r) (end is).1 ∙ none (end is).0
+
+-- a new converter was handed nothing
+pub taken_first : (j : Job) (v : ConverterView) → IsFreshConverter v j → HasTaken j false [] [] [] v
+taken_first j v fresh = record { new = v; fresh = fresh; law = part_none v false [] (λ is. absurd (cc (sym is ∙ fresh.ended))) }
+
+-- and each call is added
+pub taken_on : (j : Job) (last last' : Bool) (bytes rest more rest' : List ℕ) (items items' : List Item) (v v' : ConverterView) → (last ≡ true → (last' ≡ true) × (more ≡ []))
+    → HasTaken j last bytes rest items v → ConvertsPart v v' last' (rest ++ more) rest' items' → HasTaken j last' (bytes ++ more) rest' (items ++ items') v'
+taken_on j last last' bytes rest more rest' items items' v v' end h p =
+    record { new = h.new; fresh = h.fresh; law = part_then h.new v v' last last' bytes rest more rest' items items' end h.law p }
 
 -- whatever follows, what a job makes of all is what the calls wrote and found, and then what is owed now
 pub owed_on : (j : Job) (last : Bool) (bytes rest : List ℕ) (items : List Item) (v : ConverterView) → HasTaken j last bytes rest items v
