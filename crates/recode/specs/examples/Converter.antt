@@ -18,6 +18,7 @@ unfolding digits
 lost_is_found = refl
 
 lost_in_hexadecimal : found_items Hexadecimal (Found (Lost 1 0xE8)) ≡ LostAt 1 0xE8 ∷ map Byte (codes "&#xE8;")
+unfolding digits
 lost_in_hexadecimal = refl
 
 nothing_is_found : found_items Decimal OutputFull ≡ []
