@@ -84,7 +84,7 @@ pub record ConvertsPart (v v' : ConverterView) (last : Bool) (bytes rest : List 
 
 -- Calls of a converter, from a new one of a job on: of these bytes the rest is left, to be handed in again, and they
 -- wrote and found these items.
-pub record HasTaken (j : Job) (last : Bool) (bytes rest : List ℕ) (items : List Item) (v : ConverterView) : Type 0 where
+pub record ConvertedSoFar (j : Job) (last : Bool) (bytes rest : List ℕ) (items : List Item) (v : ConverterView) : Type 0 where
   pub new : ConverterView
   pub fresh : IsFreshConverter new j
   pub law : ConvertsPart new v last bytes rest items

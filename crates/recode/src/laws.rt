@@ -27,7 +27,7 @@ ghost use Rattle.recode_log.specs.Line.{line_bytes};
 ghost use Rattle.recode_log.specs.declared.line.LogLine.TheVariants.{Lost};
 ghost use Rattle.recode.specs.Job.{Faithful, IsValidJob, input_pieces, input_text, log_lines};
 ghost use Rattle.recode.specs.Job.{log_of, lost_log_lines, output_of, output_pieces, target_of};
-ghost use Rattle.recode.specs.Converter.{ConverterView, ConvertsPart, HasTaken};
+ghost use Rattle.recode.specs.Converter.{ConverterView, ConvertsPart, ConvertedSoFar};
 ghost use Rattle.recode.specs.Converter.{IsFreshConverter, IsReportButCalls, IsWhole, owes};
 ghost use Rattle.recode.specs.Job.{trace, whole_trace};
 ghost use Rattle.recode.specs.Job.{RunsThrough, lines_up_to_loss};
@@ -328,12 +328,12 @@ pub fn decided_pieces_are_converted()
 /// left, and more, or nothing more after the last bytes.
 pub fn calls_add_up()
     ensures begins { (j : Job) (v : ConverterView) → IsFreshConverter v j
-        → HasTaken j false [] [] [] v }
+        → ConvertedSoFar j false [] [] [] v }
     ensures goes_on { (j : Job) (last last' : Bool) (bytes rest more rest' : List ℕ)
         (items items' : List Item) (v v' : ConverterView)
-        → (last ≡ true → (last' ≡ true) × (more ≡ [])) → HasTaken j last bytes rest items v
+        → (last ≡ true → (last' ≡ true) × (more ≡ [])) → ConvertedSoFar j last bytes rest items v
         → ConvertsPart v v' last' (rest ++ more) rest' items'
-        → HasTaken j last' (bytes ++ more) rest' (items ++ items') v' }
+        → ConvertedSoFar j last' (bytes ++ more) rest' (items ++ items') v' }
 {}
 
 /// Calls of a converter keep the promise of `run`. Once all is written, what they wrote and found
@@ -341,12 +341,12 @@ pub fn calls_add_up()
 /// Before that it is the first part of it, however the input goes on.
 pub fn calls_are_a_conversion()
     ensures owes { (j : Job) (last : Bool) (bytes rest : List ℕ) (items : List Item)
-        (v : ConverterView) → HasTaken j last bytes rest items v
+        (v : ConverterView) → ConvertedSoFar j last bytes rest items v
         → (r : List ℕ) → (last ≡ true → r ≡ [])
         → whole_trace j (bytes ++ r) ≡ items ++ owes v (rest ++ r) }
     ensures whole { (j : Job) (bytes : List ℕ) (items : List Item) (v : ConverterView)
-        → HasTaken j true bytes [] items v → IsWhole v → items ≡ whole_trace j bytes }
+        → ConvertedSoFar j true bytes [] items v → IsWhole v → items ≡ whole_trace j bytes }
     ensures report { (j : Job) (bytes : List ℕ) (items : List Item) (v : ConverterView)
-        (p : Report) → HasTaken j true bytes [] items v → IsWhole v → ReportsOn v.state p
+        (p : Report) → ConvertedSoFar j true bytes [] items v → IsWhole v → ReportsOn v.state p
         → IsReportButCalls j bytes p }
 {}

@@ -1,5 +1,5 @@
 -- Worked rows of `specs/Converter.antt`.
-use Rattle.std.specs.Prelude.{◌≡◌, ◌<◌, List, [], ◌∷◌, codes, false, map, refl, true}
+use Rattle.std.specs.Prelude.{◌≡◌, [], ◌∷◌, codes, false, map, refl, true}
 use Rattle.std.specs.Fmt.{digits}
 use Rattle.std.proofs.Common.{arith}
 use Rattle.encoding_mem.specs.Items.{Byte, LostAt, MalformedAt}

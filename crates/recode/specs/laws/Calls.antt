@@ -2,7 +2,7 @@
 use Rattle.std.proofs.Common.{◌≡◌, ℕ, ◌↔◌, Bool, true, false, List, [], ◌++◌, refl, sym, ◌∙◌, ap, subst, arith, append_assoc, append-nil, length-append}
 use Rattle.encoding_mem.specs.Items.{Item}
 use Rattle.encoding_mem.specs.declared.form.EscapeState.TheVariants.{Ascii}
-use Rattle.recode.specs.Converter.{ConverterView, ConvertsPart, HasTaken, IsFreshConverter, IsReportButCalls, IsWhole, WillKeep, owes}
+use Rattle.recode.specs.Converter.{ConverterView, ConvertsPart, ConvertedSoFar, IsFreshConverter, IsReportButCalls, IsWhole, WillKeep, owes}
 use Rattle.recode.specs.Job.{input_pieces, target_of, whole_trace}
 use Rattle.recode.specs.Policy.{reference_form}
 use Rattle.recode.specs.Session.{ReportsOn}
@@ -46,27 +46,27 @@ part_then v v1 v2 last last' bytes rest more rest' items items' end p q = record
     nothing r none is = ap (λ x. x ++ r) (end is).1 ∙ none (end is).0
 
 -- a new converter was handed nothing
-pub taken_first : (j : Job) (v : ConverterView) → IsFreshConverter v j → HasTaken j false [] [] [] v
+pub taken_first : (j : Job) (v : ConverterView) → IsFreshConverter v j → ConvertedSoFar j false [] [] [] v
 taken_first j v fresh = record { new = v; fresh = fresh; law = part_none v false [] (λ is. absurd (cc (sym is ∙ fresh.ended))) }
 
 -- and each call is added
 pub taken_on : (j : Job) (last last' : Bool) (bytes rest more rest' : List ℕ) (items items' : List Item) (v v' : ConverterView) → (last ≡ true → (last' ≡ true) × (more ≡ []))
-    → HasTaken j last bytes rest items v → ConvertsPart v v' last' (rest ++ more) rest' items' → HasTaken j last' (bytes ++ more) rest' (items ++ items') v'
+    → ConvertedSoFar j last bytes rest items v → ConvertsPart v v' last' (rest ++ more) rest' items' → ConvertedSoFar j last' (bytes ++ more) rest' (items ++ items') v'
 taken_on j last last' bytes rest more rest' items items' v v' end h p =
     record { new = h.new; fresh = h.fresh; law = part_then h.new v v' last last' bytes rest more rest' items items' end h.law p }
 
 -- whatever follows, what a job makes of all is what the calls wrote and found, and then what is owed now
-pub owed_on : (j : Job) (last : Bool) (bytes rest : List ℕ) (items : List Item) (v : ConverterView) → HasTaken j last bytes rest items v
+pub owed_on : (j : Job) (last : Bool) (bytes rest : List ℕ) (items : List Item) (v : ConverterView) → ConvertedSoFar j last bytes rest items v
     → (r : List ℕ) → (last ≡ true → r ≡ []) → whole_trace j (bytes ++ r) ≡ items ++ owes v (rest ++ r)
 owed_on j last bytes rest items v h r none = sym (h.fresh.owes_trace (bytes ++ r)) ∙ h.law.owed r none
 
 -- if all is written, that is all that the job makes of what was handed in
-pub taken_whole : (j : Job) (bytes : List ℕ) (items : List Item) (v : ConverterView) → HasTaken j true bytes [] items v → IsWhole v → items ≡ whole_trace j bytes
+pub taken_whole : (j : Job) (bytes : List ℕ) (items : List Item) (v : ConverterView) → ConvertedSoFar j true bytes [] items v → IsWhole v → items ≡ whole_trace j bytes
 taken_whole j bytes items v h whole =
     sym (ap (whole_trace j) (sym (append-nil bytes)) ∙ owed_on j true bytes [] items v h [] (λ _. refl) ∙ ap (λ t. items ++ t) whole.written ∙ append-nil items)
 
 -- and what is reported is the report on it
-pub taken_report : (j : Job) (bytes : List ℕ) (items : List Item) (v : ConverterView) (p : Report) → HasTaken j true bytes [] items v → IsWhole v → ReportsOn v.state p
+pub taken_report : (j : Job) (bytes : List ℕ) (items : List Item) (v : ConverterView) (p : Report) → ConvertedSoFar j true bytes [] items v → IsWhole v → ReportsOn v.state p
     → IsReportButCalls j bytes p
 taken_report j bytes items v p h whole tells =
     let all : items ≡ whole_trace j bytes = taken_whole j bytes items v h whole in

@@ -11,8 +11,10 @@ pub returns : goal.returns
 returns g c =
     let e = c.in_ok-deliver_held.ensures in
     let holds = holds_line _ _ _ c.args.line e.none.line (none_held _ c.deliver_held.new.self.buffer.now e.none.bytes) in
-    record { hands = hands_after e.hands (record {
-      ok = holds;
-      err = tt;
-      failures = search rules;
-    }) }
+    record {
+      hands = hands_after e.hands (record {
+        ok = holds;
+        err = tt;
+        failures = search rules;
+      });
+    }

@@ -14,15 +14,19 @@ returns-in_ok-deliver_held g c =
     let none = none_held _ c.deliver_held.new.self.buffer.now e.none.bytes in
     let held = take c.deliver_held.new.self.held c.deliver_held.new.self.buffer.now in
     let is = c.write_reference-len.ensures.reference in
-    record { hands = hands_after e.hands (record {
-      ok = delivers_whole _ _ _ _ _ held _ _ _ _ e.none.line none is c.deliver.ensures.ok;
-      err = delivers_part _ _ _ _ _ held _ _ _ _ e.none.line none is _ c.deliver.ensures.fault c.deliver.ensures.err;
-      failures = search rules;
-    }) }
+    record {
+      hands = hands_after e.hands (record {
+        ok = delivers_whole _ _ _ _ _ held _ _ _ _ e.none.line none is c.deliver.ensures.ok;
+        err = delivers_part _ _ _ _ _ held _ _ _ _ e.none.line none is _ c.deliver.ensures.fault c.deliver.ensures.err;
+        failures = search rules;
+      });
+    }
 
 pub returns-else-len-self : goal.returns-else-len-self
-returns-else-len-self g c = record { hands = record {
-  ok = holds _ _ _ _ _ (c.put_all-self.ensures.prefix ∙ ap (λ x. take c.args.self.now.held c.args.self.now.buffer.now ++ x) c.write_reference-len.ensures.reference);
-  err = tt;
-  failures = search rules;
-} }
+returns-else-len-self g c = record {
+  hands = record {
+    ok = holds _ _ _ _ _ (c.put_all-self.ensures.prefix ∙ ap (λ x. take c.args.self.now.held c.args.self.now.buffer.now ++ x) c.write_reference-len.ensures.reference);
+    err = tt;
+    failures = search rules;
+  };
+}
