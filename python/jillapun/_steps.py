@@ -7,13 +7,10 @@ from typing import BinaryIO, List, Optional, Tuple
 from . import _library as c
 from ._indexes import Indexes, handle_of, number_of
 from ._results import Faults, Lost, Report, Stopped, refuse
-from ._rooms import Kept
+from ._rooms import rooms
 
 # How many bytes a file is read by.
 CHUNK = 1 << 16
-
-# Room for a step: in bytes, and in records of losses. The steps that follow hand out what finds none.
-_rooms = Kept(1 << 16, 1 << 12)
 
 
 class Conversion:
@@ -44,18 +41,18 @@ class Conversion:
 
     def _steps(self, data: bytes, last: bool, faults: Faults) -> Tuple[int, bytes]:
         """Converts the bytes: the status of the last step, and what all steps gave."""
-        status, at, start = c.GOES_ON, 0, c.address_of(data)
-        room, progress = _rooms.take(), self._progress
+        status, at, room, progress = c.GOES_ON, 0, rooms.take(), self._progress
         parts: List[bytes] = []
         while status == c.GOES_ON and (at < len(data) or last or progress.wants_room):
+            left = c.address_of(data) + at if at else data
             status = c.library.jillapun_converter_step(
-                ctypes.byref(self._handle), start + at, len(data) - at, last, *room.words, *self._lent
+                ctypes.byref(self._handle), left, len(data) - at, last, *room.words, *self._lent
             )
             at += progress.read
             if progress.losses:
                 faults.add(room.losses[: progress.losses * c.LOSS.size])
             parts.append(room.bytes[: progress.written])
-        _rooms.give(room)
+        rooms.give(room)
         return status, b"".join(parts)
 
     def _end(self, status: int, output: bytes, faults: Faults) -> None:

@@ -18,7 +18,7 @@ import cases
 import jillapun
 from jillapun import Bad, Lost, _steps
 from jillapun._labels import LABELS
-from jillapun._rooms import Kept
+from jillapun._rooms import Rooms
 from test_codecs import inputs
 
 # The output, what was lost, and the verdict, or what it stopped at.
@@ -78,8 +78,12 @@ class Cuts(unittest.TestCase):
 
     def test_little_room(self) -> None:
         """A byte and a record at a time."""
-        with mock.patch.object(_steps, "_rooms", Kept(1, 1)):
+        with mock.patch.object(_steps, "rooms", Rooms(1, 1)):
             self.each_encoding(5)
+            converter = jillapun.Converter("utf-8", "windows-1252")
+            for _ in range(2):
+                part = converter.convert("a日".encode() + b"\xff")
+                self.assertEqual((part.output, len(part.faults)), (b"a&#26085;&#65533;", 3))
 
     def test_each_target(self) -> None:
         """Texts, of which each encoding lacks some characters, to all encodings."""
