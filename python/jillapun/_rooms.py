@@ -33,4 +33,5 @@ class Rooms(threading.local):
         self._room = room
 
 
-rooms = Rooms(1 << 16, 1 << 12)
+# Of the text of a chunk of a file, three bytes for each of its own, all finds room at once, and of losses some thousands.
+rooms = Rooms(1 << 18, 1 << 12)

@@ -1,39 +1,40 @@
 """Whole texts and inputs in memory."""
 
 import sys
-from typing import List, Optional, Tuple
+from typing import List, Optional, Tuple, cast
 
 from . import _library as c
 from ._indexes import Indexes, handle_of, number_of
-from ._results import Converted, Decoded, Encoded, Fault, Faults, faults_in, refuse
+from ._results import Converted, Decoded, Encoded, Fault, Faults, Report, faults_in, refuse
 from ._rooms import rooms
 from ._steps import Conversion
 
 _UTF_8 = "utf-8"
 
-# Of inputs that are no longer the text, of three bytes for each byte at most, finds room at once.
-_SHORT = 1 << 14
+# How long an input is of which all text has room: in UTF-8 a byte gives three at most.
+_SHORT = 1 << 16
 
 
 def _run(
     data: bytes, source: str, target: str, mark: str, unmappable: str, limit: int, indexes: Optional[Indexes]
 ) -> Tuple[bool, bytes, List[Fault]]:
-    """Whether nothing was lost, the output and the faults: of a short input by one call, if all finds room, which is
-    faster than a conversion by steps."""
+    """Whether nothing was lost, the output and the faults. If the input is short and all has room, one call does it,
+    which takes less time than steps."""
     if len(data) <= _SHORT:
         words = number_of(source), number_of(target), c.MARKS[mark], c.POLICIES[unmappable], limit, data, len(data)
         room = rooms.take()
-        status, report = c.library.jillapun_convert(handle_of(indexes), *words, *room.words, room.told), room.report
-        if status in (c.OK, c.LOSSY):
-            output = room.bytes[: report.written]
-            faults = list(faults_in(room.losses[: report.losses * c.LOSS.size])) if report.losses else []
+        try:
+            status, report = c.library.jillapun_convert(handle_of(indexes), *words, *room.words, room.told), room.report
+            if status in (c.OK, c.LOSSY):
+                faults = list(faults_in(room.losses[: report.losses * c.LOSS.size])) if report.losses else []
+                return status == c.OK, room.bytes[: report.written], faults
+        finally:
             rooms.give(room)
-            return status == c.OK, output, faults
     conversion, told = Conversion(source, target, mark, unmappable, limit, indexes), Faults(keep=sys.maxsize)
     if len(data) > limit:
         refuse(c.TOO_LONG)
     output = conversion.put(data, True, told)
-    return conversion.report.faithful, output, told.kept
+    return cast(Report, conversion.report).faithful, output, told.kept
 
 
 def decode(data: bytes, encoding: str, *, mark: str = "remove", indexes: Optional[Indexes] = None) -> Decoded:

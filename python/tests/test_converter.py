@@ -18,11 +18,12 @@ import cases
 import jillapun
 from jillapun import Bad, Lost, _steps
 from jillapun._labels import LABELS
+from jillapun._results import Fault
 from jillapun._rooms import Rooms
 from test_codecs import inputs
 
 # The output, what was lost, and the verdict, or what it stopped at.
-Made = Tuple[bytes, List[jillapun._results.Fault], Any]
+Made = Tuple[bytes, List[Fault], Any]
 
 TARGETS = ("utf-8", "windows-1252", "shift_jis", "iso-2022-jp", "gb18030", "big5", "x-user-defined")
 
