@@ -5,7 +5,7 @@ from typing import List, Optional, Tuple, cast
 
 from . import _library as c
 from ._indexes import Indexes, handle_of, number_of
-from ._results import Converted, Decoded, Encoded, Fault, Faults, Report, faults_in, refuse
+from ._results import Converted, Decoded, Encoded, Fault, Faults, Lost, Report, Stopped, faults_in, refuse
 from ._rooms import rooms
 from ._steps import Conversion
 
@@ -25,9 +25,12 @@ def _run(
         room = rooms.take()
         try:
             status, report = c.library.jillapun_convert(handle_of(indexes), *words, *room.words, room.told), room.report
-            if status in (c.OK, c.LOSSY):
+            if status in (c.OK, c.LOSSY, c.STOPPED):
+                output = room.bytes[: report.written]
                 faults = list(faults_in(room.losses[: report.losses * c.LOSS.size])) if report.losses else []
-                return status == c.OK, room.bytes[: report.written], faults
+                if status == c.STOPPED:
+                    raise Stopped(Lost(report.index, chr(report.scalar)), output, faults)
+                return status == c.OK, output, faults
         finally:
             rooms.give(room)
     conversion, told = Conversion(source, target, mark, unmappable, limit, indexes), Faults(keep=sys.maxsize)
