@@ -33,5 +33,5 @@ class Rooms(threading.local):
         self._room = room
 
 
-# Of the text of a chunk of a file, three bytes for each of its own, all finds room at once, and of losses some thousands.
+# The text of a chunk of a file, three bytes for each of its own, has room at once, and so have thousands of losses.
 rooms = Rooms(1 << 18, 1 << 12)
