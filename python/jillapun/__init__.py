@@ -11,7 +11,7 @@ is done by a library that is proved, `libjillapun.so`; this package needs nothin
 
 - `decode`, `encode`, `convert`: whole texts and inputs in memory.
 - `convert_file`: a file into another.
-- `open`, `Reader`, `Writer`: files of text. `Decoder`, `Encoder`: streams, chunk by chunk.
+- `open`, `Reader`, `Writer`: files of text. `Decoder`, `Encoder`, `Converter`: streams, chunk by chunk.
 - `register`: codecs for Python's own `open`, `bytes.decode` and all else that is handed a name of an encoding.
 - `Indexes`: the indexes of encodings, from another folder than that of the installation. `name`, `output_name`: labels.
 
@@ -25,17 +25,19 @@ from ._results import (
     Bad,
     Converted,
     ConvertedFile,
+    ConvertedPart,
     Decoded,
     Encoded,
     IndexesMissing,
     JillapunError,
     Lost,
     NotReplaced,
+    Report,
     Stopped,
     TooLong,
     UnknownLabel,
 )
-from ._streams import Decoder, Encoder, Reader, Writer, open
+from ._streams import Converter, Decoder, Encoder, Reader, Writer, open
 from ._texts import convert, decode, encode
 
 
@@ -49,6 +51,8 @@ __all__ = [
     "Bad",
     "Converted",
     "ConvertedFile",
+    "ConvertedPart",
+    "Converter",
     "Decoded",
     "Decoder",
     "Encoded",
@@ -59,6 +63,7 @@ __all__ = [
     "Lost",
     "NotReplaced",
     "Reader",
+    "Report",
     "Stopped",
     "TooLong",
     "UnknownLabel",

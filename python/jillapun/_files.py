@@ -10,7 +10,7 @@ from typing import BinaryIO, Callable, Iterator, List, Optional, Tuple, Union, c
 
 from . import _library as c
 from ._indexes import Indexes, PathLike
-from ._results import ConvertedFile, Fault, Faults, JillapunError, NotReplaced
+from ._results import ConvertedFile, Fault, Faults, JillapunError, NotReplaced, Report, Stopped
 from ._steps import Conversion, chunk_of
 
 
@@ -168,18 +168,22 @@ class _Place:
 
 
 def _put_all(
-    conversion: Conversion, given: BinaryIO, made: BinaryIO, progress: Optional[Callable[[int], object]]
-) -> None:
-    """Converts a file to its end, or as far as it goes."""
+    conversion: Conversion, faults: Faults, given: BinaryIO, made: BinaryIO, progress: Optional[Callable[[int], object]]
+) -> Report:
+    """Converts a file to its end, and returns what is told of it."""
     read = 0
-    while conversion.status == c.GOES_ON:
+    while not conversion.report:
         data = chunk_of(given)
-        for output in conversion.put(data, not data):
-            made.write(output)
+        try:
+            made.write(conversion.put(data, not data, faults))
+        except Stopped as stop:
+            # It is a part, and of no use without what is thrown away.
+            stop.output = b""
+            raise
         read += len(data)
         if progress:
             progress(read)
-    conversion.check()
+    return conversion.report
 
 
 def convert_with(
@@ -198,14 +202,12 @@ def convert_with(
     progress: Optional[Callable[[int], object]] = None,
 ) -> ConvertedFile:
     """`convert_file`, with what is lost handed to `faults`."""
-    conversion = Conversion(source, target, mark, unmappable, c.limit_of(limit), indexes, faults)
+    conversion = Conversion(source, target, mark, unmappable, c.limit_of(limit), indexes)
     place = _Place(target_path, backup)
     with open(source_path, "rb") as given, place.beside() as (path, made):
         before = os.fstat(given.fileno())
         is_in_place = place.old is not None and os.path.samestat(os.stat(place.path), before)
-        _put_all(conversion, given, made, progress)
-        report = conversion.report
-        done = ConvertedFile(report.read, report.bad, report.lost, conversion.status == c.OK, faults.kept)
+        done = ConvertedFile(*_put_all(conversion, faults, given, made, progress), faults.kept)
         if is_in_place and not (done.faithful or lossy or backup):
             raise NotReplaced(done)
         faults.end(done)

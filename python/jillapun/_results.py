@@ -64,8 +64,18 @@ class Converted(NamedTuple):
     `faults` is empty: some encodings write a character as bytes that read back as another."""
 
 
-class ConvertedFile(NamedTuple):
-    """What is told of a file that was converted."""
+class ConvertedPart(NamedTuple):
+    """What a part of a stream gives, and what was lost in it."""
+
+    output: bytes
+    """The bytes in the output encoding that the part decides; what is undecided waits for more."""
+    faults: List[Fault]
+    """What was malformed, and which characters have no bytes, in their order. Offsets and indexes count from the start
+    of the stream."""
+
+
+class Report(NamedTuple):
+    """What is told of a stream that was converted to its end."""
 
     read: int
     """How many bytes were read."""
@@ -76,8 +86,6 @@ class ConvertedFile(NamedTuple):
     faithful: bool
     """Whether nothing was malformed, and the output, read again, is the text of the input. It can be false where both
     counts are 0: some encodings write a character as bytes that read back as another."""
-    kept_faults: List[Fault]
-    """The first of what was malformed or has no bytes, in their order: as many as the call was asked to keep."""
 
     @property
     def summary(self) -> str:
@@ -86,6 +94,22 @@ class ConvertedFile(NamedTuple):
             return "nothing was lost"
         counts = "malformed sequences: %d, characters without bytes: %d" % (self.bad, self.lost)
         return counts if self.bad or self.lost else "some characters do not read back"
+
+
+class ConvertedFile(NamedTuple):
+    """What is told of a file that was converted: the members of its `Report`, and what was kept of its losses."""
+
+    read: int
+    bad: int
+    lost: int
+    faithful: bool
+    kept_faults: List[Fault]
+    """The first of what was malformed or has no bytes, in their order: as many as the call was asked to keep."""
+
+    @property
+    def summary(self) -> str:
+        """What was lost, in words."""
+        return Report(*self[:4]).summary
 
 
 class JillapunError(Exception):
@@ -112,9 +136,10 @@ class Stopped(JillapunError):
         self.lost = lost
         """The character."""
         self.output = output
-        """What was written before it; empty where a file is converted."""
+        """What was written before it, of a stream by the last call; empty where a file is converted."""
         self.faults = list(faults)
-        """What was lost up to it, with it; of a stream or a file, what was kept of that, and it."""
+        """What was lost up to it, with it: of a `Converter` in the last call, of other streams and of a file what was
+        kept of that, and it."""
 
 
 class NotReplaced(JillapunError):

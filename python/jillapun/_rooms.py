@@ -8,18 +8,16 @@ from . import _library as c
 
 
 class Room:
-    """Room for the output of a call and for its records of losses, for so many or more, with its report."""
+    """Room for the output of a call, in bytes, and for its records of losses, with its report."""
 
     def __init__(self, size: int, count: int):
-        # Powers of two, since ctypes makes a type for each size, and keeps it.
-        size, count = (1 << max(least - 1, 0).bit_length() for least in (size, count))
         self.bytes: Any = (ctypes.c_char * size)()
         self.losses: Any = (ctypes.c_char * (count * c.LOSS.size))()
         self.words, self.report = (self.bytes, size, self.losses, count), c.Report()
         self.told = ctypes.byref(self.report)
 
 
-class Kept(threading.local):
+class Rooms(threading.local):
     """A room of each thread, which is used again: to make one takes longer than many calls do."""
 
     def __init__(self, size: int, count: int):
@@ -33,3 +31,7 @@ class Kept(threading.local):
 
     def give(self, room: Room) -> None:
         self._room = room
+
+
+# The text of a chunk of a file, three bytes for each of its own, has room at once, and so have thousands of losses.
+rooms = Rooms(1 << 18, 1 << 12)

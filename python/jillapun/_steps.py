@@ -1,63 +1,70 @@
 """Conversions by steps, over which streams and files stand."""
 
 import ctypes
-from typing import BinaryIO, Iterator, Optional
+import threading
+from typing import BinaryIO, List, Optional, Tuple
 
 from . import _library as c
 from ._indexes import Indexes, handle_of, number_of
-from ._results import Faults, Lost, Stopped, refuse
-from ._rooms import Kept
+from ._results import Faults, Lost, Report, Stopped, refuse
+from ._rooms import rooms
 
 # How many bytes a file is read by.
 CHUNK = 1 << 16
 
-# Room for what most steps give, which read at most 16384 bytes: in bytes, and in records of losses.
-_rooms = Kept(1 << 16, 1 << 14)
-
 
 class Conversion:
-    """A conversion by steps. What it loses goes to `faults`, before the output that follows it is given."""
+    """A stream that is converted part by part, wherever it is cut. Calls of several threads wait for one another. If an
+    exception cuts a call short, the stream has ended: what the call had made is gone."""
 
-    def __init__(
-        self,
-        source: str,
-        target: str,
-        mark: str,
-        unmappable: str,
-        limit: int,
-        indexes: Optional[Indexes],
-        faults: Faults,
-    ):
+    def __init__(self, source: str, target: str, mark: str, unmappable: str, limit: int, indexes: Optional[Indexes]):
         words = number_of(source), number_of(target), c.MARKS[mark], c.POLICIES[unmappable], limit
-        self.faults, self.status, self.report = faults, c.GOES_ON, c.Report()
-        handle = c.Handle()
+        handle, self._progress, self._told = c.Handle(), c.ConverterProgress(), c.Report()
         status = c.streams().jillapun_converter_new(handle_of(indexes), *words, ctypes.byref(handle))
         if status != c.OK:
             refuse(status)
-        self._handle, self._progress = handle, c.ConverterProgress()
-        self._told = ctypes.byref(self._progress), ctypes.byref(self.report)
+        self._handle, self._lent = handle, (ctypes.byref(self._progress), ctypes.byref(self._told))
+        self._lock, self.is_over = threading.RLock(), False
+        self.report: Optional[Report] = None
 
-    def put(self, data: bytes, last: bool) -> Iterator[bytes]:
-        """Converts the next bytes, and the end of the input if they are the last: what each step gives."""
-        room, at, start, progress = _rooms.take(), 0, c.address_of(data), self._progress
-        while self.status == c.GOES_ON and (at < len(data) or last or progress.wants_room):
-            self.status = c.library.jillapun_converter_step(
-                ctypes.byref(self._handle), start + at, len(data) - at, last, *room.words, *self._told
+    def put(self, data: bytes, last: bool, faults: Faults) -> bytes:
+        """What these bytes give, and, if they are the last, the end of the input. What they lose goes to `faults`."""
+        with self._lock:
+            if self.is_over:
+                raise ValueError("the stream has ended")
+            # A callback may call again, and is told that the stream has ended.
+            self.is_over = True
+            status, output = self._steps(data, last, faults)
+            self._end(status, output, faults)
+            self.is_over = last
+            return output
+
+    def _steps(self, data: bytes, last: bool, faults: Faults) -> Tuple[int, bytes]:
+        """Converts the bytes: the status of the last step, and what all steps gave."""
+        status, at, room, progress = c.GOES_ON, 0, rooms.take(), self._progress
+        parts: List[bytes] = []
+        while status == c.GOES_ON and (at < len(data) or last or progress.wants_room):
+            left = c.address_of(data) + at if at else data
+            status = c.library.jillapun_converter_step(
+                ctypes.byref(self._handle), left, len(data) - at, last, *room.words, *self._lent
             )
             at += progress.read
             if progress.losses:
-                self.faults.add(room.losses[: progress.losses * c.LOSS.size])
-            if progress.written:
-                yield room.bytes[: progress.written]
-        _rooms.give(room)
+                faults.add(room.losses[: progress.losses * c.LOSS.size])
+            parts.append(room.bytes[: progress.written])
+        rooms.give(room)
+        return status, b"".join(parts)
 
-    def check(self, output: bytes = b"") -> None:
-        """Raises what the status says if not all was converted."""
-        if self.status == c.STOPPED:
-            lost = Lost(self.report.index, chr(self.report.scalar))
-            raise Stopped(lost, output, self.faults.up_to(lost))
-        if self.status not in (c.GOES_ON, c.OK, c.LOSSY):
-            refuse(self.status)
+    def _end(self, status: int, output: bytes, faults: Faults) -> None:
+        """Keeps what is told at the end of the input, or raises what the status says if the conversion ended before."""
+        told = self._told
+        if status in (c.OK, c.LOSSY):
+            self.report = Report(told.read, told.bad, told.lost, status == c.OK)
+        elif status == c.STOPPED:
+            lost = Lost(told.index, chr(told.scalar))
+            raise Stopped(lost, output, faults.up_to(lost))
+        elif status != c.GOES_ON:
+            refuse(status)
 
     def __del__(self) -> None:
         if hasattr(self, "_handle"):

@@ -1,50 +1,19 @@
-"""Streams: decoders and encoders, chunk by chunk, and files of text over them."""
+"""Streams: decoders, encoders and converters, chunk by chunk, and files of text over them."""
 
 import builtins
 import io
 import sys
-import threading
 from typing import Any, BinaryIO, Callable, Dict, List, Literal, Optional, Union, cast, overload
 
 from . import _library as c
 from ._indexes import Indexes, PathLike
-from ._results import Bad, Faults, Lost, Stopped
+from ._results import Bad, ConvertedPart, Faults, Lost, Report, Stopped
 from ._steps import Conversion, chunk_of
 
 _UTF_8 = "utf-8"
 
 
-class _Stream:
-    """A stream that is converted chunk by chunk. Where an exception cuts a call short, the stream has ended: what the
-    call had made is gone."""
-
-    def __init__(
-        self,
-        source: str,
-        target: str,
-        mark: str,
-        unmappable: str,
-        indexes: Optional[Indexes],
-        on_fault: Optional[Callable[[Any], object]],
-        keep_faults: int,
-    ):
-        self._faults = Faults(keep_faults, on_fault)
-        self._conversion = Conversion(source, target, mark, unmappable, c.NO_LIMIT, indexes, self._faults)
-        # A callback may call again: it is told that the stream has ended.
-        self._is_ended, self._lock = False, threading.RLock()
-
-    def _put(self, data: bytes, last: bool) -> bytes:
-        with self._lock:
-            if self._is_ended:
-                raise ValueError("the stream has ended")
-            self._is_ended = True
-            output = b"".join(self._conversion.put(data, last))
-            self._conversion.check(output)
-            self._is_ended = last
-            return output
-
-
-class Decoder(_Stream):
+class Decoder:
     """Decodes a stream chunk by chunk, wherever it is cut. Calls of several threads wait for one another.
 
     What is malformed is counted, and handed to `on_fault` as it comes: a `Bad`, with its offset from the start of the
@@ -60,7 +29,8 @@ class Decoder(_Stream):
         on_fault: Optional[Callable[[Bad], object]] = None,
         keep_faults: int = 0,
     ):
-        super().__init__(encoding, _UTF_8, mark, "decimal", indexes, on_fault, keep_faults)
+        self._faults = Faults(keep_faults, on_fault)
+        self._conversion = Conversion(encoding, _UTF_8, mark, "decimal", c.NO_LIMIT, indexes)
 
     @property
     def bad(self) -> int:
@@ -75,10 +45,10 @@ class Decoder(_Stream):
     def decode(self, data: bytes, last: bool = False) -> str:
         """The text that these bytes decide; what is undecided waits for more. `last` ends the stream, and after it no
         more can be decoded."""
-        return self._put(c.bytes_of(data), last).decode()
+        return self._conversion.put(c.bytes_of(data), last, self._faults).decode()
 
 
-class Encoder(_Stream):
+class Encoder:
     """Encodes a text chunk by chunk. Calls of several threads wait for one another.
 
     Characters that have no bytes are counted, and handed to `on_fault` as they come: a `Lost`, with how many characters
@@ -95,7 +65,8 @@ class Encoder(_Stream):
         on_fault: Optional[Callable[[Lost], object]] = None,
         keep_faults: int = 0,
     ):
-        super().__init__(_UTF_8, encoding, "keep", unmappable, indexes, on_fault, keep_faults)
+        self._faults = Faults(keep_faults, on_fault)
+        self._conversion = Conversion(_UTF_8, encoding, "keep", unmappable, c.NO_LIMIT, indexes)
 
     @property
     def lost(self) -> int:
@@ -110,12 +81,53 @@ class Encoder(_Stream):
     @property
     def faithful(self) -> Optional[bool]:
         """Whether the bytes, read again, are the text; `None` before its end is encoded."""
-        return {c.OK: True, c.LOSSY: False}.get(self._conversion.status)
+        report = self._conversion.report
+        return report.faithful if report else None
 
     def encode(self, text: str, last: bool = False) -> bytes:
         """The bytes of these characters. `last` ends the text, and after it no more can be encoded. For a character
         without bytes its reference is written, or, with "stop", `Stopped` is raised, which has what was written."""
-        return self._put(text.encode(), last)
+        return self._conversion.put(text.encode(), last, self._faults)
+
+
+class Converter:
+    """Converts a stream from one encoding to another chunk by chunk, wherever it is cut: together the calls give what
+    `convert` gives of all at once. Calls of several threads wait for one another.
+
+    `mark`, `unmappable` and `limit` are as for `convert`.
+
+    >>> converter = Converter("shift_jis", "utf-8")
+    >>> converter.convert(b"A\\x83")
+    ConvertedPart(output=b'A', faults=[])
+    >>> converter.convert(b"\\x6e\\xff", last=True)
+    ConvertedPart(output=b'\\xe3\\x83\\x8f\\xef\\xbf\\xbd', faults=[Bad(offset=3, length=1)])
+    >>> converter.report
+    Report(read=4, bad=1, lost=0, faithful=False)
+    """
+
+    def __init__(
+        self,
+        source: str,
+        target: str,
+        *,
+        mark: str = "sniff",
+        unmappable: str = "decimal",
+        limit: Optional[int] = None,
+        indexes: Optional[Indexes] = None,
+    ):
+        self._conversion = Conversion(source, target, mark, unmappable, c.limit_of(limit), indexes)
+
+    @property
+    def report(self) -> Optional[Report]:
+        """The counts of what was lost, and the verdict; `None` before the last bytes are converted."""
+        return self._conversion.report
+
+    def convert(self, data: bytes, last: bool = False) -> ConvertedPart:
+        """The output that these bytes decide, and what is found lost in it; what is undecided waits for more. `last`
+        ends the stream, and after it no more can be converted. Raises `TooLong` if the stream has more than `limit`
+        bytes, and `Stopped`, which has what this call wrote and found."""
+        faults = Faults(keep=sys.maxsize)
+        return ConvertedPart(self._conversion.put(c.bytes_of(data), last, faults), faults.kept)
 
 
 class Reader(io.TextIOBase):
@@ -247,7 +259,7 @@ class Writer(io.TextIOBase):
         if self.closed or not hasattr(self, "_file"):
             return
         try:
-            if not self._encoder._is_ended:
+            if not self._encoder._conversion.is_over:
                 self._file.write(self._encoder.encode("", last=True))
         finally:
             self._file.close()

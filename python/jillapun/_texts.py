@@ -1,40 +1,43 @@
 """Whole texts and inputs in memory."""
 
-from typing import List, Optional, Tuple
+import sys
+from typing import List, Optional, Tuple, cast
 
 from . import _library as c
 from ._indexes import Indexes, handle_of, number_of
-from ._results import Converted, Decoded, Encoded, Fault, Lost, Stopped, faults_in, refuse
-from ._rooms import Kept, Room
+from ._results import Converted, Decoded, Encoded, Fault, Faults, Lost, Report, Stopped, faults_in, refuse
+from ._rooms import rooms
+from ._steps import Conversion
 
 _UTF_8 = "utf-8"
 
-# Room for short inputs, which most are, and how long these are.
-_short, _SHORT = Kept(4096, 16), 1024
+# How long an input is of which all text has room: in UTF-8 a byte gives three at most.
+_SHORT = 1 << 16
 
 
 def _run(
     data: bytes, source: str, target: str, mark: str, unmappable: str, limit: int, indexes: Optional[Indexes]
 ) -> Tuple[bool, bytes, List[Fault]]:
-    """Whether nothing was lost, the output and the faults. The conversion is made twice where room was too small."""
-    words = number_of(source), number_of(target), c.MARKS[mark], c.POLICIES[unmappable], limit, data, len(data)
-    handle = handle_of(indexes)
-    short = _short.take() if len(data) <= _SHORT else None
-    room = short or Room(len(data) * 3 // 2, 16)
-    status = c.library.jillapun_convert(handle, *words, *room.words, room.told)
-    while status == c.ROOM:
-        room = Room(room.report.written, room.report.losses)
-        status = c.library.jillapun_convert(handle, *words, *room.words, room.told)
-    report = room.report
-    output = room.bytes[: report.written]
-    faults = list(faults_in(room.losses[: report.losses * c.LOSS.size])) if report.losses else []
-    if status == c.STOPPED:
-        raise Stopped(Lost(report.index, chr(report.scalar)), output, faults)
-    if status not in (c.OK, c.LOSSY):
-        refuse(status)
-    if short:
-        _short.give(short)
-    return status == c.OK, output, faults
+    """Whether nothing was lost, the output and the faults. If the input is short and all has room, one call does it,
+    which takes less time than steps."""
+    if len(data) <= _SHORT:
+        words = number_of(source), number_of(target), c.MARKS[mark], c.POLICIES[unmappable], limit, data, len(data)
+        room = rooms.take()
+        try:
+            status, report = c.library.jillapun_convert(handle_of(indexes), *words, *room.words, room.told), room.report
+            if status in (c.OK, c.LOSSY, c.STOPPED):
+                output = room.bytes[: report.written]
+                faults = list(faults_in(room.losses[: report.losses * c.LOSS.size])) if report.losses else []
+                if status == c.STOPPED:
+                    raise Stopped(Lost(report.index, chr(report.scalar)), output, faults)
+                return status == c.OK, output, faults
+        finally:
+            rooms.give(room)
+    conversion, told = Conversion(source, target, mark, unmappable, limit, indexes), Faults(keep=sys.maxsize)
+    if len(data) > limit:
+        refuse(c.TOO_LONG)
+    output = conversion.put(data, True, told)
+    return cast(Report, conversion.report).faithful, output, told.kept
 
 
 def decode(data: bytes, encoding: str, *, mark: str = "remove", indexes: Optional[Indexes] = None) -> Decoded:

@@ -34,7 +34,9 @@ class Errors(unittest.TestCase):
 
     def test_limit(self) -> None:
         self.assertEqual(jillapun.convert(b"abc", "utf-8", "utf-8", limit=3).output, b"abc")
-        self.assertRaises(jillapun.TooLong, jillapun.convert, b"abcd", "utf-8", "utf-8", limit=3)
+        for data in (b"abcd", b"a\xff", b"a\xff" * 100000):
+            words = {"unmappable": "stop", "limit": len(data) - 1}
+            self.assertRaises(jillapun.TooLong, jillapun.convert, data, "utf-8", "windows-1252", **words)
         self.assertEqual(jillapun.convert(b"abc", "utf-8", "utf-8", limit=2**64).output, b"abc")
         self.assertRaises(ValueError, jillapun.convert, b"", "utf-8", "utf-8", limit=-1)
 
@@ -54,10 +56,11 @@ class Errors(unittest.TestCase):
         self.assertRaises(UnicodeEncodeError, jillapun.encode, "\ud800", "utf-8")
 
     def test_room(self) -> None:
-        """More output, and more faults, than there is room for at first."""
-        done = jillapun.convert("日".encode() * 1000, "utf-8", "windows-1252")
-        self.assertEqual(done.output, b"&#26085;" * 1000)
-        self.assertEqual(done.faults, [jillapun.Lost(index, "日") for index in range(1000)])
+        """More output, and more faults, than there is room for at once, of inputs that are short and long."""
+        for count in (1, 4096, 4097, 21845, 21846, 100000):
+            done = jillapun.convert("日".encode() * count, "utf-8", "windows-1252")
+            self.assertEqual(done, (b"&#26085;" * count, [jillapun.Lost(index, "日") for index in range(count)], False))
+            self.assertEqual(jillapun.decode(b"a\xa1" * count, "windows-874").text, "aก" * count)
 
 
 class Files(unittest.TestCase):
@@ -282,10 +285,10 @@ class Threads(unittest.TestCase):
 class Documents(unittest.TestCase):
     def test_examples(self) -> None:
         """What docs and docstrings show is what comes."""
-        modules = [jillapun, sys.modules["jillapun._texts"]]
+        modules = [jillapun, *(sys.modules["jillapun." + name] for name in ("_texts", "_streams"))]
         ran = [doctest.testmod(module, extraglobs=vars(jillapun)) for module in modules]
         ran.append(doctest.testfile(os.path.join(cases.TOP, "docs/PYTHON.md"), module_relative=False, encoding="utf-8"))
-        self.assertEqual([result.failed for result in ran], [0, 0, 0])
+        self.assertEqual([result.failed for result in ran], [0] * 4)
         self.assertTrue(all(result.attempted >= 3 for result in ran))
 
 

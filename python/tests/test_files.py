@@ -360,6 +360,7 @@ class InPlace(Folder):
             with self.assertRaises(jillapun.Stopped) as it:
                 self.convert(self.path, unmappable="stop", **options)
             self.assertEqual((it.exception.lost, it.exception.faults), ((1, "日"), [(1, "日")]))
+            self.assertEqual(it.exception.output, b"")
         self.holds(a="é日".encode())
 
     def test_a_disk_that_is_full(self) -> None:

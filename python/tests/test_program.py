@@ -359,6 +359,8 @@ class Memory(Folder):
         "a reader": "file = jillapun.open(path, encoding='utf-8', on_fault=id)\nwhile file.read(1 << 16): pass",
         "a decoder": "code = jillapun.Decoder('utf-8')\nfor _ in range(size >> 10): code.decode(b'\\xff' * 1024)",
         "an encoder": "code = jillapun.Encoder('big5')\nfor _ in range(size >> 10): code.encode('é' * 1024)",
+        "a converter": "code = jillapun.Converter('utf-8', 'big5')\n"
+        "for _ in range(size >> 10): code.convert(b'\\xff' * 1024)",
     }
 
     def test_memory(self) -> None:
