@@ -1,15 +1,16 @@
 -- What calls of a decoder for two parts of an input say of its pieces.
-use Rattle.std.proofs.Common.{◌≡◌, ℕ, ◌+◌, ◌-◌, ◌≤◌, Bool, true, false, IsTrue, List, [], ◌∷◌, ◌++◌, drop, length, refl, sym, subst, ◌∙◌, ap, arith, append_assoc, length-drop}
-use Rattle.std.proofs.lemmas.List.{append-nil}
-use Rattle.encoding_mem.specs.Piece.{AreWellFormed, Piece, malformed, sizes}
-use Rattle.encoding_mem.specs.calls.Decoding.{DecoderState, Reports, Takes}
+use Rattle.std.proofs.Common.{◌≡◌, ℕ, ◌+◌, ◌-◌, ◌≤◌, Bool, true, false, IsTrue, List, [], ◌∷◌, ◌++◌, drop, length, refl, sym, subst, ◌∙◌, ap, arith, append_assoc, encode_utf8_all, length-append, length-drop}
+use Rattle.std.proofs.lemmas.Str.{encodes-append}
+use Rattle.encoding_mem.specs.Piece.{AreWellFormed, Piece, malformed, scalars, sizes, text}
+use Rattle.encoding_mem.specs.calls.Decoding.{Reports, Takes}
+use Rattle.encoding_mem.specs.calls.Writing.{Adds}
 use Rattle.encoding_mem.specs.declared.decoder_result.DecoderResult.{DecoderResult}
 use Rattle.encoding_mem.specs.declared.decoder_result.DecoderResult.TheVariants.{InputEmpty, Malformed, OutputFull}
-use Rattle.encoding_mem.specs.laws.Piece.{AreWellFormed-append, sizes-append}
+use Rattle.encoding_mem.specs.laws.Piece.{AreWellFormed-append, sizes-append, text-append, well_formed_text}
 use Rattle.encoding_front.specs.calls.DecoderCall.{DecoderCall}
 use Rattle.encoding_front.specs.calls.Stream.{DecoderView}
 use Rattle.encoding_front.specs.laws.Calls.{wrote_scalars}
-use Rattle.test_examples.specs.FirstFaults.{IsFirstMalformed}
+use Rattle.test_examples.specs.FirstFaults.{IsCrowded, IsFirstMalformed}
 
 -- calls for these bytes read them all and passed these pieces, none of which is malformed
 pub record HasPassed (v v' : DecoderView) (bytes : List ℕ) : Type 0 where
@@ -68,3 +69,23 @@ reported new v v' before part r last n read free room mark size more W outcome f
             ∙ sym (append_assoc passed.pieces told.0 (malformed size ∷ rest));
       };
     }
+
+-- a call that found no room: the text of what was passed and of what it took leaves fewer than 4 bytes
+pub crowded : (new v v' : DecoderView) (before part r : List ℕ) (last : Bool) (room read mark written : ℕ) (old now : List ℕ) (outcome : DecoderResult)
+    → HasPassed new v before → DecoderCall v v' part last read (λ t. Adds old 0 (encode_utf8_all t) now written) (length (drop written now)) 4 mark outcome → outcome ≡ OutputFull
+    → length old ≡ room → length now ≡ room → (IsTrue last → r ≡ []) → IsCrowded room (new.state.pieces (before ++ (part ++ r)))
+crowded new v v' before part r last room read mark written old now OutputFull passed call is had has none =
+    let law = call.law in
+    let rest : List Piece = v'.state.pieces (drop read part ++ r) in
+    let more : length (encode_utf8_all (text law.taken)) ≡ length (encode_utf8_all (scalars law.taken)) = ap (λ (t : List ℕ). length (encode_utf8_all t)) (well_formed_text law.taken law.well_formed) in
+    let all : length (encode_utf8_all (text (passed.pieces ++ law.taken))) ≡ length (encode_utf8_all (text passed.pieces)) + length (encode_utf8_all (text law.taken)) =
+    ap (λ (t : List ℕ). length (encode_utf8_all t)) (text-append passed.pieces law.taken) ∙ ap length (encodes-append (text passed.pieces) (text law.taken)) ∙ length-append (encode_utf8_all (text passed.pieces)) _ in
+    record {
+      before = passed.pieces ++ law.taken;
+      after = rest;
+      well_formed = AreWellFormed-append passed.pieces law.taken passed.well_formed law.well_formed;
+      full = omega (arith, all, more, law.writes.counted, call.ends.0, length-drop written now, had, has);
+      split = passed.rest (part ++ r) ∙ ap (λ (ps : List Piece). passed.pieces ++ ps) (law.rest r none) ∙ sym (append_assoc passed.pieces law.taken rest);
+    }
+crowded new v v' before part r last room read mark written old now InputEmpty passed call is had has none = absurd (cc)
+crowded new v v' before part r last room read mark written old now (Malformed a b) passed call is had has none = absurd (cc)

@@ -1,16 +1,18 @@
 -- What steps of a session have done, and what they have to write with.
-use Rattle.std.proofs.Common.{◌≡◌, ℕ, ◌+◌, ◌≤◌, List, [], ◌++◌, Option, Some, Result, Ok, length, refl, sym, subst, ◌∙◌, ap, arith}
+use Rattle.std.proofs.Common.{◌≡◌, ℕ, ◌+◌, ◌<◌, ◌≤◌, List, [], ◌∷◌, ◌++◌, take, Option, Some, Result, Ok, length, refl, sym, subst, ◌∙◌, ap, arith}
 use Rattle.std.specs.Io.KnownBytes.{Consumes}
 use Rattle.encoding_mem.specs.Decided.{IsDecided}
 use Rattle.encoding_mem.specs.Piece.{Piece, sizes}
 use Rattle.recode.specs.Devices.{CountsFault, Devices, Written, known}
-use Rattle.recode.specs.Job.{input_pieces}
+use Rattle.recode.specs.Job.{input_pieces, input_text, lost_log_lines, target_of, trace}
 use Rattle.recode.specs.Latency.{HasReached, WroteDecided}
-use Rattle.recode.specs.Session.{IsConverted, IsStepped, View, phase_after}
+use Rattle.recode.specs.Session.{Fails, IsConverted, IsStepped, View, phase_after}
 use Rattle.recode.specs.State.{State}
-use Rattle.recode.specs.Step.{HasRun, IsNearlyDecided, StepsOn}
-use Rattle.recode.specs.TaggedByte.{IsPrefix}
+use Rattle.recode.specs.Step.{HasRun, IsNearlyDecided, StepsOn, WrotePrefix}
+use Rattle.recode.specs.TaggedByte.{IsPrefix, TaggedByte}
+use Rattle.recode.specs.WrittenItems.{StopsAtLoss}
 use Rattle.recode.specs.declared.job.Fault.{Fault}
+use Rattle.recode.specs.declared.job.Fault.TheVariants.{Log, Read, TooLong, Unmappable, Write}
 use Rattle.recode.specs.declared.job.Progress.{Progress}
 use Rattle.recode.specs.declared.job.Report.{Report}
 use Rattle.recode.specs.calls.Buffers.{AreEnough, HoldsAnyCharacter, KeepSizes, capacity, is_wide}
@@ -20,8 +22,9 @@ use Rattle.recode.specs.declared.job.Pivot.{Pivot}
 use Rattle.recode.specs.declared.job.Pivot.TheVariants.{Utf8, Utf16}
 use Rattle.recode.specs.declared.session.Phase.TheVariants.{Open}
 use Rattle.recode_log.specs.Counted.{failures_of, inner_of}
+use Rattle.recode_log.specs.declared.line.LogLine.TheVariants.{Lost}
 use Rattle.recode_log.specs.declared.counted.Counted.{Counted}
-use Rattle.test_examples.specs.SessionSteps.{GaveAll, GaveDecided}
+use Rattle.test_examples.specs.SessionSteps.{GaveAll, GaveDecided, TellsFault}
 use Rattle.test_examples.specs.declared.session_steps.Keeper.{Keeper}
 use Rattle.test_examples.specs.declared.session_steps.SingleBytes.{SingleBytes}
 
@@ -118,6 +121,20 @@ pub gave_all : (j : Job) (x output log : List ℕ) (t' : Devices) (p : Report) �
 gave_all j x output log t' p converted written =
     let all : IsConverted (known [] []) (known output log) j x p = subst (λ (w : Written). IsConverted (known [] []) w j x p) written converted in
     record { written = all.whole.output; logged = all.whole.logged; verdict = all.report.faithful }
+
+-- what a fault that ended them tells is true
+pub told_fault : (j : Job) (x : List ℕ) (t' : Devices) (f : Fault) → Fails (devices_before x) t' j f
+    → (Fails (devices_before x) t' j TooLong → j.limit < length x)
+    → ((g : Fault) → Fails (devices_before x) t' j g → WrotePrefix (known [] []) t'.written j.policy g (trace j x))
+    → ((index scalar : ℕ) (taken : List TaggedByte) → StopsAtLoss j.policy index scalar taken (trace j x) → take 1 (lost_log_lines (target_of j) 0 (input_text j x)) ≡ Lost index scalar ∷ [])
+    → TellsFault j x f
+told_fault j x t' Read fails long wrote first = tt
+told_fault j x t' Write fails long wrote first = tt
+told_fault j x t' Log fails long wrote first = tt
+told_fault j x t' TooLong fails long wrote first = long fails
+told_fault j x t' (Unmappable index scalar) fails long wrote first =
+    let stopped : StopsAtLoss j.policy index scalar (wrote (Unmappable index scalar) fails).taken (trace j x) = (wrote (Unmappable index scalar) fails).stopped in
+    (stopped.policy, first index scalar (wrote (Unmappable index scalar) fails).taken stopped)
 
 -- a pivot of that kind and size holds any character, too
 still_roomy : (p q : Pivot) → capacity q ≡ capacity p → is_wide q ≡ is_wide p → HoldsAnyCharacter p → HoldsAnyCharacter q

@@ -1,7 +1,7 @@
 //! A function of a user, whose contract says where an input that comes in two parts is first
 //! malformed.
 
-ghost use Rattle.std.specs.Prelude.{◌++◌};
+ghost use Rattle.std.specs.Prelude.{◌++◌, length};
 ghost use Rattle.encoding_front.specs.Encodings.{IsReady};
 ghost use Rattle.encoding_front.specs.Marks.{marked_pieces};
 ghost use Rattle.encoding_front.specs.declared.mark.Mark.{Mark};
@@ -17,7 +17,7 @@ pub(crate) enum FirstFault {
     Absent,
     /// A malformed sequence of `length` bytes stands at `offset`, and none stands before it.
     At { offset: usize, length: u8 },
-    /// The room was too small for the text that stands before it.
+    /// The room was too small: text before any fault leaves fewer than 4 bytes of it.
     Unknown,
 }
 
@@ -26,7 +26,8 @@ pub(crate) enum FirstFault {
 /// in the second.
 ///
 /// `Malformed` says how many bytes the sequence has, and how many were read after it. So its offset
-/// is the number of all bytes that were read, less both. The condition is tested by `is_ready`.
+/// is the number of all bytes that were read, less both. Room for 4 bytes more than the whole text
+/// has in UTF-8 is always enough. The condition is tested by `is_ready`.
 pub(crate) fn find_first_fault(
     tables: &Tables,
     encoding: Encoding,
@@ -35,7 +36,7 @@ pub(crate) fn find_first_fault(
     room: &mut [u8],
 ) -> FirstFault
     requires { IsReady tables.now encoding }
-    ensures { TellsFirstFault result
+    ensures { TellsFirstFault (length room.old) result
         (marked_pieces tables.now Mark.Sniff encoding (first.now ++ second.now)) }
 {
     let mut decoder = encoding.new_decoder(tables);

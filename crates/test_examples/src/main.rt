@@ -127,7 +127,7 @@ fn run_first_faults(rt: HostRuntime) -> anyhow::Result<()> {
     Ok(())
 }
 
-// A text that is converted step by step: as far as some steps come, and to its end.
+// A text that is converted step by step, in at most so many steps.
 fn run_session_steps(rt: HostRuntime, steps: u64) -> anyhow::Result<()> {
     let tables = Tables::new(rt.alloc());
     let job = Job {
@@ -152,8 +152,8 @@ fn run_session_steps(rt: HostRuntime, steps: u64) -> anyhow::Result<()> {
     };
     ensure!(job.is_valid(), "an index is missing");
     ensure!(buffers.is_enough(), "a buffer is too small");
-    let input = b"A\xE4\xB8\xAD\xFFB".as_slice();
-    let gained = session_steps::convert_steps(rt.alloc(), job, input, steps, &mut buffers)?;
+    let bytes = b"A\xE4\xB8\xAD\xFFB".as_slice();
+    let gained = session_steps::convert_steps(rt.alloc(), job, bytes, steps, &mut buffers)?;
     rt.stdout().write_all(&gained.output)?;
     println!(rt; " {:?}", gained.faithful)?;
     rt.stdout().write_all(&gained.log)?;

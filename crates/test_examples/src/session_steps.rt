@@ -1,18 +1,20 @@
 //! A function of a user, who makes steps of a session over a reader and writers of their own. Its
 //! contract says what these steps have written.
 
-ghost use Rattle.std.specs.Prelude.{◌≡◌, ◌<◌, IfErr, IfNone, IfOk, IfSome, Some, length};
+ghost use Rattle.std.specs.Prelude.{IfErr, IfNone, IfOk, IfSome, Some};
 ghost use Rattle.recode.specs.Job.{IsValidJob};
 ghost use Rattle.recode.specs.calls.Buffers.{AreEnough};
-ghost use Rattle.test_examples.specs.SessionSteps.{GaveAll, GaveDecided};
+ghost use Rattle.test_examples.specs.SessionSteps.{GaveAll, GaveDecided, TellsFault};
 
-use recode::laws::{decided_pieces_are_converted, known_input, steps_add_up, steps_are_a_run};
+use recode::laws::{
+    decided_pieces_are_converted, known_input, steps_add_up, steps_are_a_run, stops_at_first_loss,
+};
 use recode::{Buffers, Counted, Fault, Job, Progress, Session};
 use std::alloc::Global;
 use std::io;
 use std::io::{ErrorKind, Read, Write};
 
-// A reader of bytes in memory that gives one at a time.
+// A reader of bytes in memory that gives one at a time. Its `remaining` are those that are left.
 #[derive(Drop)]
 struct SingleBytes<'a> {
     rest: &'a [u8],
@@ -30,7 +32,7 @@ impl<'a> Read for SingleBytes<'a> {
     }
 }
 
-// A writer that keeps all that it is given.
+// A writer that keeps all that it is given. Its `contents` are these bytes.
 #[derive(Drop)]
 struct Keeper {
     bytes: Vec<u8>,
@@ -67,6 +69,9 @@ pub(crate) struct Gained {
 /// that these bytes decide, however the input goes on. So more steps than the input has bytes read
 /// all of it.
 ///
+/// A fault is one of a device, or tells of the input: that it is longer than the limit, or, if the
+/// policy stops, which is its first character without bytes.
+///
 /// The conditions are tested by `Job::is_valid` and `Buffers::is_enough`.
 pub(crate) fn convert_steps(
     alloc: Global,
@@ -81,13 +86,13 @@ pub(crate) fn convert_steps(
         (GaveAll job.entry input.now gained.output.items gained.log.items)) }
     ensures part { IfOk result (λ gained. IfNone gained.faithful
         (GaveDecided job.entry input.now steps gained.output.items gained.log.items)) }
-    ensures too_long { IfErr result (λ fault. fault ≡ Fault.TooLong
-        → job.entry.limit < length input.now) }
+    ensures fault { IfErr result (TellsFault job.entry input.now) }
 {
     steps_are_a_run();
     steps_add_up();
     known_input();
     decided_pieces_are_converted();
+    stops_at_first_loss();
     let mut reader = Counted::new(SingleBytes { rest: input });
     let mut writer = Counted::new(Keeper {
         bytes: Vec::new(alloc),

@@ -2,7 +2,8 @@ use Rattle.std.proofs.Common.{ℕ, List, [], ◌+◌, ◌++◌, arith, length, r
 use Rattle.std.proofs.lemmas.List.{append-nil}
 use Rattle.encoding_mem.specs.Piece.{AreWellFormed}
 use Rattle.encoding_front.specs.calls.DecoderViews.{decoder_view}
-use Rattle.test_examples.proofs.FirstFaultLemmas.{IsReported, passed_all, passed_none, passed_part, reported}
+use Rattle.test_examples.specs.FirstFaults.{IsCrowded}
+use Rattle.test_examples.proofs.FirstFaultLemmas.{IsReported, crowded, passed_all, passed_none, passed_part, reported}
 use Rattle.test_examples.proofs.first_faults.find_first_fault.Goals as goal
 
 -- of the first part
@@ -38,3 +39,23 @@ returns-in-InputEmpty-result c =
 
 pub returns-in-Malformed-result : goal.returns-in-Malformed-result
 returns-in-Malformed-result c = rw (← c.new_decoder-decoder.ensures.begins.pieces) (in_second c).first
+
+pub returns-in-OutputFull : goal.returns-in-OutputFull
+returns-in-OutputFull c =
+    let call = c.decode_to_utf8_without_replacement-result in
+    let full : IsCrowded (length c.args.room.now) ((decoder_view c.new_decoder-decoder.result).state.pieces (c.args.first.now ++ c.args.second.now)) =
+    crowded _ _ _ [] c.args.first.now c.args.second.now _ (length c.args.room.now) call.result.1 _ call.result.2 _ call.new.dst _ (passed_none _) call.ensures.call c.in-OutputFull.is
+    refl (omega (arith, call.auto.dst)) (λ last. absurd (cc last)) in
+    rw (← c.new_decoder-decoder.ensures.begins.pieces) full
+
+pub returns-in-OutputFull-result : goal.returns-in-OutputFull-result
+returns-in-OutputFull-result c =
+    let begun = decoder_view c.new_decoder-decoder.result in
+    let first = c.decode_to_utf8_without_replacement-result in
+    let call = c.decode_to_utf8_without_replacement-result-2 in
+    let passed = passed_part _ _ _ _ _ _ _ _ _ first.ensures.call c.in-InputEmpty.is in
+    let full : IsCrowded (length c.args.room.now) (begun.state.pieces (c.args.first.now ++ c.args.second.now)) =
+    subst (λ (part : List ℕ). IsCrowded (length c.args.room.now) (begun.state.pieces (c.args.first.now ++ part))) (append-nil c.args.second.now)
+    (crowded _ _ _ c.args.first.now c.args.second.now [] _ (length c.args.room.now) call.result.1 _ call.result.2 first.new.dst call.new.dst _ passed call.ensures.call c.in-OutputFull-result.is
+    (omega (arith, first.auto.dst)) (omega (arith, first.auto.dst, call.auto.dst)) (λ _. refl)) in
+    rw (← c.new_decoder-decoder.ensures.begins.pieces) full

@@ -9,7 +9,7 @@ use Rattle.recode.specs.declared.job.Job.{Job}
 use Rattle.recode_log.specs.Counted.{inner_of}
 use Rattle.test_examples.specs.declared.session_steps.Keeper.{Keeper}
 use Rattle.test_examples.specs.declared.session_steps.SingleBytes.{SingleBytes}
-use Rattle.test_examples.proofs.SessionStepsLemmas.{HaveGoneOn, devices_before, devices_of_steps, gave_all, gave_decided, none_called, one_more, still_enough}
+use Rattle.test_examples.proofs.SessionStepsLemmas.{HaveGoneOn, devices_before, devices_of_steps, gave_all, gave_decided, none_called, one_more, still_enough, told_fault}
 use Rattle.test_examples.proofs.session_steps.convert_steps.Goals as goal
 
 pub steps-init : goal.steps-init
@@ -75,8 +75,8 @@ returns-in-Done-clause-whole c =
     rw (c.into_inner.ensures, c.into_inner-in-Done.ensures) (
     gave_all j c.args.input.now _ _ t2 c.in-Some.report (c.known_input.ensures.completes c.args.input.now t t2 j c.in-Some.report refl completes) refl)
 
-pub returns-in_err-step-clause-too_long : goal.returns-in_err-step-clause-too_long
-returns-in_err-step-clause-too_long c =
+pub returns-in_err-step-clause-fault : goal.returns-in_err-step-clause-fault
+returns-in_err-step-clause-fault c =
     let s = c.steps.invariant.gone_on in
     let f = c.in_err-step.field-0.0 in
     let t = devices_before c.args.input.now in
@@ -87,4 +87,6 @@ returns-in_err-step-clause-too_long c =
     let stops : Stops t1 t2 j.limit v.state f = subst (λ (k : Job). Stops t1 t2 k.limit v.state f) s.job c.in_err-step.ensures.fault in
     let fails : Fails t t2 j f = c.steps_are_a_run.ensures.fails t t1 t2 j (view_of c.new-session.result) v.state f c.new-session.ensures s.run stops in
     let told = err_from_is_err_and c.from_residual.result c.from_residual.ensures.1 in
-    rw (told.1, told.2) (λ is. c.known_input.ensures.too_long c.args.input.now t t2 j refl (subst (λ (g : Fault). Fails t t2 j g) is fails))
+    rw (told.1, told.2) (
+    told_fault j c.args.input.now t2 f fails (c.known_input.ensures.too_long c.args.input.now t t2 j refl) (λ (g : Fault). c.known_input.ensures.fails c.args.input.now t t2 j g refl)
+    (c.stops_at_first_loss.ensures.fault j c.args.input.now))
