@@ -1,2 +1,4 @@
 pub mod OwnTextsLemmas
 pub mod CallsLemmas
+pub mod FirstFaultLemmas
+pub mod SessionStepsLemmas

@@ -3,18 +3,20 @@
 //! page.
 //!
 //! There are also programs as users write them: `stream_faults`, `stream_losses`, `whole_runs` and
-//! `whole_texts`. Each loads its indexes and uses them in one function. `decoded_texts` and
-//! `lost_characters` have functions whose contracts users prove from the contracts and laws of the
-//! libraries, `own_texts` a sink and a source of a user's own.
+//! `whole_texts`. Each loads its indexes and uses them in one function. `decoded_texts`,
+//! `lost_characters`, `first_faults` and `session_steps` have functions whose contracts users prove
+//! from the contracts and laws of the libraries, `own_texts` a sink and a source of a user's own.
 #![tactic(auto)]
 
 mod conversions;
 mod converters;
 mod decoded_texts;
+mod first_faults;
 mod lost_characters;
 mod own_texts;
 mod places;
 mod reports;
+mod session_steps;
 mod stream_faults;
 mod stream_losses;
 mod streams;
@@ -23,11 +25,11 @@ mod whole_runs;
 mod whole_texts;
 
 use anyhow::{bail, ensure};
-use encoding_front::X_USER_DEFINED;
+use encoding_front::{UTF_8, X_USER_DEFINED};
 use encoding_index::load;
 use encoding_mem::is_ascii;
 use encoding_tables::{IndexKind, Tables};
-use recode::{Encoding, GREATEST_LIMIT, Job, Mark, Policy};
+use recode::{Buffers, Encoding, GREATEST_LIMIT, Job, Mark, Pivot, Policy};
 use std::io::Write;
 
 // Prints whether an example has the result that its page gives.
@@ -87,6 +89,77 @@ fn run_converters(rt: HostRuntime) -> anyhow::Result<()> {
     Ok(())
 }
 
+// Inputs of two parts: without a fault; with one in the first part; with one that begins there and
+// ends in the second; with no room for what stands before it.
+fn run_first_faults(rt: HostRuntime) -> anyhow::Result<()> {
+    let tables = Tables::new(rt.alloc());
+    ensure!(UTF_8.is_ready(&tables), "an index is missing");
+    let mut room = [0; 16];
+    let whole = first_faults::find_first_fault(
+        &tables,
+        Encoding::Utf8,
+        b"A\xC3",
+        b"\xA9B",
+        &mut room,
+    );
+    let first = first_faults::find_first_fault(
+        &tables,
+        Encoding::Utf8,
+        b"A\xFFB",
+        b"\xFF",
+        &mut room,
+    );
+    let second = first_faults::find_first_fault(
+        &tables,
+        Encoding::Utf8,
+        b"\xEF\xBB\xBFA\xE4\xB8",
+        b"B",
+        &mut room,
+    );
+    let none = first_faults::find_first_fault(
+        &tables,
+        Encoding::Utf8,
+        b"A\xFF",
+        b"",
+        &mut room[..1],
+    );
+    println!(rt; "{whole:?} {first:?} {second:?} {none:?}")?;
+    Ok(())
+}
+
+// A text that is converted step by step, in at most so many steps.
+fn run_session_steps(rt: HostRuntime, steps: u64) -> anyhow::Result<()> {
+    let tables = Tables::new(rt.alloc());
+    let job = Job {
+        from: Encoding::Utf8,
+        to: Encoding::XUserDefined,
+        mark: Mark::Sniff,
+        policy: Policy::Decimal,
+        limit: GREATEST_LIMIT,
+        tables: &tables,
+    };
+    let mut input = [0; 4];
+    let mut text = [0; 4];
+    let mut output = [0; 4];
+    let mut text_again = [0; 4];
+    let pivot = Pivot::Utf8(&mut text);
+    let check = Pivot::Utf8(&mut text_again);
+    let mut buffers = Buffers {
+        input: &mut input,
+        pivot,
+        output: &mut output,
+        check,
+    };
+    ensure!(job.is_valid(), "an index is missing");
+    ensure!(buffers.is_enough(), "a buffer is too small");
+    let bytes = b"A\xE4\xB8\xAD\xFFB".as_slice();
+    let gained = session_steps::convert_steps(rt.alloc(), job, bytes, steps, &mut buffers)?;
+    rt.stdout().write_all(&gained.output)?;
+    println!(rt; " {:?}", gained.faithful)?;
+    rt.stdout().write_all(&gained.log)?;
+    Ok(())
+}
+
 fn run_programs(rt: HostRuntime) -> anyhow::Result<()> {
     whole_texts::decode_text(rt, JIS0208, b"A\x83\x6E\xFF")?;
     whole_texts::encode_text(rt, JIS0208, "A\u{20AC}")?;
@@ -120,7 +193,10 @@ fn run_programs(rt: HostRuntime) -> anyhow::Result<()> {
         None => bail!("there is no room"),
     }
     run_own_texts(rt)?;
-    run_converters(rt)
+    run_converters(rt)?;
+    run_first_faults(rt)?;
+    run_session_steps(rt, 3)?;
+    run_session_steps(rt, 7)
 }
 
 fn main(rt: HostRuntime) -> anyhow::Result<()> {

@@ -1,0 +1,35 @@
+-- What steps of a session gave.
+use Rattle.std.specs.Prelude.{◌≡◌, ◌↔◌, ℕ, ◌<◌, ◌≤◌, Bool, IsTrue, List, [], ◌∷◌, ◌++◌, length, take}
+use Rattle.encoding_mem.specs.Piece.{Piece}
+use Rattle.recode.specs.Devices.{known}
+use Rattle.recode.specs.Job.{Faithful, input_text, log_of, lost_log_lines, output_of, target_of}
+use Rattle.recode.specs.Latency.{WroteDecided}
+use Rattle.recode.specs.declared.job.Fault.{Fault}
+use Rattle.recode.specs.declared.job.Fault.TheVariants.{Log, Read, TooLong, Unmappable, Write}
+use Rattle.recode.specs.declared.job.Job.{Job}
+use Rattle.recode.specs.declared.job.Policy.{Policy}
+use Rattle.recode_log.specs.declared.line.LogLine.TheVariants.{Lost}
+
+-- an output, a log and a verdict are those of a job for a whole input
+pub record GaveAll (j : Job) (x output log : List ℕ) (faithful : Bool) : Type 0 where
+  pub written : output ≡ output_of j x
+  pub logged : log ≡ log_of j x
+  pub verdict : IsTrue faithful ↔ Faithful j x
+
+-- at least so many bytes of an input were read, and an output and a log have all that these decide
+pub record GaveDecided (j : Job) (x : List ℕ) (steps : ℕ) (output log : List ℕ) : Type 0 where
+  pub read : List ℕ
+  pub rest : List ℕ
+  pub split : x ≡ read ++ rest
+  pub enough : steps ≤ length read
+  pub pieces : List Piece
+  pub decided : WroteDecided (known [] []) (known output log) j read pieces
+
+-- What a fault tells of an input is true: it is longer than the limit, or the policy stops, and this is its first lost
+-- character. A failed call of a device tells nothing of it.
+abbrev pub TellsFault : Job → List ℕ → Fault → Type 0
+TellsFault j x Read = Unit {0}
+TellsFault j x Write = Unit {0}
+TellsFault j x Log = Unit {0}
+TellsFault j x TooLong = j.limit < length x
+TellsFault j x (Unmappable index scalar) = (j.policy ≡ Policy.Stop) × (take 1 (lost_log_lines (target_of j) 0 (input_text j x)) ≡ Lost index scalar ∷ [])
