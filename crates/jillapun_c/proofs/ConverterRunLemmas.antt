@@ -22,12 +22,14 @@ use Rattle.recode.specs.declared.job.Report.{Report as RunReport}
 use Rattle.recode.specs.laws.Calls.{owed_on, taken_first, taken_on, taken_report, taken_whole}
 use Rattle.recode.specs.laws.Items.{log_bytes-append, log_bytes-bytes, log_bytes-lines, lost_line_count-append, lost_line_count-bytes, output_bytes-append, output_bytes-bytes, output_bytes-lines, spared_append, spared_bytes, tagged-append, written_spared, written_whole}
 use Rattle.jillapun_c.proofs.ConverterTurnLemmas.{owes_split}
-use Rattle.jillapun_c.specs.ConverterRuns.{Carries, HasConverted, IsFirstPartOf, IsOverWith, IsTooLong, StandsAt, StopsAt}
+use Rattle.jillapun_c.specs.Coders.{converter_in}
+use Rattle.jillapun_c.specs.ConverterRuns.{Carries, HasConverted, IsFirstPartOf, IsOverWith, JoinsToCalls, StandsAt, StopsAt}
 use Rattle.jillapun_c.specs.ConverterTurns.{IsReady, PassesLimit, TurnEnds, Turns, found_log, found_reference, stage_at}
 use Rattle.jillapun_c.specs.Conversions.{ConvertsInMemory, IsDone, IsToldReport, IsToldStop}
 use Rattle.jillapun_c.specs.Converters.{ConvertsAll, HandsOut, HoldsNothing, IsNewConverter, TellsStage, TellsStatus, TellsVerdict, held_losses, listed, view_in}
 use Rattle.jillapun_c.specs.Losses.{log_of_losses, loss_bytes}
 use Rattle.jillapun_c.specs.Room.{FillsRoom, IsFilled}
+use Rattle.jillapun_c.specs.declared.coder.Coder.{Coder}
 use Rattle.jillapun_c.specs.declared.converter.Converter.{Converter}
 use Rattle.jillapun_c.specs.declared.converter.Stage.{Stage}
 use Rattle.jillapun_c.specs.declared.converter.Stage.TheVariants.{Open, Stopped, TooLong}
@@ -273,12 +275,12 @@ first_part j last input rest out records c h = record {
   first_bytes = λ r none. let more = under_front j.policy h.items (owes (view_in c) (rest ++ r)) in (
     c.held ++ output_bytes (tagged more.0),
     ap (output_under j.policy) (owed_on j last input rest h.items (view_in c) h.taken r none) ∙ ap (λ x. output_bytes (tagged x)) more.1 ∙ output_of_both (written_under j.policy h.items) more.0
-    ∙ ap (λ x. x ++ output_bytes (tagged more.0)) (sym h.written) ∙ append_assoc out c.held (output_bytes (tagged more.0)),
+        ∙ ap (λ x. x ++ output_bytes (tagged more.0)) (sym h.written) ∙ append_assoc out c.held (output_bytes (tagged more.0)),
   );
   first_records = λ r none. let more = under_front j.policy h.items (owes (view_in c) (rest ++ r)) in (
     log_of_losses (held_losses c) ++ log_bytes (tagged more.0),
     ap (log_under j.policy) (owed_on j last input rest h.items (view_in c) h.taken r none) ∙ ap (λ x. log_bytes (tagged x)) more.1 ∙ log_of_both (written_under j.policy h.items) more.0
-    ∙ ap (λ x. x ++ log_bytes (tagged more.0)) (sym h.logged ∙ log_of_more records (held_losses c)) ∙ append_assoc (log_of_losses records) (log_of_losses (held_losses c)) (log_bytes (tagged more.0)),
+        ∙ ap (λ x. x ++ log_bytes (tagged more.0)) (sym h.logged ∙ log_of_more records (held_losses c)) ∙ append_assoc (log_of_losses records) (log_of_losses (held_losses c)) (log_bytes (tagged more.0)),
   );
 }
 
@@ -372,11 +374,11 @@ stage_told : FirstLaw → (s : Stage) (j : Job) (last : Bool) (x rest y : List �
     → (v.over ≡ true → IsOverWith v last rest) → TellsStage s v report status → ConvertsInMemory j x y records report status
 stage_told law Open j last x rest y records v items report status taken output logged stands over tells = elim (over_or_not v.over) [
   | inl is ↦
-    let o : IsOverWith v last rest = over is in
-    let end : HasTaken j true x [] items v = subst (λ b. HasTaken j b x [] items v) o.last_ (subst (λ (z : List ℕ). HasTaken j last x z items v) o.none taken) in
-    let all : items ≡ whole_trace j x = taken_whole j x items v end o.whole in
-    let done = tells.done is in
-    all_told j x y records done.0 report status (output ∙ ap (output_under j.policy) all) (logged ∙ ap (log_under j.policy) all) (taken_report j x items v done.0 end o.whole done.1) done.2
+      let o : IsOverWith v last rest = over is in
+      let end : HasTaken j true x [] items v = subst (λ b. HasTaken j b x [] items v) o.last_ (subst (λ (z : List ℕ). HasTaken j last x z items v) o.none taken) in
+      let all : items ≡ whole_trace j x = taken_whole j x items v end o.whole in
+      let done = tells.done is in
+      all_told j x y records done.0 report status (output ∙ ap (output_under j.policy) all) (logged ∙ ap (log_under j.policy) all) (taken_report j x items v done.0 end o.whole done.1) done.2
   | inr is ↦ nothing_said j x y records report status (not_done status (omega (arith, (tells.open_ is).1)) (λ e. omega (arith, e, (tells.open_ is).1)))
 ]
 stage_told law (Stopped index scalar) j last x rest y records v items report status taken output logged stands over tells =
@@ -540,10 +542,10 @@ all_converted c0 c m c' last src dst0 dst dst1 dst' losses0 losses losses' read 
   lost = i.hands.lost.full;
   all = λ empty open_ over. elim (subst (λ z. TurnEnds c m last (drop p.read src) (drop read (drop p.read src)) z) is i.turns.ends) [
     | inl e ↦
-      let none : last ≡ false = sym e.1.over ∙ ap (λ v. v.over) (sym view) ∙ over in (
-        none,
-        subst (λ v. AllIsConverted v (drop p'.read src) false) (sym view) (subst (λ b. AllIsConverted (view_in m) (drop p'.read src) b) none (subst (λ (x : List ℕ). AllIsConverted (view_in m) x last) rest e.1)),
-      )
+        let none : last ≡ false = sym e.1.over ∙ ap (λ v. v.over) (sym view) ∙ over in (
+          none,
+          subst (λ v. AllIsConverted v (drop p'.read src) false) (sym view) (subst (λ b. AllIsConverted (view_in m) (drop p'.read src) b) none (subst (λ (x : List ℕ). AllIsConverted (view_in m) x last) rest e.1)),
+        )
     | inr e ↦ absurd (other (sym e.stage ∙ ap (λ (z : Converter). z.stage) (sym i.hands.rest) ∙ open_))
   ];
 }
@@ -567,3 +569,71 @@ iterates c m c' last src rest dst dst1 dst' losses losses' read to r p p' is rea
   within = subst (λ (x : List ℕ). read ≤ length x) is within;
   hands = hands;
 }
+
+-- ---- calls together
+
+-- that the end was told changes nothing of what was converted
+told_as : (j : Job) (last : Bool) (input rest out : List ℕ) (records : List Loss) (c : Converter) (finished : Bool) → HasConverted j last input rest out records c
+    → HasConverted j last input rest out records (record c { is_finished = finished })
+told_as j last input rest out records c finished h = record {
+  items = h.items;
+  taken = h.taken;
+  policy = h.policy;
+  written = h.written;
+  logged = h.logged;
+  stage = h.stage;
+  over = h.over;
+}
+
+-- what a call is to read: what it was handed, and after the end nothing but the end
+pub record IsToRead (c : Converter) (src : List ℕ) (last : Bool) (src' : List ℕ) (last' : Bool) : Type 0 where
+  pub ended : (view_in c).ended ≡ true → (src' ≡ []) × (last' ≡ true)
+  pub open_ : (view_in c).ended ≡ false → (src' ≡ src) × (last' ≡ last)
+
+-- after lawful calls that is what it was handed
+reads_handed : (j : Job) (last : Bool) (input src out : List ℕ) (records : List Loss) (c : Converter) (src' : List ℕ) (last' : Bool) → HasConverted j last input src out records c
+    → IsToRead c src last src' last' → (src' ≡ src) × (last' ≡ last)
+reads_handed j last input src out records c src' last' h r = elim (over_or_not (view_in c).ended) [
+  | inl is ↦ let e = h.taken.law.ended is in let k = r.ended is in (k.0 ∙ sym e.1, k.1 ∙ sym e.0)
+  | inr is ↦ r.open_ is
+]
+
+-- a call goes on with those before it
+pub joins : FirstLaw → (c c' : Converter) (after : Option Coder) (finished : Bool) (src src' dst : List ℕ) (last last' : Bool) (losses : List Loss) (p : ConverterProgress) (report : Report) (status : ℕ)
+    → converter_in after ≡ Some (record c' { is_finished = finished }) → IsToRead c src last src' last'
+    → Carries c c' last' src' (drop p.read src') (take p.written dst) (take p.losses losses) → TellsStatus c' report status → JoinsToCalls c after src last dst losses p report status
+joins law c c' after finished src src' dst last last' losses p report status held_is reads carries tells = λ j before input rest more out records h is end.
+    let handed : HasConverted j last (input ++ more) src out records c =
+    subst (λ (x : List ℕ). HasConverted j last (input ++ more) x out records c) (sym is) (handed_in j before last input rest more out records c end h) in
+    let same = reads_handed j last (input ++ more) src out records c src' last' handed reads in
+    let carried : Carries c c' last src (drop p.read src) (take p.written dst) (take p.losses losses) =
+    subst (λ b. Carries c c' b src (drop p.read src) (take p.written dst) (take p.losses losses)) same.1
+    (subst (λ (x : List ℕ). Carries c c' last' x (drop p.read x) (take p.written dst) (take p.losses losses)) same.0 carries) in
+    let so_far : HasConverted j last (input ++ more) (drop p.read src) (out ++ take p.written dst) (records ++ take p.losses losses) c' = carried j (input ++ more) out records handed in
+    record {
+      converter = record c' { is_finished = finished };
+      held_is = held_is;
+      so_far = told_as j last (input ++ more) (drop p.read src) (out ++ take p.written dst) (records ++ take p.losses losses) c' finished so_far;
+      part = first_part j last (input ++ more) (drop p.read src) (out ++ take p.written dst) (records ++ take p.losses losses) c' so_far;
+      told = told_so_far law j last (input ++ more) (drop p.read src) (out ++ take p.written dst) (records ++ take p.losses losses) c' report status so_far tells;
+    }
+
+-- what a call converts of what it is to read it converts of what it was handed
+pub converts_handed : (c c' : Converter) (finished : Bool) (src src' dst : List ℕ) (last last' : Bool) (losses : List Loss) (p : ConverterProgress) → IsToRead c src last src' last'
+    → ConvertsAll c' last' (drop p.read src') dst losses p → ConvertsAll (record c' { is_finished = finished }) last (drop p.read src) dst losses p
+converts_handed c c' finished src src' dst last last' losses p reads k = record {
+  wants_room = k.wants_room;
+  output = k.output;
+  lost = k.lost;
+  all = λ empty open_ over. let a = k.all empty open_ over in elim (over_or_not (view_in c).ended) [
+    | inl is ↦ absurd (cc (sym a.0 ∙ (reads.ended is).1))
+    | inr is ↦ let r = reads.open_ is in (sym r.1 ∙ a.0, subst (λ (x : List ℕ). AllIsConverted (view_in c') (drop p.read x) false) r.0 a.1)
+  ];
+}
+
+-- and reads no more than that
+pub reads_within : (c : Converter) (src src' : List ℕ) (last last' : Bool) (read : ℕ) → IsToRead c src last src' last' → read ≤ length src' → read ≤ length src
+reads_within c src src' last last' read reads within = elim (over_or_not (view_in c).ended) [
+  | inl is ↦ omega (arith, within, ap length (reads.ended is).0)
+  | inr is ↦ omega (arith, within, ap length (reads.open_ is).0)
+]

@@ -17,6 +17,7 @@ use std::alloc::{AllocError, Global};
 
 // How many bytes and how many records a step has room for.
 const STEP_SIZE: usize = 4096;
+
 const STEP_LOSSES: usize = 16;
 
 // What a conversion made.

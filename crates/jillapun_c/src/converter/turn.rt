@@ -149,8 +149,7 @@ impl Converter {
         let mut progress = ConverterProgress::NONE;
         self.hand_out(dst, losses, &mut progress);
         'turns: while self.is_ready() {
-            let (result, read, to) =
-                self.turn(&src[progress.read..], last, dst, progress.written);
+            let (result, read, to) = self.turn(&src[progress.read..], last, dst, progress.written);
             progress.read += read;
             progress.written = to;
             self.hand_out(dst, losses, &mut progress);

@@ -16,9 +16,9 @@ pub turns-smaller : goal.turns-smaller
 turns-smaller c = elim (smaller c.turns.self c.turn-result.new.self c.hand_out-in-turns.new.self c.args.last c.args.src.now c.turns.dst c.turn-result.new.dst c.hand_out-in-turns.new.dst c.turns.losses c.hand_out-in-turns.new.losses
     c.turn-result.result.1 c.turn-result.result.2 c.turn-result.result.0 c.turns.progress c.hand_out-in-turns.new.progress
     (iterates _ _ _ _ _ _ _ _ _ _ _ _ _ _ _ _ (take_rest c.args.src.now c.turns.progress.read) (c.is_ready.ensures.0 c.turns-test.true) c.turn-result.ensures.turns c.turn-result.ensures.within c.hand_out-in-turns.ensures)) [
-  | inl none ↦ absurd (not_empty c.turn-result.result.0 c.in-OutputFull.is none.0)
-  | inr less ↦ less
-]
+      | inl none ↦ absurd (not_empty c.turn-result.result.0 c.in-OutputFull.is none.0)
+      | inr less ↦ less
+    ]
 
 pub turns-preserved : goal.turns-preserved
 turns-preserved c = iterated c.args.self.now c.turns.self c.turn-result.new.self c.hand_out-in-turns.new.self c.args.last c.args.src.now c.args.dst.now c.turns.dst c.turn-result.new.dst c.hand_out-in-turns.new.dst
