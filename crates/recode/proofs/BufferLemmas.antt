@@ -1,6 +1,7 @@
 -- Buffers and writers that are lent and given back.
 use Rattle.std.proofs.Common.{◌≡◌, ◌∙◌, ℕ, List, Option, None, ap, arith, refl, sym, take, true≢false}
 use Rattle.recode.specs.calls.Buffers.{AreEnough, KeepSizes, KeepsRoom, HoldsAnyCharacter, capacity, is_wide}
+use Rattle.recode.specs.calls.Lent.{AreLent, KeepsLent}
 use Rattle.recode.specs.calls.Writers.{AreReady, AreTheSame, HoldNothing, written_by, writers_view}
 use Rattle.recode.specs.calls.Held.{holding_none}
 use Rattle.recode.specs.declared.job.Buffers.{Buffers}
@@ -33,6 +34,12 @@ room_start p h = record { roomy = h; kind = refl; size = refl }
 
 pub room_on : {p q r : Pivot} → KeepsRoom p q → KeepsRoom q r → KeepsRoom p r
 room_on h k = record { roomy = k.roomy; kind = k.kind ∙ h.kind; size = k.size ∙ h.size }
+
+pub lent_start : (p c : Pivot) → AreLent p c → KeepsLent p c p c
+lent_start p c lent = record { pivot = room_start p lent.pivot; check = room_start c lent.check }
+
+pub lent_on : {p c p1 c1 p2 c2 : Pivot} → KeepsLent p c p1 c1 → KeepsLent p1 c1 p2 c2 → KeepsLent p c p2 c2
+lent_on h k = record { pivot = room_on h.pivot k.pivot; check = room_on h.check k.check }
 
 pub kept_enough : (b c : Buffers) → AreEnough b → KeepSizes b c → AreEnough c
 kept_enough b c e k = record {

@@ -1,5 +1,5 @@
 -- What the calls of an engine are, as turns.
-use Rattle.std.proofs.Common.{IsSome, true≢false, ◌≡◌, ℕ, ◌+◌, ◌-◌, ◌*◌, ◌≤◌, ◌<◌, Bool, true, false, List, [], ◌∷◌, ◌++◌, map, length, drop, take, Option, None, Some, refl, sym, ◌∙◌, ap, subst, arith, append_assoc, length-append, length-drop}
+use Rattle.std.proofs.Common.{◌^◌, IsSome, true≢false, ◌≡◌, ℕ, ◌+◌, ◌-◌, ◌*◌, ◌≤◌, ◌<◌, Bool, true, false, List, [], ◌∷◌, ◌++◌, map, length, drop, take, Option, None, Some, refl, sym, ◌∙◌, ap, subst, arith, append_assoc, length-append, length-drop}
 use Rattle.std.proofs.lemmas.Bool.{false≢true}
 use Rattle.std.specs.Str.{all_scalars, chars, encode_utf8_all}
 use Rattle.std.specs.Char.Utf16.{utf16_lossy_chars}
@@ -14,7 +14,7 @@ use Rattle.recode.specs.State.{State}
 use Rattle.recode.specs.Step.{IsNearlyDecided}
 use Rattle.recode.specs.Work.{IsCounted}
 use Rattle.recode.specs.calls.CodecCalls.{DecodeCallEndsWith}
-use Rattle.recode.specs.calls.EngineView.{HoldsBetween, chars_between}
+use Rattle.recode.specs.calls.EngineView.{HoldsBetween, chars_between, engine_target, standing}
 use Rattle.recode.specs.calls.Buffers.{is_wide}
 use Rattle.recode.specs.calls.PivotText.{Holds, HoldsText, IsCutInto, IsWholeText, element_count, is_in_units, pivot_chars}
 use Rattle.recode.specs.declared.codec_calls.PivotText.{PivotText}
@@ -51,7 +51,7 @@ use Rattle.encoding_mem.specs.declared.form.EscapeState.TheVariants.{Ascii}
 use Rattle.recode.specs.Policy.{reference_form}
 use Rattle.recode.specs.calls.Chunk.{IsDoneWith}
 use Rattle.recode.specs.calls.Verdict.{IsToldAtEnd}
-use Rattle.recode.proofs.TraceLemmas.{bad_line_count-append, bad_line_count-bytes, lost_line_count-append, lost_line_count-bytes}
+use Rattle.recode.specs.laws.Items.{bad_line_count-append, bad_line_count-bytes, lost_line_count-append, lost_line_count-bytes}
 use Rattle.encoding_mem.specs.Coding.{reference_bytes}
 use Rattle.encoding_mem.specs.calls.EncoderCalls.{reported_item}
 use Rattle.encoding_mem.specs.declared.encoder_result.EncoderResult.{EncoderResult}
@@ -347,6 +347,38 @@ done_in c src last need law is empty open_ sound closed tells told =
     ap (λ (a : Option DecoderResult). record { state = c.state; answer = a; text = c.text }) is ∙ ap (λ (t : List ℕ). record { state = c.state; answer = Some InputEmpty; text = t }) empty in
     done_with c.state last need law (refl, open_.1, open_.2, open_.3) (subst AreCountedSoundly whole sound) closed tells told
 
+-- ---- a turn
+
+-- What a call of the encoder is after one of the decoder: a turn, after which what waits is open still.
+pub record Encoded (c0 c2 : Standing) (last : Bool) (x y : List ℕ) (items : List Item) (done : Bool) : Type 0 where
+  pub turned : TakesTurns c0 c2 last x y items (2 * ended_count done) (ended_count done)
+  pub open_ : IsOpenFor c2.answer c2 y last
+  pub limit : c2.state.counts.read + length y ≤ 2 ^ 48
+  pub goes_on : CanTell c2.state.verdict c2.state.coding c2.state.set c2.text → CanGoOn c2 y last
+
+pub encoded : {D E : Type 0} (view : D → DecoderView) (parts : E → EncoderParts) (p : Policy) (e0 e1 e2 : Engine D E) (p0 p1 : Pivot) (last ended : Bool) (x y : List ℕ)
+    → TakesTurns (standing view parts p e0 p0) (standing view parts p e1 p1) last x y [] 0 0 → CanGoOn (standing view parts Policy.Decimal e1 p1) y last → IsSome e1.answer → ended ≡ is_last_text e1.answer last
+    → e2.answer ≡ e1.answer → e2.decoder ≡ e1.decoder → {items : List Item} {done : Bool}
+    → EncodesOnce (engine_target view parts p e1) (engine_target view parts p e2) ended (chars_between p1 e1.from e1.to) (chars_between p1 e2.from e2.to) items done → Encoded (standing view parts p e0 p0) (standing view parts p e2 p1) last x y items done
+encoded view parts p e0 e1 e2 p0 p1 last ended x y law next some is_end answer decoder {items} {done} once =
+    let c1 = standing view parts p e1 p1 in
+    let c2 = standing view parts p e2 p1 in
+    let a = answer_of e1.answer some in
+    let state = ap (λ d. (view d).state) decoder in
+    let finished = ap (λ d. (view d).finished) decoder in
+    let can = under_policy (standing view parts Policy.Decimal e1 p1).state e1.answer c1.text y last p next in
+    let turn = encode_turn_in c1 c2 a.0 ended last y items done a.1 answer (state_kept view parts p e1 e2 decoder once.encodes.target) can is_end once in
+    let most : 0 + 2 * ended_count done ≡ 2 * ended_count done = omega arith in
+    let least : 0 + ended_count done ≡ ended_count done = omega arith in
+    record {
+      turned = subst (λ (n : ℕ). TakesTurns (standing view parts p e0 p0) c2 last x y items n (ended_count done)) most
+          (subst (λ (n : ℕ). TakesTurns (standing view parts p e0 p0) c2 last x y items (0 + 2 * ended_count done) n) least
+          (turns_more (standing view parts p e0 p0) c1 c2 last x y y [] items 0 (2 * ended_count done) 0 (ended_count done) law turn));
+      open_ = open_still a.0 c1 c2 y last a.1 answer state finished can.open_;
+      limit = omega (arith, can.limit, once.encodes.read);
+      goes_on = λ tells. goes_on_after c1 c2 a.0 y last a.1 answer state finished once.encodes.read turn.sound tells can;
+    }
+
 -- ---- what is written into the part of a slice
 
 pub items_into : (w k n : ℕ) (xs ys : List ℕ) (more : List Item) → w ≤ length xs → n ≤ length ys → map Byte (take w xs) ++ (map Byte (take n ys) ++ more) ≡ map Byte (take (w + n) (put_mid w k xs ys)) ++ more
@@ -382,6 +414,9 @@ last_is buffer room n m within fits =
     let after = put_mid n (length buffer - n) buffer room in
     ap (λ k. take m (drop k after)) (omega arith) ∙ sym (drop-take n m after) ∙ ap (drop n) (take_into n (length buffer - n) m buffer room within fits) ∙ drop_at (take n buffer) (take m room) n (length-take-le n buffer within)
 
-pub free_into : (xs ys : List ℕ) (w k n : ℕ) → w ≤ length xs → k ≡ length xs - w → length ys ≡ k → length ys - n ≡ length (put_mid w k xs ys) - (w + n)
-free_into xs ys w k n within size long =
+pub size_into : (xs ys : List ℕ) (w k : ℕ) → w ≤ length xs → k ≡ length xs - w → length ys ≡ k → length (put_mid w k xs ys) ≡ length xs
+size_into xs ys w k within size long =
     omega (arith, within, size, long, length-append (take w xs) (ys ++ post_of w k xs), length-append ys (post_of w k xs), length-take-le w xs within, length-drop k (drop w xs), length-drop w xs)
+
+pub free_into : (xs ys : List ℕ) (w k n : ℕ) → w ≤ length xs → k ≡ length xs - w → length ys ≡ k → length ys - n ≡ length (put_mid w k xs ys) - (w + n)
+free_into xs ys w k n within size long = omega (arith, within, size, long, size_into xs ys w k within size long)

@@ -15,7 +15,7 @@ use Rattle.encoding_mem.specs.declared.decoder_result.DecoderResult.{DecoderResu
 use Rattle.encoding_mem.specs.declared.decoder_result.DecoderResult.TheVariants.{InputEmpty, OutputFull, Malformed}
 use Rattle.encoding_mem.specs.laws.Piece.{scalars-append, sizes-append}
 use Rattle.encoding_mem.specs.laws.EncoderCalls.{last_set-append}
-use Rattle.recode.specs.calls.TraceToWrite.{trace_to_write, AreSound}
+use Rattle.recode.specs.calls.TraceToWrite.{trace_to_write}
 use Rattle.recode.specs.declared.counts.Counts.{Counts}
 
 -- of texts in a row
@@ -177,25 +177,6 @@ malformed_call before after src last read a b W text k e =
     }
 
 module _ (before after : DecoderState) (src : List ℕ) (last : Bool) (read : ℕ) (t : List ℕ) (k : WellFormedCall before after src last read t) where
-  -- not more characters than bytes
-  pub well_formed_fits : (c : Counts) → AreSound before.pending c → c.index + length t + after.pending ≤ c.read + read
-  well_formed_fits c h = omega (arith, h.index, k.counted, k.fits)
-
-  -- what was still to be written is the text, then what is still to be written now
-  well_formed_owed : (ref : Reference) (e : Coding) (s s' : EscapeState) (c c' : Counts) → before.pending ≤ c.read → s' ≡ last_set e s t → c'.index ≡ c.index + length t → c'.read ≡ c.read + read
-      → (r : List ℕ) → (last ≡ true → r ≡ []) → trace_to_write ref before e s c (src ++ r) ≡ whole_items ref e false s c.index t ++ trace_to_write ref after e s' c' (drop read src ++ r)
-  well_formed_owed ref e s s' c c' fits set_is index_is read_is r h =
-      let rest = after.pieces (drop read src ++ r) in
-      let at = c.read - before.pending in
-      let offset_equals : at + sizes k.taken ≡ c'.read - after.pending = omega (arith, k.counted, fits, read_is) in
-      ap (trace_from ref e s at c.index) (k.rest r h)
-      ∙ trace_well_formed ref e s at c.index k.taken rest k.fine
-      ∙ ap (λ (x : List ℕ). open_items ref e s c.index x ++ trace_from ref e (last_set e s x) (at + sizes k.taken) (c.index + length x) rest) (sym k.text_is)
-      ∙ ap (λ (q : EscapeState). open_items ref e s c.index t ++ trace_from ref e q (at + sizes k.taken) (c.index + length t) rest) (sym set_is)
-      ∙ ap (λ (n : ℕ). open_items ref e s c.index t ++ trace_from ref e s' n (c.index + length t) rest) offset_equals
-      ∙ ap (λ (n : ℕ). open_items ref e s c.index t ++ trace_from ref e s' (c'.read - after.pending) n rest) (sym index_is)
-      ∙ ap (λ x. x ++ trace_to_write ref after e s' c' (drop read src ++ r)) (sym (append-nil (open_items ref e s c.index t)))
-
   -- how many pieces are left
   well_formed_left : 0 < length k.taken → length (after.pieces (drop read src)) < length (before.pieces src)
   well_formed_left some =
@@ -227,45 +208,3 @@ some_taken (p ∷ ps) h = omega arith
 -- some text was written
 pub full_left : (before after : DecoderState) (src : List ℕ) (last : Bool) (read : ℕ) (t : List ℕ) → WellFormedCall before after src last read t → 0 < length t → length (after.pieces (drop read src)) < length (before.pieces src)
 full_left before after src last read t k some = well_formed_left before after src last read t k (some_taken k.taken (omega (arith, some, ap length k.text_is)))
-
-module _ (before after : DecoderState) (src : List ℕ) (last : Bool) (read a b : ℕ) (t : List ℕ) (k : MalformedCall before after src last read a b t) where
-  pub malformed_fits : (c : Counts) → AreSound before.pending c → c.index + length t + 1 + after.pending ≤ c.read + read
-  malformed_fits c h = omega (arith, h.index, k.counted, k.fits, k.some, k.pending)
-
-  -- the bytes before the piece that was met
-  pub malformed_offset : (c : Counts) → AreSound before.pending c → a + b ≤ c.read + read
-  malformed_offset c h = omega (arith, h.index, k.counted)
-
-  malformed_is_first : (ref : Reference) (e : Coding) (s : EscapeState) (c : Counts) (offset : ℕ) → before.pending ≤ c.read → offset ≡ c.read + read - b - a
-      → (r : List ℕ) → (last ≡ true → r ≡ []) → trace_to_write ref before e s c (src ++ r) ≡ whole_items ref e false s c.index t ++ ((MalformedAt offset a ∷ open_items ref e (last_set e s t) (c.index + length t) (0xFFFD ∷ []))
-      ++ trace_from ref e (e.set (last_set e s t) 0xFFFD) (offset + a) (c.index + length t + 1) (after.pieces (drop read src ++ r)))
-  malformed_is_first ref e s c offset fits offset_is r h =
-      let rest = after.pieces (drop read src ++ r) in
-      let at = c.read - before.pending in
-      let offset_equals : at + sizes k.prefix ≡ offset = omega (arith, k.counted, fits, offset_is) in
-      ap (trace_from ref e s at c.index) (k.rest r h)
-      ∙ trace_well_formed ref e s at c.index k.prefix (malformed a ∷ rest) k.fine
-      ∙ ap (λ (x : List ℕ). open_items ref e s c.index x ++ trace_from ref e (last_set e s x) (at + sizes k.prefix) (c.index + length x) (malformed a ∷ rest)) (sym k.text_is)
-      ∙ ap (λ (n : ℕ). open_items ref e s c.index t ++ trace_from ref e (last_set e s t) n (c.index + length t) (malformed a ∷ rest)) offset_equals
-      ∙ ap (λ x. x ++ trace_from ref e (last_set e s t) offset (c.index + length t) (malformed a ∷ rest)) (sym (append-nil (open_items ref e s c.index t)))
-
-  -- what was still to be written is the text, the malformed sequence, then what is still to be written now
-  pub malformed_owed : (ref : Reference) (e : Coding) (s s1 s' : EscapeState) (c c1 c' : Counts) (offset : ℕ) → before.pending ≤ c.read → offset ≡ c.read + read - b - a
-      → s1 ≡ last_set e s t → c1.index ≡ c.index + length t → s' ≡ e.set s1 0xFFFD → c'.index ≡ c1.index + 1 → c'.read ≡ c.read + read
-      → (r : List ℕ) → (last ≡ true → r ≡ []) → trace_to_write ref before e s c (src ++ r)
-      ≡ (whole_items ref e false s c.index t ++ (MalformedAt offset a ∷ open_items ref e s1 c1.index (0xFFFD ∷ []))) ++ trace_to_write ref after e s' c' (drop read src ++ r)
-  malformed_owed ref e s s1 s' c c1 c' offset fits offset_is set1_is index1_is set_is index_is read_is r h =
-      let rest = after.pieces (drop read src ++ r) in
-      let w = whole_items ref e false s c.index t in
-      let offset_equals : offset + a ≡ c'.read - after.pending = omega (arith, k.counted, k.pending, fits, offset_is, read_is) in
-      malformed_is_first ref e s c offset fits offset_is r h
-      ∙ ap (λ (q : EscapeState). w ++ ((MalformedAt offset a ∷ open_items ref e q (c.index + length t) (0xFFFD ∷ [])) ++ trace_from ref e (e.set q 0xFFFD) (offset + a) (c.index + length t + 1) rest)) (sym set1_is)
-      ∙ ap (λ (n : ℕ). w ++ ((MalformedAt offset a ∷ open_items ref e s1 n (0xFFFD ∷ [])) ++ trace_from ref e (e.set s1 0xFFFD) (offset + a) (n + 1) rest)) (sym index1_is)
-      ∙ ap (λ (q : EscapeState). w ++ ((MalformedAt offset a ∷ open_items ref e s1 c1.index (0xFFFD ∷ [])) ++ trace_from ref e q (offset + a) (c1.index + 1) rest)) (sym set_is)
-      ∙ ap (λ (n : ℕ). w ++ ((MalformedAt offset a ∷ open_items ref e s1 c1.index (0xFFFD ∷ [])) ++ trace_from ref e s' n (c1.index + 1) rest)) offset_equals
-      ∙ ap (λ (n : ℕ). w ++ ((MalformedAt offset a ∷ open_items ref e s1 c1.index (0xFFFD ∷ [])) ++ trace_from ref e s' (c'.read - after.pending) n rest)) (sym index_is)
-      ∙ sym (append_assoc w (MalformedAt offset a ∷ open_items ref e s1 c1.index (0xFFFD ∷ [])) (trace_to_write ref after e s' c' (drop read src ++ r)))
-
-  -- the parts of it, if a device failed
-  pub malformed_text_prefix : (ref : Reference) (e : Coding) (s : EscapeState) (c : Counts) → before.pending ≤ c.read → (r : List ℕ) → (last ≡ true → r ≡ []) → (rest : List Item) × (trace_to_write ref before e s c (src ++ r) ≡ whole_items ref e false s c.index t ++ rest)
-  malformed_text_prefix ref e s c fits r h = (_, malformed_is_first ref e s c (c.read + read - b - a) fits refl r h)

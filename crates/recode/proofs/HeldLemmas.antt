@@ -11,14 +11,14 @@ use Rattle.recode_log.specs.declared.line.LogLine.TheVariants.{Bad, Lost}
 use Rattle.recode.specs.Devices.{Written}
 use Rattle.recode.specs.Policy.{written_under}
 use Rattle.recode.specs.TaggedByte.{Line, Wrote, tagged, tagged_item}
-use Rattle.recode.specs.WrittenItems.{IsSpared, WritesItemsFor, WritesPrefix, lost_line_count}
-use Rattle.recode.specs.calls.Held.{LeavesPrefix, LeavesPrefixFor, Passes, PassesBytes, PassesItems, PassesItemsFor, WritersView, WritesLine, held_items, held_line_bytes, holding_none, item_of, line_items, log_line_of}
+use Rattle.recode.specs.WrittenItems.{IsSpared, WritesPrefix, lost_line_count}
+use Rattle.recode.specs.calls.Held.{LeavesPrefix, LeavesPrefixFor, Passes, PassesBytes, WritersView, held_items, held_line_bytes, item_of, line_items, log_line_of}
 use Rattle.recode.specs.declared.job.Fault.{Fault}
 use Rattle.recode.specs.declared.job.Fault.TheVariants.{Write, Log, Unmappable}
 use Rattle.recode.specs.declared.job.Policy.{Policy}
-use Rattle.recode.specs.declared.counts.Counts.{Counts}
 use Rattle.recode.specs.declared.writers.MalformedLine.{MalformedLine}
-use Rattle.recode.proofs.TraceLemmas.{AreCounted-trans, Wrote-nil, Wrote-trans, WritesPrefixFor-of, bad_line_count-bytes, handed_on, left_behind, lost_line_count-append, lost_line_count-bytes, spared_append, spared_nil, tagged-append, under_bytes, under_lines, written_first, written_spared, wrote_bytes, wrote_line}
+use Rattle.recode.specs.laws.Items.{lost_line_count-append, lost_line_count-bytes, tagged-append, written_spared}
+use Rattle.recode.proofs.TraceLemmas.{Wrote-nil, Wrote-trans, WritesPrefixFor-of, handed_on, left_behind, under_bytes, under_lines, written_first, wrote_bytes, wrote_line}
 
 -- ---- items in a row
 
@@ -50,78 +50,19 @@ delivered_spared : (w w' : WritersView) (p : Policy) (passed : List Item) (h : P
 delivered_spared w w' p passed h spared stops =
     omega (arith, spared stops, held_spared w, ap lost_line_count h.in_order, lost_line_count-append (held_items w) passed, lost_line_count-append h.delivered (held_items w'))
 
-left_after : (w w' : WritersView) (v : Written) (p : Policy) (f : Fault) (passed a b : List Item) → Passes w w' passed → IsSpared p passed → a ≡ passed ++ b → WritesPrefix w'.written v p f (held_items w' ++ b) → WritesPrefix w.written v p f (held_items w ++ a)
+pub left_after : (w w' : WritersView) (v : Written) (p : Policy) (f : Fault) (passed a b : List Item) → Passes w w' passed → IsSpared p passed → a ≡ passed ++ b → WritesPrefix w'.written v p f (held_items w' ++ b) → WritesPrefix w.written v p f (held_items w ++ a)
 left_after w w' v p f passed a b h spared e k = record {
   taken = tagged h.delivered ++ k.taken;
   wrote = Wrote-trans w.written w'.written v _ _ h.wrote k.wrote;
   left = left_behind p f h.delivered k.taken (held_items w ++ a) (held_items w' ++ b) (delivered_spared w w' p passed h spared) (passed_of w w' passed a b h e) k.left;
 }
 
--- after what was held is written
-pub left_held : (w w' : WritersView) (v : Written) (p : Policy) (f : Fault) (a : List Item) → Passes w w' [] → WritesPrefix w'.written v p f (held_items w' ++ a) → WritesPrefix w.written v p f (held_items w ++ a)
-left_held w w' v p f a h k = left_after w w' v p f [] a a h (spared_nil p) refl k
-
--- ---- items that are counted
-
-pub pays_under : (w w' : WritersView) (v : Written) (x y : Counts) (p : Policy) (f : Fault) (a b : List Item) → PassesItems w w' x y p a b → WritesPrefix w'.written v p f (held_items w' ++ b) → WritesPrefix w.written v p f (held_items w ++ a)
-pays_under w w' v x y p f a b h k = left_after w w' v p f h.passed a b h.passes h.spared h.equals k
-
--- bytes
-pub pays_bytes : (w w' : WritersView) (x y : Counts) (p : Policy) (bytes : List ℕ) (a b : List Item) → PassesBytes w w' bytes → y.bad ≡ x.bad → y.lost ≡ x.lost → a ≡ map Byte bytes ++ b → PassesItems w w' x y p a b
-pays_bytes w w' x y p bytes a b h same same' e = record {
-  passed = map Byte bytes;
-  passes = h;
-  counted = record { bad = omega (arith, same, bad_line_count-bytes bytes); lost = omega (arith, same', lost_line_count-bytes bytes) };
-  spared = λ is. lost_line_count-bytes bytes;
-  equals = e;
-}
-
--- the line of a lost character, if the policy does not stop
-pub pays_lost : (w w' : WritersView) (x y : Counts) (p : Policy) (i c : ℕ) (b : List Item) → WritesLine w w' (LostAt i c) → y.bad ≡ x.bad → y.lost ≡ x.lost + 1 → ¬ (p ≡ Policy.Stop) → PassesItems w w' x y p (LostAt i c ∷ b) b
-pays_lost w w' x y p i c b h same one goes_on = record {
-  passed = LostAt i c ∷ [];
-  passes = h.passes;
-  counted = record { bad = omega (arith, same); lost = omega (arith, one) };
-  spared = λ stops. absurd (goes_on stops);
-  equals = refl;
-}
-
 -- ---- for every continuation
-
-pub pays_for_then : (w w' w'' : WritersView) (x y z : Counts) (p : Policy) (last : Bool) (a b c : List ℕ → List Item) → PassesItemsFor w w' x y p last a b → PassesItemsFor w' w'' y z p last b c → PassesItemsFor w w'' x z p last a c
-pays_for_then w w' w'' x y z p last a b c h k = record {
-  passed = h.passed ++ k.passed;
-  passes = passes_then w w' w'' h.passed k.passed h.passes k.passes;
-  counted = AreCounted-trans x y z h.passed k.passed h.counted k.counted;
-  spared = spared_append p h.passed k.passed h.spared k.spared;
-  equals = λ r none. h.equals r none ∙ ap (λ l. h.passed ++ l) (k.equals r none) ∙ sym (append_assoc h.passed k.passed (c r));
-}
-
-pub pays_for_under : (w w' w'' : WritersView) (x y : Counts) (p : Policy) (f : Fault) (last : Bool) (a b : List ℕ → List Item) → PassesItemsFor w w' x y p last a b → LeavesPrefixFor w' w'' p f last b → LeavesPrefixFor w w'' p f last a
-pays_for_under w w' w'' x y p f last a b h k = record {
-  taken = tagged h.passes.delivered ++ k.taken;
-  wrote = Wrote-trans w.written w'.written w''.written _ _ h.passes.wrote k.wrote;
-  left = λ r none. left_behind p f h.passes.delivered k.taken (held_items w ++ a r) (held_items w' ++ b r) (delivered_spared w w' p h.passed h.passes h.spared) (passed_of w w' h.passed (a r) (b r) h.passes (h.equals r none)) (k.left r none);
-}
-
--- what was held was written
-pub pays_for_held : (w w' : WritersView) (x : Counts) (p : Policy) (last : Bool) (a : List ℕ → List Item) → Passes w w' [] → PassesItemsFor w w' x x p last a a
-pays_for_held w w' x p last a h = record { passed = []; passes = h; counted = record { bad = omega arith; lost = omega arith }; spared = spared_nil p; equals = λ r none. refl }
 
 pub left_for_of : (w w' : WritersView) (p : Policy) (f : Fault) (last : Bool) (total : List Item) (a : List ℕ → List Item) → LeavesPrefix w w' p f total
     → ((r : List ℕ) → (last ≡ true → r ≡ []) → (rest : List Item) × (a r ≡ total ++ rest)) → LeavesPrefixFor w w' p f last a
 left_for_of w w' p f last total a h e = WritesPrefixFor-of w.written w'.written p f last (held_items w ++ total) (λ r. held_items w ++ a r) h
     (λ r none. let m = e r none in (m.0, ap (λ x. held_items w ++ x) m.1 ∙ sym (append_assoc (held_items w) total m.0)))
-
--- if nothing is held before and after
-pub written_whole : (w w' : Written) (x y : Counts) (p : Policy) (last : Bool) (a b : List ℕ → List Item) → PassesItemsFor (holding_none w) (holding_none w') x y p last a b → WritesItemsFor w w' x y p last a b
-written_whole w w' x y p last a b h = record {
-  written_items = h.passed;
-  wrote = subst (λ t. Wrote w w' (tagged t)) (sym (h.passes.in_order ∙ append-nil h.passes.delivered)) h.passes.wrote;
-  counted = h.counted;
-  spared = h.spared;
-  equals = h.equals;
-}
 
 -- ---- bytes
 
@@ -195,21 +136,14 @@ two_lines_are held line lines e =
     ∙ ap (λ x. map Line (held_line_bytes held) ++ x) (append-nil (tagged_item (item_of line)) ∙ line_is line)
     ∙ sym (map-append Line (held_line_bytes held) (line_bytes line)) ∙ ap (map Line) (sym e)
 
-pub writes_lines : (o l l' : Option (List ℕ)) (held : Option MalformedLine) (bytes lines : List ℕ) (line : LogLine) → bytes ≡ [] → lines ≡ held_line_bytes held ++ line_bytes line → Appends l l' lines
-    → WritesLine (record { written = record { output = o; log = l }; line = held; bytes = bytes }) (record { written = record { output = o; log = l' }; line = None; bytes = bytes }) (item_of line)
+writes_lines : (o l l' : Option (List ℕ)) (held : Option MalformedLine) (bytes lines : List ℕ) (line : LogLine) → bytes ≡ [] → lines ≡ held_line_bytes held ++ line_bytes line → Appends l l' lines
+    → Passes (record { written = record { output = o; log = l }; line = held; bytes = bytes }) (record { written = record { output = o; log = l' }; line = None; bytes = bytes }) (item_of line ∷ [])
 writes_lines o l l' held bytes lines line none is told = record {
-  passes = record {
-    delivered = line_items held ++ (item_of line ∷ []);
-    wrote = subst (Wrote (record { output = o; log = l }) (record { output = o; log = l' })) (sym (two_lines_are held line lines is)) (wrote_line o l l' lines told);
-    in_order = ap (λ x. (line_items held ++ map Byte x) ++ (item_of line ∷ [])) none ∙ ap (λ x. x ++ (item_of line ∷ [])) (append-nil (line_items held))
-        ∙ sym (append-nil (line_items held ++ (item_of line ∷ []))) ∙ ap (λ x. (line_items held ++ (item_of line ∷ [])) ++ map Byte x) (sym none);
-  };
-  none = ap (map Byte) none;
+  delivered = line_items held ++ (item_of line ∷ []);
+  wrote = subst (Wrote (record { output = o; log = l }) (record { output = o; log = l' })) (sym (two_lines_are held line lines is)) (wrote_line o l l' lines told);
+  in_order = ap (λ x. (line_items held ++ map Byte x) ++ (item_of line ∷ [])) none ∙ ap (λ x. x ++ (item_of line ∷ [])) (append-nil (line_items held))
+      ∙ sym (append-nil (line_items held ++ (item_of line ∷ []))) ∙ ap (λ x. (line_items held ++ (item_of line ∷ [])) ++ map Byte x) (sym none);
 }
-
--- after what was held before them was written
-pub line_after : (w w' w'' : WritersView) (item : Item) → Passes w w' [] → WritesLine w' w'' item → WritesLine w w'' item
-line_after w w' w'' item h k = record { passes = passes_then w w' w'' [] (item ∷ []) h k.passes; none = k.none }
 
 -- ---- if a writer failed
 
@@ -237,43 +171,43 @@ module _ {T : Type 0} (r : Result T Fault) (o l l' : Option (List ℕ)) (line : 
       let spared : lost_line_count (line_items line) ≡ 0 = ap lost_line_count (sym (append-nil (line_items line))) ∙ line_spared line [] in
       under_lines o l l' p g bytes q.0 (line_items line) _ (written_under p (map Byte held ++ to_write)) same (held_line_is line ∙ ap (map Line) (sym is)) (ap (written_under p) e ∙ written_spared p (line_items line) _ (λ stops. spared)) q.2)
 
--- A line after what is held, all of it or a part: no bytes are held.
-module _ {T : Type 0} (r : Result T Fault) (w : WritersView) (o l l' : Option (List ℕ)) (held : Option MalformedLine) (bytes lines : List ℕ) (line : LogLine) (failures failures' : ℕ) (h : Passes w (record { written = record { output = o; log = l }; line = held; bytes = bytes }) []) (none : bytes ≡ []) (is : lines ≡ held_line_bytes held ++ line_bytes line) where
-  pub lines_whole : OnOk r (Appends l l' lines × (failures' ≡ failures)) → OnOk r (WritesLine w (record { written = record { output = o; log = l' }; line = None; bytes = bytes }) (item_of line))
-  lines_whole k = on_ok r k (λ q. line_after w _ _ (item_of line) h (writes_lines o l l' held bytes lines line none is q.0))
+-- A line after the line that is held, both of them or a part: no bytes are held.
+module _ {T : Type 0} (r : Result T Fault) (o l l' : Option (List ℕ)) (held : Option MalformedLine) (bytes lines : List ℕ) (line : LogLine) (failures failures' : ℕ) (none : bytes ≡ []) (is : lines ≡ held_line_bytes held ++ line_bytes line) where
+  pub lines_whole : OnOk r (Appends l l' lines × (failures' ≡ failures))
+      → OnOk r (Passes (record { written = record { output = o; log = l }; line = held; bytes = bytes }) (record { written = record { output = o; log = l' }; line = None; bytes = bytes }) (item_of line ∷ []))
+  lines_whole k = on_ok r k (λ q. writes_lines o l l' held bytes lines line none is q.0)
 
   pub lines_part : (p : Policy) → IfErr r (λ (g : Fault). g ≡ Log) → OnErr r ((n : ℕ) × (n < length lines) × Appends l l' (take n lines) × (failures' ≡ failures + 1))
-      → IfErr r (λ (g : Fault). (to_write : List Item) → LeavesPrefix w (record { written = record { output = o; log = l' }; line = None; bytes = bytes }) p g (item_of line ∷ to_write))
-  lines_part p is_log k = on_err r is_log k (λ g same q to_write.
-      let first = written_first p (item_of line) to_write in
-      let e : (line_items held ++ map Byte bytes) ++ (item_of line ∷ to_write) ≡ line_items held ++ (item_of line ∷ to_write) = ap (λ x. (line_items held ++ map Byte x) ++ (item_of line ∷ to_write)) none ∙ ap (λ x. x ++ (item_of line ∷ to_write)) (append-nil (line_items held)) in
+      → IfErr r (λ (g : Fault). (more : List Item) → WritesPrefix (record { output = o; log = l }) (record { output = o; log = l' }) p g ((line_items held ++ map Byte bytes) ++ (item_of line ∷ more)))
+  lines_part p is_log k = on_err r is_log k (λ g same q more.
+      let first = written_first p (item_of line) more in
+      let e : (line_items held ++ map Byte bytes) ++ (item_of line ∷ more) ≡ line_items held ++ (item_of line ∷ more) = ap (λ x. (line_items held ++ map Byte x) ++ (item_of line ∷ more)) none ∙ ap (λ x. x ++ (item_of line ∷ more)) (append-nil (line_items held)) in
       let spared : lost_line_count (line_items held) ≡ 0 = ap lost_line_count (sym (append-nil (line_items held))) ∙ line_spared held [] in
-      left_held w (record { written = record { output = o; log = l }; line = held; bytes = bytes }) (record { output = o; log = l' }) p g (item_of line ∷ to_write) h
-      (under_lines o l l' p g lines q.0 (line_items held ++ (item_of line ∷ [])) _ first.0 same (two_lines_are held line lines is)
-      (ap (written_under p) e ∙ written_spared p (line_items held) _ (λ stops. spared) ∙ ap (λ x. line_items held ++ x) first.1 ∙ sym (append_assoc (line_items held) (item_of line ∷ []) first.0)) q.2))
+      under_lines o l l' p g lines q.0 (line_items held ++ (item_of line ∷ [])) _ first.0 same (two_lines_are held line lines is)
+      (ap (written_under p) e ∙ written_spared p (line_items held) _ (λ stops. spared) ∙ ap (λ x. line_items held ++ x) first.1 ∙ sym (append_assoc (line_items held) (item_of line ∷ []) first.0)) q.2)
 
--- Bytes after what was held, all of them or a part: nothing is held.
-module _ {T : Type 0} (r : Result T Fault) (w : WritersView) (o o' l : Option (List ℕ)) (line : Option MalformedLine) (held bytes passed : List ℕ) (failures failures' : ℕ) (h : Passes w (record { written = record { output = o; log = l }; line = line; bytes = held }) []) (no_line : line ≡ None) (none : held ≡ []) (is : bytes ≡ passed) where
-  pub delivers_whole : OnOk r (Appends o o' bytes × (failures' ≡ failures)) → OnOk r (PassesBytes w (record { written = record { output = o'; log = l }; line = line; bytes = held }) passed)
-  delivers_whole k = on_ok r k (λ q. passes_then w _ _ [] (map Byte passed) h (delivers_more o o' l line held held passed no_line none none (subst (Appends o o') is q.0)))
+-- Bytes, all of them or a part: nothing is held.
+module _ {T : Type 0} (r : Result T Fault) (o o' l : Option (List ℕ)) (line : Option MalformedLine) (held bytes passed : List ℕ) (failures failures' : ℕ) (no_line : line ≡ None) (none : held ≡ []) (is : bytes ≡ passed) where
+  pub delivers_whole : OnOk r (Appends o o' bytes × (failures' ≡ failures))
+      → OnOk r (PassesBytes (record { written = record { output = o; log = l }; line = line; bytes = held }) (record { written = record { output = o'; log = l }; line = line; bytes = held }) passed)
+  delivers_whole k = on_ok r k (λ q. delivers_more o o' l line held held passed no_line none none (subst (Appends o o') is q.0))
 
   pub delivers_part : (p : Policy) → IfErr r (λ (g : Fault). g ≡ Write) → OnErr r ((n : ℕ) × (n < length bytes) × Appends o o' (take n bytes) × (failures' ≡ failures + 1))
-      → IfErr r (λ (g : Fault). (to_write : List Item) → LeavesPrefix w (record { written = record { output = o'; log = l }; line = line; bytes = held }) p g (map Byte passed ++ to_write))
-  delivers_part p is_write k = on_err r is_write k (λ g same q to_write.
-      let e : (line_items line ++ map Byte held) ++ (map Byte passed ++ to_write) ≡ map Byte passed ++ to_write = ap (λ x. (line_items x ++ map Byte held) ++ (map Byte passed ++ to_write)) no_line ∙ ap (λ x. map Byte x ++ (map Byte passed ++ to_write)) none in
-      left_held w (record { written = record { output = o; log = l }; line = line; bytes = held }) (record { output = o'; log = l }) p g (map Byte passed ++ to_write) h
-      (under_bytes o o' l p g passed q.0 _ to_write same (subst (λ x. Appends o o' (take q.0 x)) is q.2) e))
+      → IfErr r (λ (g : Fault). (more : List Item) → WritesPrefix (record { output = o; log = l }) (record { output = o'; log = l }) p g ((line_items line ++ map Byte held) ++ (map Byte passed ++ more)))
+  delivers_part p is_write k = on_err r is_write k (λ g same q more.
+      let e : (line_items line ++ map Byte held) ++ (map Byte passed ++ more) ≡ map Byte passed ++ more = ap (λ x. (line_items x ++ map Byte held) ++ (map Byte passed ++ more)) no_line ∙ ap (λ x. map Byte x ++ (map Byte passed ++ more)) none in
+      under_bytes o o' l p g passed q.0 _ more same (subst (λ x. Appends o o' (take q.0 x)) is q.2) e)
 
 -- a policy that stops, after the line of the character
-pub stops_at : (w w' : WritersView) (p : Policy) (i c : ℕ) (b : List Item) → p ≡ Policy.Stop → WritesLine w w' (LostAt i c) → LeavesPrefix w w' p (Unmappable i c) (LostAt i c ∷ b)
-stops_at w w' p i c b stops h =
+stops_at : (w w' : WritersView) (p : Policy) (i c : ℕ) (b : List Item) → p ≡ Policy.Stop → Passes w w' (LostAt i c ∷ []) → held_items w' ≡ [] → LeavesPrefix w w' p (Unmappable i c) (LostAt i c ∷ b)
+stops_at w w' p i c b stops h none =
     let own : written_under p (LostAt i c ∷ b) ≡ LostAt i c ∷ [] = ap (λ (q : Policy). written_under q (LostAt i c ∷ b)) stops in
-    let all : held_items w ++ (LostAt i c ∷ []) ≡ h.passes.delivered = h.passes.in_order ∙ ap (λ x. h.passes.delivered ++ x) h.none ∙ append-nil h.passes.delivered in
+    let all : held_items w ++ (LostAt i c ∷ []) ≡ h.delivered = h.in_order ∙ ap (λ x. h.delivered ++ x) none ∙ append-nil h.delivered in
     let cut : written_under p (held_items w ++ (LostAt i c ∷ b)) ≡ held_items w ++ (LostAt i c ∷ []) =
     written_spared p (held_items w) (LostAt i c ∷ b) (λ is. held_spared w) ∙ ap (λ x. held_items w ++ x) own in
     record {
       taken = tagged (held_items w ++ (LostAt i c ∷ []));
-      wrote = subst (λ x. Wrote w.written w'.written (tagged x)) (sym all) h.passes.wrote;
+      wrote = subst (λ x. Wrote w.written w'.written (tagged x)) (sym all) h.wrote;
       left = record {
         prefix = ([], ap tagged cut ∙ sym (append-nil (tagged (held_items w ++ (LostAt i c ∷ [])))));
         stopped = record { policy = stops; items = held_items w; first = held_spared w; last = cut; whole = ap tagged (sym cut) };
@@ -286,5 +220,5 @@ pub hands_each : {T : Type 0} (r : Result T Fault) (e : Fault) (w w' : Written) 
 hands_each r e w w' p a same h = handed_on (λ (q : Fault). (rest : List Item) → WritesPrefix w w' p q (a rest)) r e same h
 
 -- the fault of a policy that stops
-pub stops_as : (w w' : WritersView) (p : Policy) (f : Fault) (i c : ℕ) (b : List Item) → f ≡ Unmappable i c → p ≡ Policy.Stop → WritesLine w w' (LostAt i c) → LeavesPrefix w w' p f (LostAt i c ∷ b)
-stops_as w w' p f i c b is stops h = subst (λ (q : Fault). LeavesPrefix w w' p q (LostAt i c ∷ b)) (sym is) (stops_at w w' p i c b stops h)
+pub stops_as : (w w' : WritersView) (p : Policy) (f : Fault) (i c : ℕ) (b : List Item) → f ≡ Unmappable i c → p ≡ Policy.Stop → Passes w w' (LostAt i c ∷ []) → held_items w' ≡ [] → LeavesPrefix w w' p f (LostAt i c ∷ b)
+stops_as w w' p f i c b is stops h none = subst (λ (q : Fault). LeavesPrefix w w' p q (LostAt i c ∷ b)) (sym is) (stops_at w w' p i c b stops h none)

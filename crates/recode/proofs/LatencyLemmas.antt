@@ -1,5 +1,5 @@
 -- What was taken while the input goes on, and what that says of the output and the log.
-use Rattle.std.proofs.Common.{◌≡◌, ◌⊎◌, ℕ, suc, ◌+◌, ◌-◌, ◌≤◌, ◌<◌, Bool, true, false, List, [], ◌∷◌, ◌++◌, length, drop, Some, refl, sym, ◌∙◌, ap, subst, arith, append_assoc, length-append, add-zero, inl, inr}
+use Rattle.std.proofs.Common.{◌≡◌, ◌⊎◌, ℕ, suc, ◌+◌, ◌-◌, ◌≤◌, ◌<◌, Bool, true, false, List, [], ◌∷◌, ◌++◌, length, Some, refl, sym, ◌∙◌, ap, subst, arith, append_assoc, length-append, add-zero, inl, inr}
 use Rattle.std.specs.Io.KnownBytes.{Appends, Consumes}
 use Rattle.std.specs.List.{flat_map}
 use Rattle.std.proofs.KnownBytes.{Appends-kept, Appends-nil, Appends-trans, Consumes-nil, Consumes-trans}
@@ -14,13 +14,13 @@ use Rattle.encoding_mem.specs.Items.{Item, trace_from}
 use Rattle.encoding_mem.specs.declared.form.EscapeState.{EscapeState}
 use Rattle.encoding_mem.specs.declared.form.EscapeState.TheVariants.{Ascii}
 use Rattle.encoding_mem.specs.Decided.{AreBytes, IsDecided, IsFixed}
-use Rattle.encoding_mem.specs.laws.Piece.{sizes-append, text-append, well_formed_text}
+use Rattle.encoding_mem.specs.laws.Piece.{sizes-append, text-append}
 use Rattle.encoding_mem.specs.laws.EncoderCalls.{last_set-append, open_from-append}
 use Rattle.recode_log.specs.Line.{line_bytes}
 use Rattle.recode_log.specs.declared.line.LogLine.{LogLine}
 use Rattle.recode_log.specs.declared.line.LogLine.TheVariants.{Bad}
 use Rattle.recode.specs.Job.{input_pieces, log_lines, lost_log_lines, target_of}
-use Rattle.recode.specs.calls.Chunk.{DecodesChunk}
+use Rattle.recode.specs.calls.Chunk.{ConvertsChunk}
 use Rattle.recode.specs.Latency.{HasReached, WroteDecided}
 use Rattle.recode.specs.Policy.{reference_form}
 use Rattle.recode.specs.State.{State}
@@ -32,22 +32,8 @@ use Rattle.recode.specs.Session.{IsNewSession, View}
 use Rattle.recode.specs.declared.counts.Counts.{Counts}
 use Rattle.recode.specs.declared.job.Job.{Job}
 use Rattle.recode.specs.declared.job.Policy.{Policy}
-use Rattle.recode.proofs.DecoderCallLemmas.{WellFormedCall}
-use Rattle.recode.proofs.HeldLemmas.{written_whole}
-use Rattle.recode.proofs.TraceLemmas.{log_bytes-append_of_items, tagged-append, output_bytes-append, log_bytes-trace, output_bytes-trace, whole_from-append}
-
--- If it does not end.
-module _ (before after : DecoderState) (src : List ℕ) (read : ℕ) (t : List ℕ) where
-  pub well_formed_advances : (last : Bool) (k : WellFormedCall before after src last read t) (e : Coding) (s s' : EscapeState) (c c' : Counts) → last ≡ false → s' ≡ last_set e s t → c'.index ≡ c.index + length t
-      → Advances (λ r. before.pieces (src ++ r)) (λ r. after.pieces (drop read src ++ r)) e s s' c c'
-  well_formed_advances last k e s s' c c' on set_is index_is =
-      let is : t ≡ text k.taken = k.text_is ∙ sym (well_formed_text k.taken k.fine) in
-      record {
-        taken = k.taken;
-        rest = λ r. k.rest r (λ h. absurd (false≢true (sym on ∙ h)));
-        set = set_is ∙ ap (last_set e s) is;
-        index = omega (arith, index_is, ap length is);
-      }
+use Rattle.recode.specs.laws.Items.{log_bytes-append, tagged-append, output_bytes-append}
+use Rattle.recode.proofs.TraceLemmas.{log_bytes-trace, output_bytes-trace, whole_from-append}
 
 pub advances_start : (d : List ℕ → List Piece) (e : Coding) (s : EscapeState) (c : Counts) → Advances d d e s s c c
 advances_start d e s c = record { taken = []; rest = λ r. refl; set = refl; index = sym (add-zero c.index) }
@@ -83,9 +69,9 @@ log_lines-append e offset i (malformed n ∷ a) b =
     ∙ ap (λ (k : ℕ). log_lines e (offset + n) (i + 1) a ++ log_lines e (offset + (n + sizes a)) k b) index)
     ∙ ap (λ x. Bad offset n ∷ x) (sym (append_assoc lost (log_lines e (offset + n) (i + 1) a) (log_lines e (offset + (n + sizes a)) (i + suc (length (text a))) b)))
 
-log_bytes-append : (e : Coding) (offset i offset1 i1 : ℕ) (a b : List Piece) → offset1 ≡ offset + sizes a → i1 ≡ i + length (text a)
+line_bytes-append : (e : Coding) (offset i offset1 i1 : ℕ) (a b : List Piece) → offset1 ≡ offset + sizes a → i1 ≡ i + length (text a)
     → flat_map line_bytes (log_lines e offset i (a ++ b)) ≡ flat_map line_bytes (log_lines e offset i a) ++ flat_map line_bytes (log_lines e offset1 i1 b)
-log_bytes-append e offset i offset1 i1 a b at index =
+line_bytes-append e offset i offset1 i1 a b at index =
     ap (flat_map line_bytes) (log_lines-append e offset i a b)
     ∙ flat_map-append line_bytes (log_lines e offset i a) (log_lines e (offset + sizes a) (i + length (text a)) b)
     ∙ ap (λ (k : ℕ). flat_map line_bytes (log_lines e offset i a) ++ flat_map line_bytes (log_lines e k (i + length (text a)) b)) (sym at)
@@ -110,8 +96,8 @@ module _ (ref : Reference) (e : Coding) (s s1 : EscapeState) (offset i offset1 i
       let own : List ℕ = flat_map line_bytes (log_lines e offset i taken) in
       let rest : List ℕ = flat_map line_bytes (log_lines e offset1 i1 qs) in
       let all : own ++ rest ≡ log_bytes (tagged written_items) ++ rest =
-      sym (log_bytes-append e offset i offset1 i1 taken qs offset_is index_is) ∙ sym (log_bytes-trace _ e s offset i (taken ++ qs)) ∙ ap (λ k. log_bytes (tagged k)) is
-      ∙ ap log_bytes (tagged-append written_items (trace_from ref e s1 offset1 i1 qs)) ∙ log_bytes-append_of_items (tagged written_items) (tagged (trace_from ref e s1 offset1 i1 qs))
+      sym (line_bytes-append e offset i offset1 i1 taken qs offset_is index_is) ∙ sym (log_bytes-trace _ e s offset i (taken ++ qs)) ∙ ap (λ k. log_bytes (tagged k)) is
+      ∙ ap log_bytes (tagged-append written_items (trace_from ref e s1 offset1 i1 qs)) ∙ log_bytes-append (tagged written_items) (tagged (trace_from ref e s1 offset1 i1 qs))
       ∙ ap (λ x. log_bytes (tagged written_items) ++ x) (log_bytes-trace _ e s1 offset1 i1 qs) in
       sym (append_cancel_right own (log_bytes (tagged written_items)) rest all)
 
@@ -121,41 +107,39 @@ taken_sizes d d1 chunk taken is = omega (arith, d.whole (chunk ++ []), d1.whole 
 
 -- the clause of a step that goes on
 pub steps_on : (before after : Devices) (limit : ℕ) (s s1 : State) (chunk : List ℕ) (last : Bool) → Consumes before.input after.input chunk → 0 < length chunk → s1.counts.read ≤ limit → AreSound s.decoder.pending s.counts
-    → last ≡ false → DecodesChunk before.written after.written s s1 chunk last → StepsOn before after limit s s1
+    → last ≡ false → ConvertsChunk before.written after.written s s1 chunk last → StepsOn before after limit s s1
 steps_on before after limit s s1 chunk last read_in some within sound goes_on k =
-    let c = k.converts in
-    let pays = written_whole before.written after.written s.counts s1.counts s.policy last _ _ c.pays in
-    let p = c.advances goes_on in
+    let pays = k.pays in
+    let p = k.advances goes_on in
     let e = s.coding in
     let offset = s.counts.read - s.decoder.pending in
     let offset1 = s1.counts.read - s1.decoder.pending in
     let i = s.counts.index in
     let i1 = s1.counts.index in
     let qs = s1.decoder.pieces [] in
-    let counted : s1.counts.read ≡ s.counts.read + length chunk = omega (arith, c.counted) in
-    let offset_is : offset1 ≡ offset + sizes p.taken = omega (arith, taken_sizes s.decoder s1.decoder chunk p.taken (p.rest []), counted, sound.index) in
+    let offset_is : offset1 ≡ offset + sizes p.taken = omega (arith, taken_sizes s.decoder s1.decoder chunk p.taken (p.rest []), k.counted, sound.index) in
     let is : trace_from (reference_form s.policy) e s.set offset i (p.taken ++ qs) ≡ pays.written_items ++ trace_from (reference_form s.policy) e s1.set offset1 i1 qs =
     ap (trace_from (reference_form s.policy) e s.set offset i) (sym (p.rest [])) ∙ pays.equals [] (λ _. refl)
-    ∙ ap (λ (q : Coding). pays.written_items ++ trace_from (reference_form s1.policy) q s1.set offset1 i1 qs) c.target
-    ∙ ap (λ (q : Policy). pays.written_items ++ trace_from (reference_form q) e s1.set offset1 i1 qs) c.policy in
+    ∙ ap (λ (q : Coding). pays.written_items ++ trace_from (reference_form s1.policy) q s1.set offset1 i1 qs) k.target
+    ∙ ap (λ (q : Policy). pays.written_items ++ trace_from (reference_form q) e s1.set offset1 i1 qs) k.policy in
     let none : (r : List ℕ) → last ≡ true → r ≡ [] = λ r h. absurd (false≢true (sym goes_on ∙ h)) in
     record {
       chunk = chunk;
       consumed = read_in;
-      counted = counted;
-      grows = omega (arith, counted, some);
+      counted = k.counted;
+      grows = omega (arith, k.counted, some);
       within = within;
-      target = c.target;
-      policy = c.policy;
-      source = λ r. c.source r (none r);
+      target = k.target;
+      policy = k.policy;
+      source = λ r. k.source r (none r);
       pays = record { written_items = pays.written_items; wrote = pays.wrote; counted = pays.counted; spared = pays.spared; equals = λ r h. pays.equals r (none r) };
       advances = p;
       output = subst (Appends before.written.output after.written.output) (paid_output (reference_form s.policy) e s.set s1.set offset i offset1 i1 p.taken qs pays.written_items p.set offset_is p.index is) pays.wrote.output;
       logged = subst (Appends before.written.log after.written.log) (paid_lines (reference_form s.policy) e s.set s1.set offset i offset1 i1 p.taken qs pays.written_items p.set offset_is p.index is) pays.wrote.lined;
       settled = k.done.settled;
-      verdict = λ r. c.verdict r (none r);
-      calls = λ r. c.calls r (none r);
-      least = c.least;
+      verdict = λ r. k.verdict r (none r);
+      calls = λ r. k.calls r (none r);
+      least = k.least;
     }
 
 -- A session that has read nothing, and one that steps on.
@@ -201,7 +185,7 @@ stands_on t t1 t2 j limit s s1 x ps k p =
       index = omega (arith, k.index, p.advances.index, ap length joined, length-append (text ps) (text taken));
       output = subst (Appends t.written.output t2.written.output) (sym (open_from-append _ e Ascii (text ps) (text taken)) ∙ ap (open_from (reference_form j.policy) e Ascii) (sym joined))
           (Appends-trans t.written.output t1.written.output t2.written.output _ _ k.output more);
-      logged = subst (Appends t.written.log t2.written.log) (sym (log_bytes-append e 0 0 (s.counts.read - s.decoder.pending) s.counts.index ps taken offset index))
+      logged = subst (Appends t.written.log t2.written.log) (sym (line_bytes-append e 0 0 (s.counts.read - s.decoder.pending) s.counts.index ps taken offset index))
           (Appends-trans t.written.log t1.written.log t2.written.log _ _ k.logged lined);
     }
 
@@ -211,7 +195,6 @@ prefixes [] b [] d e = inl ([], refl)
 prefixes [] b (p ∷ c) d e = inr (p, c, refl, e)
 prefixes (q ∷ a) b [] d e = inl (q ∷ a, refl)
 prefixes (q ∷ a) b (p ∷ c) d e =
-    let whole : q ∷ (a ++ b) ≡ p ∷ (c ++ d) = e in
     let same : q ≡ p = cc in
     let tails : a ++ b ≡ c ++ d = cc in
     elim (prefixes a b c d tails) [
@@ -231,7 +214,6 @@ begins_with d p more e = ap head_piece e
 same_start : (a : List Piece) (p q : Piece) (c d : List Piece) → a ++ (p ∷ c) ≡ a ++ (q ∷ d) → p ≡ q
 same_start [] p q c d e = cc
 same_start (o ∷ a) p q c d e =
-    let whole : o ∷ (a ++ (p ∷ c)) ≡ o ∷ (a ++ (q ∷ d)) = e in
     let tails : a ++ (p ∷ c) ≡ a ++ (q ∷ d) = cc in
     same_start a p q c d tails
 

@@ -1,6 +1,7 @@
 pub mod PolicyLemmas
 pub mod TraceLemmas
 pub mod HeldLemmas
+pub mod HandsLemmas
 pub mod CompareLemmas
 pub mod VerdictLemmas
 pub mod NewVerdictLemmas
@@ -20,7 +21,6 @@ pub mod CharacterLemmas
 pub mod PivotLemmas
 pub mod LatencyLemmas
 pub mod TextLemmas
-pub mod ChunkLemmas
 pub mod LoadLemmas
 pub mod TurnLemmas
 pub mod ConvertLemmas

@@ -26,7 +26,7 @@ use Rattle.recode.specs.Devices.{Written}
 use Rattle.recode.specs.Session.{IsReport, IsConverted}
 use Rattle.recode.specs.declared.job.Job.{Job}
 use Rattle.recode.specs.declared.job.Report.{Report}
-use Rattle.recode.proofs.TraceLemmas.{lost_line_count-trace}
+use Rattle.recode.specs.laws.Items.{lost_line_count-trace}
 use Rattle.recode.proofs.RunLemmas.{none_malformed}
 use Rattle.recode.proofs.StopLemmas.{kept_where_quiet, mapped_through, mapped_where_faithful, output_where_spared, quiet_where_kept, runs_through, trace_where_spared}
 

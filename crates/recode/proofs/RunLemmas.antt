@@ -26,7 +26,7 @@ use Rattle.recode.proofs.LatencyLemmas.{stands_run, wrote_decided}
 use Rattle.recode.proofs.StepLemmas.{HasStopped, left_as}
 use Rattle.recode.proofs.StopLemmas.{mapped_where_faithful, output_where_mapped, quiet_where_kept, trace_where_spared, whole_within}
 use Rattle.recode.proofs.WorkLemmas.{items_split}
-use Rattle.recode.proofs.TraceLemmas.{output_bytes-append, log_bytes-append_of_items, bad_line_count-trace, lost_line_count-trace}
+use Rattle.recode.specs.laws.Items.{output_bytes-append, log_bytes-append, bad_line_count-trace, lost_line_count-trace}
 
 -- No malformed sequence.
 pub none_malformed : (ps : List Piece) → malformed_count ps ≡ 0 → AreWellFormed ps
@@ -113,7 +113,7 @@ prefix_outputs : (t u : List TaggedByte) → IsPrefix t u → IsPrefix (output_b
 prefix_outputs t u f = (output_bytes f.0, ap output_bytes f.1 ∙ output_bytes-append t f.0)
 
 prefix_lines : (t u : List TaggedByte) → IsPrefix t u → IsPrefix (log_bytes t) (log_bytes u)
-prefix_lines t u f = (log_bytes f.0, ap log_bytes f.1 ∙ log_bytes-append_of_items t f.0)
+prefix_lines t u f = (log_bytes f.0, ap log_bytes f.1 ∙ log_bytes-append t f.0)
 
 pub fails : (before after : Devices) (j : Job) (v : View) (f : Fault) → IsNewSession v j → HasStopped before after j.limit v.state f → Fails before after j f
 fails before after j v f b s =

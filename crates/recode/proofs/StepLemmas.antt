@@ -14,7 +14,8 @@ use Rattle.recode.specs.declared.job.Fault.{Fault}
 use Rattle.recode.specs.declared.job.Fault.TheVariants.{Read, Write, Log, TooLong, Unmappable}
 use Rattle.recode.proofs.LatencyLemmas.{advances_more, advances_start}
 use Rattle.recode.proofs.VerdictLemmas.{both_ways}
-use Rattle.recode.proofs.TraceLemmas.{Wrote-nil, Wrote-trans, tagged-append, AreCounted-trans, WritesItemsFor-start, left_behind, spared_append}
+use Rattle.recode.specs.laws.Items.{tagged-append, AreCounted-trans, spared_append}
+use Rattle.recode.proofs.TraceLemmas.{Wrote-nil, Wrote-trans, WritesItemsFor-start, left_behind}
 use Rattle.recode_log.specs.Counted.{IsTold}
 use Rattle.recode.specs.Conversion.{Breaks, CountsFlushes, IsFlushCause, RisesBy, message_of}
 use Rattle.recode.specs.Job.{trace}
@@ -209,28 +210,27 @@ stops_within {before} {after} {s} {f} n m same h = subst (λ (k : ℕ). Stops be
 
 -- What is left if a conversion failed.
 
-rises : (n k m a : ℕ) → k ≡ n + a → k ≤ m → m ≤ k + 1 → RisesBy a n m
-rises n k m a is least most = (omega (arith, is, least), omega (arith, is, most))
+rises : (n k m a : ℕ) → k ≡ n + a → RisesBy 0 k m → RisesBy a n m
+rises n k m a is h = (omega (arith, is, h.0), omega (arith, is, h.1))
 
-rises_now : (n k m : ℕ) → k ≡ n → k < m → m ≤ k + 1 → RisesBy 1 n m
-rises_now n k m is least most = (omega (arith, is, least), omega (arith, is, most))
+rises_now : (n k m : ℕ) → k ≡ n → k < m → RisesBy 0 k m → RisesBy 1 n m
+rises_now n k m is more h = (omega (arith, is, more), omega (arith, is, h.1))
 
 -- counts after a run, and after the flushes
-module _ (n k : Devices) (m : Failures) (r : m.reader ≡ k.failures.reader) (w : k.failures.writer ≤ m.writer) (w1 : m.writer ≤ k.failures.writer + 1)
-    (l : k.failures.log ≤ m.log) (l1 : m.log ≤ k.failures.log + 1) where
+module _ (n k : Devices) (m : Failures) (r : m.reader ≡ k.failures.reader) (w : RisesBy 0 k.failures.writer m.writer) (l : RisesBy 0 k.failures.log m.log) where
   -- a run's fault is counted
   pub run_counted : (f : Fault) → CountsFault {T = Report} n k (Err f) → CountsFlushes n.failures m f
-  run_counted Read c = record { reader = r ∙ c.reader; writer = rises _ _ _ _ c.writer w w1; log = rises _ _ _ _ c.log l l1 }
-  run_counted Write c = record { reader = r ∙ c.reader; writer = rises _ _ _ _ c.writer w w1; log = rises _ _ _ _ c.log l l1 }
-  run_counted Log c = record { reader = r ∙ c.reader; writer = rises _ _ _ _ c.writer w w1; log = rises _ _ _ _ c.log l l1 }
-  run_counted TooLong c = record { reader = r ∙ c.reader; writer = rises _ _ _ _ c.writer w w1; log = rises _ _ _ _ c.log l l1 }
-  run_counted (Unmappable i d) c = record { reader = r ∙ c.reader; writer = rises _ _ _ _ c.writer w w1; log = rises _ _ _ _ c.log l l1 }
+  run_counted Read c = record { reader = r ∙ c.reader; writer = rises _ _ _ _ c.writer w; log = rises _ _ _ _ c.log l }
+  run_counted Write c = record { reader = r ∙ c.reader; writer = rises _ _ _ _ c.writer w; log = rises _ _ _ _ c.log l }
+  run_counted Log c = record { reader = r ∙ c.reader; writer = rises _ _ _ _ c.writer w; log = rises _ _ _ _ c.log l }
+  run_counted TooLong c = record { reader = r ∙ c.reader; writer = rises _ _ _ _ c.writer w; log = rises _ _ _ _ c.log l }
+  run_counted (Unmappable i d) c = record { reader = r ∙ c.reader; writer = rises _ _ _ _ c.writer w; log = rises _ _ _ _ c.log l }
 
   -- a flush's fault is counted
   pub flush_counted : (p : Report) (f : Fault) → CountsFault n k (Ok p) → IsFlushCause k.failures.writer m.writer k.failures.log m.log f → CountsFlushes n.failures m f
   flush_counted p Read c h = absurd h
-  flush_counted p Write c h = record { reader = r ∙ c.reader; writer = rises_now _ _ _ (c.writer ∙ add-zero _) h w1; log = rises _ _ _ _ c.log l l1 }
-  flush_counted p Log c h = record { reader = r ∙ c.reader; writer = rises _ _ _ _ c.writer w w1; log = rises_now _ _ _ (c.log ∙ add-zero _) h.1 l1 }
+  flush_counted p Write c h = record { reader = r ∙ c.reader; writer = rises_now _ _ _ (c.writer ∙ add-zero _) h w; log = rises _ _ _ _ c.log l }
+  flush_counted p Log c h = record { reader = r ∙ c.reader; writer = rises _ _ _ _ c.writer w; log = rises_now _ _ _ (c.log ∙ add-zero _) h.1 l }
   flush_counted p TooLong c h = absurd h
   flush_counted p (Unmappable i d) c h = absurd h
 

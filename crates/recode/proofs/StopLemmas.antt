@@ -29,7 +29,8 @@ use Rattle.recode.specs.TaggedByte.{log_bytes, output_bytes, tagged}
 use Rattle.recode.specs.WrittenItems.{IsSpared}
 use Rattle.recode.specs.declared.job.Job.{Job}
 use Rattle.recode.specs.declared.job.Policy.{Policy}
-use Rattle.recode.proofs.TraceLemmas.{cut_spared, kept_where_no_lines, log_bytes-trace, lost_line_count-bytes, lost_line_count-trace, no_lines, no_lines_without_bytes, output_bytes-append, output_bytes-tagged, output_bytes-trace, tagged-append, written_whole}
+use Rattle.recode.specs.laws.Items.{cut_spared, lost_line_count-bytes, output_bytes-append, tagged-append, written_whole, lost_line_count-trace}
+use Rattle.recode.proofs.TraceLemmas.{kept_where_no_lines, log_bytes-trace, no_lines, no_lines_without_bytes, output_bytes-tagged, output_bytes-trace}
 
 -- If nothing stops it.
 pub runs_through : (j : Job) (x : List ℕ) → (j.policy ≡ Policy.Stop → lost_count (target_of j) (input_text j x) ≡ 0) → IsSpared j.policy (whole_trace j x)

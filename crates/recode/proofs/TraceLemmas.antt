@@ -1,26 +1,26 @@
 -- How what was written and what is still to be written compose. What the trace of a whole input is made of. If
 -- the log is empty.
-use Rattle.std.proofs.Common.{arith, inl, inr, ◌⊎◌, ◌<◌, ◌+◌, Result, Ok, Err, IfErr, IsErrAnd, Bool, true, false, ◌≡◌, ℕ, List, [], ◌∷◌, ◌++◌, map, take, drop, Option, refl, ap, sym, ◌∙◌, subst, append_assoc, append-nil, take-append-drop, length}
-use Rattle.std.proofs.lemmas.Grind.{flat_map-append}
+use Rattle.std.proofs.Common.{arith, inl, inr, ◌⊎◌, ◌<◌, ◌+◌, Result, Ok, Err, IfErr, IsErrAnd, Bool, true, false, ◌≡◌, ℕ, List, [], ◌∷◌, ◌++◌, map, take, drop, Option, refl, ap, sym, ◌∙◌, subst, append_assoc, take-append-drop, length}
 use Rattle.std.proofs.lemmas.List.{map-append}
 use Rattle.std.proofs.KnownBytes.{Appends-nil, Appends-trans}
 use Rattle.std.specs.Io.KnownBytes.{Appends}
 use Rattle.encoding_mem.specs.declared.reference.Reference.{Reference}
 use Rattle.encoding_mem.specs.Items.{Item, Byte, MalformedAt, LostAt, whole_items, closing, item_bytes, open_items, form_items, trace_from}
 use Rattle.recode_log.specs.Line.{line_bytes}
+use Rattle.recode.specs.laws.Items.{output_bytes-append, log_bytes-append, output_bytes-bytes, log_bytes-bytes, output_bytes-lines, log_bytes-lines, tagged-append, lost_line_count-append, written_spared, spared_nil, spared_bytes}
 use Rattle.recode.specs.Devices.{Written}
-use Rattle.recode.specs.TaggedByte.{TaggedByte, Out, Line, output_bytes, log_bytes, Wrote, tagged, tagged_item}
+use Rattle.recode.specs.TaggedByte.{TaggedByte, Line, output_bytes, log_bytes, Wrote, tagged}
 use Rattle.recode.specs.Policy.{up_to_loss, written_under}
-use Rattle.recode.specs.WrittenItems.{WritesPrefix, WritesItemsFor, WritesPrefixFor, AreCounted, IsLeft, IsSpared, IsStop, bad_line_count, lost_line_count}
+use Rattle.recode.specs.WrittenItems.{WritesPrefix, WritesItemsFor, WritesPrefixFor, IsLeft, IsSpared, IsStop, lost_line_count}
 use Rattle.recode.specs.declared.job.Fault.{Fault}
 use Rattle.recode.specs.declared.job.Fault.TheVariants.{Read, Write, Log, TooLong, Unmappable}
 use Rattle.recode.specs.declared.job.Policy.{Policy}
-use Rattle.encoding_mem.specs.Coding.{Coding, IsCoding, open_from, whole_from, last_set, lost_count, unmapped_count, reference_bytes, AllMapped, IsMapped}
+use Rattle.encoding_mem.specs.Coding.{Coding, IsCoding, open_from, whole_from, last_set, reference_bytes, AllMapped, IsMapped}
 use Rattle.encoding_mem.specs.declared.form.EscapeState.{EscapeState}
 use Rattle.encoding_mem.specs.declared.form.EscapeState.TheVariants.{Ascii}
 use Rattle.recode.specs.declared.counts.Counts.{Counts}
 use Rattle.std.specs.List.{flat_map}
-use Rattle.encoding_mem.specs.Piece.{Piece, well_formed, malformed, text, malformed_count, AreWellFormed}
+use Rattle.encoding_mem.specs.Piece.{Piece, well_formed, malformed, text, AreWellFormed}
 use Rattle.encoding_mem.specs.laws.EncoderCalls.{item_bytes-append, item_bytes-bytes, item_bytes-open_items, all_mapped-append, last_set-append, open_from-append}
 use Rattle.encoding_mem.specs.declared.form.Form.{Form}
 use Rattle.encoding_mem.specs.declared.form.Form.TheVariants.{Mapped, Unmapped}
@@ -28,42 +28,13 @@ use Rattle.recode_log.specs.declared.line.LogLine.{LogLine}
 use Rattle.recode.specs.Job.{form_lines, lost_log_lines, log_lines}
 use Rattle.recode_log.specs.declared.line.LogLine.TheVariants.{Bad, Lost}
 
-pub output_bytes-append : (s t : List TaggedByte) → output_bytes (s ++ t) ≡ output_bytes s ++ output_bytes t
-output_bytes-append [] t = refl
-output_bytes-append (Out b ∷ s) t = ap (λ l. b ∷ l) (output_bytes-append s t)
-output_bytes-append (Line b ∷ s) t = output_bytes-append s t
-
-pub log_bytes-append_of_items : (s t : List TaggedByte) → log_bytes (s ++ t) ≡ log_bytes s ++ log_bytes t
-log_bytes-append_of_items [] t = refl
-log_bytes-append_of_items (Out b ∷ s) t = log_bytes-append_of_items s t
-log_bytes-append_of_items (Line b ∷ s) t = ap (λ l. b ∷ l) (log_bytes-append_of_items s t)
-
-pub output_bytes-bytes : (bs : List ℕ) → output_bytes (tagged (map Byte bs)) ≡ bs
-output_bytes-bytes [] = refl
-output_bytes-bytes (b ∷ bs) = ap (λ l. b ∷ l) (output_bytes-bytes bs)
-
-pub log_bytes-bytes : (bs : List ℕ) → log_bytes (tagged (map Byte bs)) ≡ []
-log_bytes-bytes [] = refl
-log_bytes-bytes (b ∷ bs) = log_bytes-bytes bs
-
-pub output_bytes-lines : (bs : List ℕ) → output_bytes (map Line bs) ≡ []
-output_bytes-lines [] = refl
-output_bytes-lines (b ∷ bs) = output_bytes-lines bs
-
-pub log_bytes-lines : (bs : List ℕ) → log_bytes (map Line bs) ≡ bs
-log_bytes-lines [] = refl
-log_bytes-lines (b ∷ bs) = ap (λ l. b ∷ l) (log_bytes-lines bs)
-
-pub tagged-append : (s t : List Item) → tagged (s ++ t) ≡ tagged s ++ tagged t
-tagged-append s t = flat_map-append tagged_item s t
-
 pub Wrote-nil : (w : Written) → Wrote w w []
 Wrote-nil w = record { output = Appends-nil w.output; lined = Appends-nil w.log }
 
 pub Wrote-trans : (w w' w'' : Written) (s t : List TaggedByte) → Wrote w w' s → Wrote w' w'' t → Wrote w w'' (s ++ t)
 Wrote-trans w w' w'' s t p q = record {
   output = subst (Appends w.output w''.output) (sym (output_bytes-append s t)) (Appends-trans w.output w'.output w''.output _ _ p.output q.output);
-  lined = subst (Appends w.log w''.log) (sym (log_bytes-append_of_items s t)) (Appends-trans w.log w'.log w''.log _ _ p.lined q.lined);
+  lined = subst (Appends w.log w''.log) (sym (log_bytes-append s t)) (Appends-trans w.log w'.log w''.log _ _ p.lined q.lined);
 }
 
 pub wrote_bytes : (w w' l : Option (List ℕ)) (bs : List ℕ) → Appends w w' bs → Wrote (record { output = w; log = l }) (record { output = w'; log = l }) (tagged (map Byte bs))
@@ -77,62 +48,6 @@ wrote_line w l l' bs p = record {
   output = subst (Appends w w) (sym (output_bytes-lines bs)) (Appends-nil w);
   lined = subst (Appends l l') (sym (log_bytes-lines bs)) p;
 }
-
-pub bad_line_count-append : (s t : List Item) → bad_line_count (s ++ t) ≡ bad_line_count s + bad_line_count t
-bad_line_count-append [] t = omega arith
-bad_line_count-append (Byte b ∷ s) t = bad_line_count-append s t
-bad_line_count-append (MalformedAt p n ∷ s) t = omega (arith, bad_line_count-append s t)
-bad_line_count-append (LostAt i c ∷ s) t = bad_line_count-append s t
-
-pub lost_line_count-append : (s t : List Item) → lost_line_count (s ++ t) ≡ lost_line_count s + lost_line_count t
-lost_line_count-append [] t = omega arith
-lost_line_count-append (Byte b ∷ s) t = lost_line_count-append s t
-lost_line_count-append (MalformedAt p n ∷ s) t = lost_line_count-append s t
-lost_line_count-append (LostAt i c ∷ s) t = omega (arith, lost_line_count-append s t)
-
-pub bad_line_count-bytes : (bs : List ℕ) → bad_line_count (map Byte bs) ≡ 0
-bad_line_count-bytes [] = refl
-bad_line_count-bytes (b ∷ bs) = bad_line_count-bytes bs
-
-pub lost_line_count-bytes : (bs : List ℕ) → lost_line_count (map Byte bs) ≡ 0
-lost_line_count-bytes [] = refl
-lost_line_count-bytes (b ∷ bs) = lost_line_count-bytes bs
-
-pub AreCounted-trans : (a b c : Counts) (s t : List Item) → AreCounted a b s → AreCounted b c t → AreCounted a c (s ++ t)
-AreCounted-trans a b c s t p q = record {
-  bad = omega (arith, p.bad, q.bad, bad_line_count-append s t);
-  lost = omega (arith, p.lost, q.lost, lost_line_count-append s t);
-}
-
--- What a policy lets be written.
-pub spared_nil : (p : Policy) → IsSpared p []
-spared_nil p h = refl
-
-pub spared_append : (p : Policy) (s t : List Item) → IsSpared p s → IsSpared p t → IsSpared p (s ++ t)
-spared_append p s t h k is = omega (arith, lost_line_count-append s t, h is, k is)
-
-spared_bytes : (p : Policy) (bs : List ℕ) → IsSpared p (map Byte bs)
-spared_bytes p bs h = lost_line_count-bytes bs
-
-pub cut_spared : (s t : List Item) → lost_line_count s ≡ 0 → up_to_loss (s ++ t) ≡ s ++ up_to_loss t
-cut_spared [] t h = refl
-cut_spared (Byte b ∷ s) t h = ap (λ l. Byte b ∷ l) (cut_spared s t h)
-cut_spared (MalformedAt o n ∷ s) t h = ap (λ l. MalformedAt o n ∷ l) (cut_spared s t h)
-cut_spared (LostAt i c ∷ s) t h = absurd (omega (arith, h))
-
-pub written_spared : (p : Policy) (s t : List Item) → IsSpared p s → written_under p (s ++ t) ≡ s ++ written_under p t
-written_spared Policy.Decimal s t h = refl
-written_spared Policy.Hexadecimal s t h = refl
-written_spared Policy.Stop s t h = cut_spared s t (h refl)
-
--- all of it, if nothing stops it
-pub written_whole : (p : Policy) (s : List Item) → IsSpared p s → written_under p s ≡ s
-written_whole p s h = ap (written_under p) (sym (append-nil s)) ∙ written_spared p s [] h ∙ ap (λ l. s ++ l) (none_written p) ∙ append-nil s
-  where
-    none_written : (p : Policy) → written_under p [] ≡ []
-    none_written Policy.Decimal = refl
-    none_written Policy.Hexadecimal = refl
-    none_written Policy.Stop = refl
 
 -- what is written of a front is a prefix of what is written of the whole, and is that if it stops
 cut_front : (s t : List Item) → (rest : List Item) × (up_to_loss (s ++ t) ≡ up_to_loss s ++ rest)
@@ -254,9 +169,6 @@ pub handed_on : {T : Type 0} (P : Fault → Type 0) (r : Result T Fault) (e : Fa
 handed_on P (Ok x) e same h = tt
 handed_on P (Err x) e same h = subst P (sym same) h
 
-pub hands_on_for : {T : Type 0} (r : Result T Fault) (e : Fault) (w w' : Written) (p : Policy) (last : Bool) (a : List ℕ → List Item) → IsErrAnd r (λ (x : Fault). x ≡ e) → WritesPrefixFor w w' p e last a → IfErr r (λ (g : Fault). WritesPrefixFor w w' p g last a)
-hands_on_for r e w w' p last a same h = handed_on (λ (q : Fault). WritesPrefixFor w w' p q last a) r e same h
-
 -- after the last escape nothing is left to write for an empty text
 closed_nil : (ref : Reference) (need : ℕ) (e : Coding) (last : Bool) (s : EscapeState) (i : ℕ) → IsCoding need e → (last ≡ true → s ≡ Ascii) → whole_items ref e last s i [] ≡ []
 closed_nil _ need e true s i k h = ap (closing e) (h refl) ∙ ap (map Byte) (k.same Ascii)
@@ -318,7 +230,7 @@ noted (MalformedAt offset size ∷ s) = Bad offset size ∷ noted s
 noted (LostAt i c ∷ s) = Lost i c ∷ noted s
 
 log_bytes-line : (line : List ℕ) (s : List Item) → log_bytes (map Line line ++ tagged s) ≡ line ++ log_bytes (tagged s)
-log_bytes-line line s = log_bytes-append_of_items (map Line line) (tagged s) ∙ ap (λ x. x ++ log_bytes (tagged s)) (log_bytes-lines line)
+log_bytes-line line s = log_bytes-append (map Line line) (tagged s) ∙ ap (λ x. x ++ log_bytes (tagged s)) (log_bytes-lines line)
 
 pub log_bytes-noted : (s : List Item) → log_bytes (tagged s) ≡ flat_map line_bytes (noted s)
 log_bytes-noted [] = refl
@@ -366,45 +278,6 @@ noted-trace ref e s offset i (malformed n ∷ ps) =
 
 pub log_bytes-trace : (ref : Reference) (e : Coding) (s : EscapeState) (offset i : ℕ) (ps : List Piece) → log_bytes (tagged (trace_from ref e s offset i ps)) ≡ flat_map line_bytes (log_lines e offset i ps)
 log_bytes-trace ref e s offset i ps = log_bytes-noted (trace_from ref e s offset i ps) ∙ ap (flat_map line_bytes) (noted-trace ref e s offset i ps)
-
--- The numbers of its lines.
-bad_line_count-form : (ref : Reference) (i : ℕ) (f : Form) → bad_line_count (form_items ref i f) ≡ 0
-bad_line_count-form ref i (Mapped bs) = bad_line_count-bytes bs
-bad_line_count-form ref i (Unmapped c) = bad_line_count-bytes (reference_bytes ref c)
-
-bad_line_count-open : (ref : Reference) (e : Coding) (s : EscapeState) (i : ℕ) (t : List ℕ) → bad_line_count (open_items ref e s i t) ≡ 0
-bad_line_count-open ref e s i [] = refl
-bad_line_count-open ref e s i (c ∷ t) =
-    let rest : List Item = open_items ref e (e.set s c) (i + 1) t in
-    omega (arith, bad_line_count-append (map Byte (e.escape s (e.set s c))) (form_items ref i (e.form c) ++ rest), bad_line_count-bytes (e.escape s (e.set s c)), bad_line_count-append (form_items ref i (e.form c)) rest, bad_line_count-form ref i (e.form c), bad_line_count-open ref e (e.set s c) (i + 1) t)
-
-pub bad_line_count-trace : (ref : Reference) (e : Coding) (s : EscapeState) (offset i : ℕ) (ps : List Piece) → bad_line_count (trace_from ref e s offset i ps) ≡ malformed_count ps
-bad_line_count-trace ref e s offset i [] = bad_line_count-bytes (e.escape s Ascii)
-bad_line_count-trace ref e s offset i (well_formed n cs ∷ ps) =
-    omega (arith, bad_line_count-append (open_items ref e s i cs) (trace_from ref e (last_set e s cs) (offset + n) (i + length cs) ps), bad_line_count-open ref e s i cs, bad_line_count-trace ref e (last_set e s cs) (offset + n) (i + length cs) ps)
-bad_line_count-trace ref e s offset i (malformed n ∷ ps) =
-    omega (arith, bad_line_count-append (open_items ref e s i (0xFFFD ∷ [])) (trace_from ref e (e.set s 0xFFFD) (offset + n) (i + 1) ps), bad_line_count-open ref e s i (0xFFFD ∷ []), bad_line_count-trace ref e (e.set s 0xFFFD) (offset + n) (i + 1) ps)
-
-lost_line_count-form : (ref : Reference) (i : ℕ) (f : Form) → lost_line_count (form_items ref i f) ≡ unmapped_count f
-lost_line_count-form ref i (Mapped bs) = lost_line_count-bytes bs
-lost_line_count-form ref i (Unmapped c) = omega (arith, lost_line_count-bytes (reference_bytes ref c))
-
-lost_line_count-open : (ref : Reference) (e : Coding) (s : EscapeState) (i : ℕ) (t : List ℕ) → lost_line_count (open_items ref e s i t) ≡ lost_count e t
-lost_line_count-open ref e s i [] = refl
-lost_line_count-open ref e s i (c ∷ t) =
-    let rest : List Item = open_items ref e (e.set s c) (i + 1) t in
-    omega (arith, lost_line_count-append (map Byte (e.escape s (e.set s c))) (form_items ref i (e.form c) ++ rest), lost_line_count-bytes (e.escape s (e.set s c)), lost_line_count-append (form_items ref i (e.form c)) rest, lost_line_count-form ref i (e.form c), lost_line_count-open ref e (e.set s c) (i + 1) t)
-
-lost_count-append : (e : Coding) (a b : List ℕ) → lost_count e (a ++ b) ≡ lost_count e a + lost_count e b
-lost_count-append e [] b = omega arith
-lost_count-append e (c ∷ a) b = omega (arith, lost_count-append e a b)
-
-pub lost_line_count-trace : (ref : Reference) (e : Coding) (s : EscapeState) (offset i : ℕ) (ps : List Piece) → lost_line_count (trace_from ref e s offset i ps) ≡ lost_count e (text ps)
-lost_line_count-trace ref e s offset i [] = lost_line_count-bytes (e.escape s Ascii)
-lost_line_count-trace ref e s offset i (well_formed n cs ∷ ps) =
-    omega (arith, lost_line_count-append (open_items ref e s i cs) (trace_from ref e (last_set e s cs) (offset + n) (i + length cs) ps), lost_line_count-open ref e s i cs, lost_line_count-trace ref e (last_set e s cs) (offset + n) (i + length cs) ps, lost_count-append e cs (text ps))
-lost_line_count-trace ref e s offset i (malformed n ∷ ps) =
-    omega (arith, lost_line_count-append (open_items ref e s i (0xFFFD ∷ [])) (trace_from ref e (e.set s 0xFFFD) (offset + n) (i + 1) ps), lost_line_count-open ref e s i (0xFFFD ∷ []), lost_line_count-trace ref e (e.set s 0xFFFD) (offset + n) (i + 1) ps, lost_count-append e (0xFFFD ∷ []) (text ps))
 
 -- If the log is empty.
 

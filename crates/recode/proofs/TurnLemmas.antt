@@ -21,7 +21,7 @@ use Rattle.recode.specs.calls.Turns.{AreCountedSoundly, EncodesTurn, Standing, T
 use Rattle.recode.specs.calls.Verdict.{IsFaithfulFor, VerdictIsKept, VerdictView, to_read}
 use Rattle.recode.specs.declared.counts.Counts.{Counts}
 use Rattle.recode.proofs.DecoderCallLemmas.{trace_well_formed}
-use Rattle.recode.proofs.TraceLemmas.{AreCounted-trans}
+use Rattle.recode.specs.laws.Items.{AreCounted-trans}
 use Rattle.recode.proofs.VerdictLemmas.{both_ways, true_or_false}
 
 -- ---- text as pieces

@@ -15,7 +15,7 @@ use Rattle.encoding_mem.specs.Items.{LostAt}
 use Rattle.recode.specs.WrittenItems.{lost_line_count}
 use Rattle.recode.proofs.InputLemmas.{known_completes, known_fails, known_too_long}
 use Rattle.recode.proofs.StopLemmas.{runs_through, trace_where_spared}
-use Rattle.recode.proofs.TraceLemmas.{lost_line_count-append}
+use Rattle.recode.specs.laws.Items.{lost_line_count-append}
 
 -- Two runs that came to their end.
 pub same_written : (j : Job) (x : List ℕ) (w w' v v' : Written) (p q : Report) → IsConverted w w' j x p → IsConverted v v' j x q → WroteTheSame w w' v v'

@@ -1,5 +1,5 @@
 -- What a call of an encoder makes of the verdict, if it was read back, and if something is lost.
-use Rattle.std.proofs.Common.{◌≡◌, ◌⊎◌, ◌↔◌, ℕ, Bool, true, false, IsTrue, IsFalse, List, [], ◌∷◌, ◌++◌, drop, refl, sym, ◌∙◌, ap, subst, inl, inr}
+use Rattle.std.proofs.Common.{◌≡◌, ◌⊎◌, ◌↔◌, ℕ, Bool, true, false, IsTrue, IsFalse, List, [], ◌∷◌, ◌++◌, refl, sym, ◌∙◌, ap, subst, inl, inr}
 use Rattle.std.proofs.Math.Logic.{∥∥₁_elim, ∥∥₁_map}
 use Rattle.std.proofs.Props.{props}
 use Rattle.std.specs.Bool.{MatchBool}
@@ -8,10 +8,7 @@ use Rattle.std.proofs.lemmas.Bool.{false≢true}
 use Rattle.encoding_mem.specs.Coding.{Coding, IsCoding}
 use Rattle.encoding_mem.specs.calls.EncoderCalls.{Encodes}
 use Rattle.encoding_mem.specs.Piece.{Piece, well_formed, malformed, text, AreWellFormed}
-use Rattle.encoding_mem.specs.calls.ReadCalls.{CallsAlong, HoldsAfter, KeepsVerdict, IsNotUnmappable, ReadsAlong, ReadsWhole}
-use Rattle.encoding_mem.specs.calls.Decoding.{DecoderState}
-use Rattle.encoding_mem.specs.laws.Agreement.{well_formed_parts}
-use Rattle.encoding_mem.specs.laws.Piece.{AreWellFormed-append, text-append, well_formed_text}
+use Rattle.encoding_mem.specs.calls.ReadCalls.{CallsAlong, HoldsAfter, KeepsVerdict, IsNotUnmappable, ReadsAlong}
 use Rattle.encoding_mem.specs.laws.ReadCalls.{begins_along, differing_part_never_reads, ends_along, lost_never_reads, next_along, verdict_of_call}
 use Rattle.encoding_mem.specs.laws.Verdict.{keeps_agreed, keeps_false, keeps_lost}
 use Rattle.encoding_mem.specs.declared.form.EscapeState.{EscapeState}
@@ -20,7 +17,6 @@ use Rattle.encoding_mem.specs.declared.reference.Reference.{Reference}
 use Rattle.encoding_mem.specs.declared.encoder_result.EncoderResult.{EncoderResult}
 use Rattle.encoding_mem.specs.declared.encoder_result.EncoderResult.TheVariants.{InputEmpty, OutputFull, Unmappable}
 use Rattle.recode.specs.calls.Verdict.{CanTell, IsFaithfulFor, IsReadAlong, IsReadBack, IsToldAtEnd, IsToldByLog, VerdictIsKept, ReadsAsOther, ReadsAsText, VerdictView, to_read}
-use Rattle.recode.proofs.DecoderCallLemmas.{WellFormedCall}
 
 -- ---- facts that have one proof
 
@@ -191,26 +187,6 @@ next_tells e v s t h = record {
 
 pub both_ways : {A B C : Type 0} → A ↔ B → B ↔ C → A ↔ C
 both_ways h k = (λ a. k.0 (h.0 a), λ c. h.1 (k.1 c))
-
--- pieces whose text was encoded, and those after them
-pub faithful_on : (ref : Reference) (e : Coding) (last : Bool) (v v' : VerdictView) (s s' : EscapeState) (taken behind all : List Piece) (t : List ℕ) → VerdictIsKept e last v s t v' s' [] → (IsTrue last → text behind ≡ []) → AreWellFormed taken → text taken ≡ t
-    → all ≡ taken ++ behind → IsFaithfulFor ref v e s all ↔ IsFaithfulFor ref v' e s' behind
-faithful_on ref e last v v' s s' taken behind all t keeps ends good same is =
-    let both = keeps ref (text behind) ends in
-    let whole : text all ≡ t ++ text behind = ap text is ∙ text-append taken behind ∙ ap (λ l. l ++ text behind) same in (
-      λ h.
-          let on = both.0 (h.0, subst (ReadsWhole ref e (to_read v) s) whole h.2) in
-          (on.0, (well_formed_parts taken behind (subst AreWellFormed is h.1)).1, on.1),
-      λ h.
-          let on = both.1 (h.0, h.2) in
-          (on.0, subst AreWellFormed (sym is) (AreWellFormed-append taken behind good h.1), subst (ReadsWhole ref e (to_read v) s) (sym whole) on.1),
-    )
-
-module _ (ref : Reference) (before after : DecoderState) (src : List ℕ) (last : Bool) (read : ℕ) (t : List ℕ) (e : Coding) (v v' : VerdictView) (s s' : EscapeState) where
-  pub well_formed_verdict : (k : WellFormedCall before after src last read t) (ended : Bool) → VerdictIsKept e ended v s t v' s' [] → (IsTrue ended → (r : List ℕ) → (last ≡ true → r ≡ []) → after.pieces (drop read src ++ r) ≡ [])
-      → (r : List ℕ) → (last ≡ true → r ≡ []) → IsFaithfulFor ref v e s (before.pieces (src ++ r)) ↔ IsFaithfulFor ref v' e s' (after.pieces (drop read src ++ r))
-  well_formed_verdict k ended keeps none r h =
-      faithful_on ref e ended v v' s s' k.taken (after.pieces (drop read src ++ r)) (before.pieces (src ++ r)) t keeps (λ end. ap text (none end r h)) k.fine (well_formed_text k.taken k.fine ∙ sym k.text_is) (k.rest r h)
 
 -- if all is written, the verdict is known
 pub verdict_told : (ref : Reference) (e : Coding) (need : ℕ) → IsCoding need e → (v : VerdictView) (s : EscapeState) (ps : List Piece) → ps ≡ [] → s ≡ Ascii → IsToldAtEnd v → IsFaithfulFor ref v e s ps ↔ IsTrue v.faithful

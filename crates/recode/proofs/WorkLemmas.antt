@@ -6,7 +6,7 @@ use Rattle.recode_log.specs.declared.line.LogLine.TheVariants.{Bad, Lost}
 use Rattle.recode.specs.TaggedByte.{Line, output_bytes, tagged}
 use Rattle.recode.specs.Work.{IsCounted}
 use Rattle.recode.specs.WrittenItems.{bad_line_count, lost_line_count}
-use Rattle.recode.proofs.TraceLemmas.{output_bytes-append, output_bytes-lines}
+use Rattle.recode.specs.laws.Items.{output_bytes-append, output_bytes-lines}
 
 -- one more call after some, of which at most so many are left
 pub counted_more : (calls calls1 calls2 left most : ℕ) → (calls1 < 2 ^ 64 - 1 → calls ≤ calls1) → calls1 + left ≤ calls + most → IsCounted 1 1 calls1 calls2 → IsCounted 1 (most + 1) calls calls2

@@ -1,12 +1,12 @@
 -- A converter as its callers know it, and what its calls do.
 use Rattle.std.specs.Prelude.{◌≡◌, ◌↔◌, ℕ, ◌+◌, ◌-◌, ◌<◌, IsTrue, List, [], ◌∷◌, ◌++◌, map, length, Bool, true, false}
-use Rattle.encoding_mem.specs.Coding.{reference_bytes}
+use Rattle.encoding_mem.specs.Coding.{lost_count, reference_bytes}
 use Rattle.encoding_mem.specs.Items.{Byte, Item, LostAt, MalformedAt, trace_from}
-use Rattle.encoding_mem.specs.Piece.{Piece, sizes}
+use Rattle.encoding_mem.specs.Piece.{Piece, malformed_count, sizes}
 use Rattle.encoding_mem.specs.declared.reference.Reference.{Reference}
 use Rattle.recode_log.specs.Line.{IsValid}
 use Rattle.recode_log.specs.declared.line.LogLine.TheVariants.{Bad, Lost}
-use Rattle.recode.specs.Job.{Faithful, source_in, whole_trace}
+use Rattle.recode.specs.Job.{Faithful, input_pieces, input_text, source_in, target_of, whole_trace}
 use Rattle.recode.specs.Policy.{reference_form}
 use Rattle.recode.specs.State.{State}
 use Rattle.recode.specs.Step.{IsNearlyDecided}
@@ -15,6 +15,7 @@ use Rattle.recode.specs.calls.Verdict.{IsFaithfulFor}
 use Rattle.recode.specs.declared.converter.ConverterResult.{ConverterResult}
 use Rattle.recode.specs.declared.converter.ConverterResult.TheVariants.{Found, InputEmpty, OutputFull}
 use Rattle.recode.specs.declared.job.Job.{Job}
+use Rattle.recode.specs.declared.job.Report.{Report}
 
 -- ---- what is owed
 
@@ -80,6 +81,21 @@ pub record ConvertsPart (v v' : ConverterView) (last : Bool) (bytes rest : List 
   pub counted : v'.state.counts.read + length rest ≡ v.state.counts.read + length bytes
   pub lines : AreCounted v.state.counts v'.state.counts items
   pub ended : v'.ended ≡ true → (last ≡ true) × (rest ≡ [])
+
+-- Calls of a converter, from a new one of a job on: of these bytes the rest is left, to be handed in again, and they
+-- wrote and found these items.
+pub record ConvertedSoFar (j : Job) (last : Bool) (bytes rest : List ℕ) (items : List Item) (v : ConverterView) : Type 0 where
+  pub new : ConverterView
+  pub fresh : IsFreshConverter new j
+  pub law : ConvertsPart new v last bytes rest items
+
+-- the report on the conversion of an input x, but for the number of calls: its counts, its source encoding, its verdict
+pub record IsReportButCalls (j : Job) (x : List ℕ) (p : Report) : Type 0 where
+  pub read : p.read ≡ length x
+  pub bad : p.bad ≡ malformed_count (input_pieces j x)
+  pub lost : p.lost ≡ lost_count (target_of j) (input_text j x)
+  pub encoding : p.encoding ≡ source_in j x
+  pub faithful : IsTrue p.faithful ↔ Faithful j x
 
 -- nothing is owed, and whether anything was lost is known
 pub record IsWhole (v : ConverterView) : Type 0 where

@@ -16,4 +16,5 @@ pub mod Conversion
 pub mod Program
 pub mod IndexFaults
 pub mod calls
+pub mod laws
 pub mod examples

@@ -5,3 +5,5 @@ pub mod Slices
 pub mod IndexFaults
 pub mod Conversion
 pub mod Work
+pub mod Converter
+pub mod Turns

@@ -4,10 +4,9 @@
 ghost use Rattle.std.specs.Prelude.{◌≡◌, ◌+◌, ◌^◌, ◌≤◌, ◌++◌, IfErr, None, OnOk, length};
 ghost use Rattle.recode.specs.State.{to_write};
 ghost use Rattle.recode.specs.WrittenItems.{WritesPrefixFor};
-ghost use Rattle.recode.specs.calls.Buffers.{KeepsRoom};
-ghost use Rattle.recode.specs.calls.Chunk.{CanConvert, DecodesChunk};
+ghost use Rattle.recode.specs.calls.Chunk.{CanConvert, ConvertsChunk};
 ghost use Rattle.recode.specs.calls.EngineView.{engine_state};
-ghost use Rattle.recode.specs.calls.Lent.{AreLent};
+ghost use Rattle.recode.specs.calls.Lent.{AreLent, KeepsLent};
 ghost use Rattle.recode.specs.calls.Writers.{AreReady, CountsWriterFault, HoldNothing, is_end};
 ghost use Rattle.recode.specs.calls.Writers.{written_by};
 
@@ -35,7 +34,7 @@ pub fn write_chunk<D: StreamDecoder, E: RawEncoder, W: Write, L: Write>(
     requires lent { AreLent pivot.old check.old }
     requires writers { AreReady writers.old }
     requires held { HoldNothing writers.old }
-    ensures chunk { OnOk result (DecodesChunk
+    ensures chunk { OnOk result (ConvertsChunk
         (written_by W.contents L.contents writers.old)
         (written_by W.contents L.contents writers.new)
         (engine_state D.view E.parts writers.old.policy engine.old)
@@ -50,8 +49,7 @@ pub fn write_chunk<D: StreamDecoder, E: RawEncoder, W: Write, L: Write>(
     ensures target { (E.parts engine.new.encoder).coding
         ≡ (E.parts engine.old.encoder).coding }
     ensures failures { CountsWriterFault writers.old writers.new result }
-    ensures pivot { KeepsRoom pivot.old pivot.new }
-    ensures check { KeepsRoom check.old check.new }
+    ensures lent { KeepsLent pivot.old check.old pivot.new check.new }
 {
     let last = chunk.is_empty();
     let mut rest = chunk;
@@ -60,7 +58,10 @@ pub fn write_chunk<D: StreamDecoder, E: RawEncoder, W: Write, L: Write>(
     engine.to = 0;
     'calls: loop {
         writers.make_room()?;
-        let (result, read, _) = writers.convert(engine, rest, pivot, check, last);
+        let held = writers.held;
+        let room = &mut writers.buffer[held..];
+        let (result, read, written) = engine.convert(rest, room, pivot, check, last);
+        writers.held = held + written;
         rest = &rest[read..];
         match result {
             ConverterResult::InputEmpty => return writers.deliver_held(),

@@ -6,7 +6,7 @@ ghost use Rattle.recode_log.specs.Counted.{IsTold, inner_of, failures_of};
 ghost use Rattle.recode.specs.Job.{IsValidJob};
 ghost use Rattle.recode.specs.calls.Buffers.{AreEnough, KeepSizes};
 ghost use Rattle.recode.specs.Devices.{devices_in, KeepsWritten, written_in};
-ghost use Rattle.recode.specs.Conversion.{Breaks, Converts, IsFlushCause, message_of};
+ghost use Rattle.recode.specs.Conversion.{Breaks, Converts, IsFlushCause, RisesBy, message_of};
 
 use crate::job::{Buffers, Fault, Job};
 use crate::session::run;
@@ -41,10 +41,8 @@ fn flush_both<W: Write, L: Write>(
         × (failures_of log.new ≡ failures_of log.old)) }
     ensures err { IfErr result (IsFlushCause (failures_of writer.old) (failures_of writer.new)
         (failures_of log.old) (failures_of log.new)) }
-    ensures writer_count { failures_of writer.old ≤ failures_of writer.new }
-    ensures writer_bound { failures_of writer.new ≤ failures_of writer.old + 1 }
-    ensures log_count { failures_of log.old ≤ failures_of log.new }
-    ensures log_bound { failures_of log.new ≤ failures_of log.old + 1 }
+    ensures writer_count { RisesBy 0 (failures_of writer.old) (failures_of writer.new) }
+    ensures log_count { RisesBy 0 (failures_of log.old) (failures_of log.new) }
 {
     let written = writer.flush();
     let logged = log.flush();

@@ -67,8 +67,9 @@ trait Viewed {
 /// memory, and holds about 1 KiB.
 ///
 /// However the input is cut and whatever rooms are lent, all that is written and found is the same:
-/// the job's output and log. At `InputEmpty` all that the bytes so far decide, however the input
-/// goes on, is written, with each piece that ends three or more bytes before their end.
+/// the job's output and log (`laws::calls_are_a_conversion`). At `InputEmpty` all that the bytes so
+/// far decide, however the input goes on, is written, with each piece that ends three or more bytes
+/// before their end.
 ///
 /// # Use
 ///

@@ -100,41 +100,14 @@ impl<D: StreamDecoder, E: RawEncoder> Engine<D, E> {
     ghost use Rattle.recode.specs.calls.Buffers.{HoldsAnyCharacter, KeepsRoom, is_wide};
     ghost use Rattle.recode.specs.calls.CodecCalls.{writes_all};
     ghost use Rattle.recode.specs.calls.EngineView.{HoldsBetween, chars_between, standing};
-    ghost use Rattle.recode.specs.calls.EngineView.{engine_state, engine_target};
-    ghost use Rattle.recode.specs.calls.Lent.{AreLent};
+    ghost use Rattle.recode.specs.calls.EngineView.{engine_state, engine_target, replacing};
+    ghost use Rattle.recode.specs.calls.Lent.{AreLent, KeepsLent};
     ghost use Rattle.recode.specs.calls.Text.{CanEncode};
     ghost use Rattle.recode.specs.calls.Turns.{CanGoOn, ConvertEndsWith, EncodesOnce, TakesTurns};
     ghost use Rattle.recode.specs.Converter.{found_items};
     ghost use Rattle.recode.specs.calls.Turns.{end_count, is_last_text, settled, stop_count};
     ghost use Rattle.recode.specs.calls.Turns.{stop_items, waits};
     ghost use Rattle.recode.specs.declared.job.Policy.{Policy};
-
-    // One call of the decoder. Returns how many bytes it read.
-    fn decode(&mut self, src: &[u8], pivot: &mut Pivot<'_>, last: bool) -> usize
-        requires ready { CanGoOn
-            (standing D.view E.parts Policy.Decimal self.old pivot.old) src.now last }
-        requires none { self.old.answer ≡ None }
-        requires pivot { HoldsAnyCharacter pivot.old }
-        ensures law { (p : Policy) → TakesTurns (standing D.view E.parts p self.old pivot.old)
-            (standing D.view E.parts p self.new pivot.new) last src.now
-            (drop result src.now) [] 0 0 }
-        ensures next { CanGoOn (standing D.view E.parts Policy.Decimal self.new pivot.new)
-            (drop result src.now) last }
-        ensures some { IsSome self.new.answer }
-        ensures fewer { self.new.answer ≡ Some DecoderResult.OutputFull → length
-            ((D.view self.new.decoder).state.pieces (drop result src.now))
-            < length ((D.view self.old.decoder).state.pieces src.now) }
-        ensures within { result ≤ length src.now }
-        ensures holds { HoldsBetween pivot.new self.new.from self.new.to }
-        ensures pivot { KeepsRoom pivot.old pivot.new }
-    {
-        let call = decode_to_pivot(&mut self.decoder, src, pivot, last, &mut self.counts.calls);
-        self.counts.read += call.read as u64;
-        self.answer = Some(call.answer);
-        self.from = 0;
-        self.to = call.written;
-        call.read
-    }
 
     // One call of the encoder, on the text that waits. What it writes is read back.
     fn encode(
@@ -189,13 +162,7 @@ impl<D: StreamDecoder, E: RawEncoder> Engine<D, E> {
         requires offset { after + size ≤ self.old.counts.read }
         requires pivot { HoldsAnyCharacter pivot.old }
         ensures line { result ≡ LogLine.Bad (self.old.counts.read - after - size) size }
-        ensures same { self.new ≡ record self.old {
-          counts = record self.old.counts { bad = self.old.counts.bad + 1 };
-          verdict = record self.old.verdict { faithful = false };
-          answer = Some DecoderResult.OutputFull;
-          from = 0;
-          to = self.new.to;
-        } }
+        ensures same { self.new ≡ replacing self.old self.new.to }
         ensures text { chars_between pivot.new 0 self.new.to ≡ 0xFFFD ∷ [] }
         ensures holds { HoldsBetween pivot.new 0 self.new.to }
         ensures pivot { KeepsRoom pivot.old pivot.new }
@@ -235,7 +202,7 @@ impl<D: StreamDecoder, E: RawEncoder> Engine<D, E> {
         }
     }
 
-    // Asks the decoder, if no text waits. Returns how many bytes it read.
+    // One call of the decoder, if no text waits. Returns how many bytes it read.
     fn fill(&mut self, src: &[u8], pivot: &mut Pivot<'_>, last: bool) -> usize
         requires ready { CanGoOn
             (standing D.view E.parts Policy.Decimal self.old pivot.old) src.now last }
@@ -255,10 +222,15 @@ impl<D: StreamDecoder, E: RawEncoder> Engine<D, E> {
         ensures holds { HoldsBetween pivot.new self.new.from self.new.to }
         ensures pivot { KeepsRoom pivot.old pivot.new }
     {
-        match self.answer {
-            Some(_) => 0,
-            None => self.decode(src, pivot, last),
+        if self.answer.is_some() {
+            return 0;
         }
+        let call = decode_to_pivot(&mut self.decoder, src, pivot, last, &mut self.counts.calls);
+        self.counts.read += call.read as u64;
+        self.answer = Some(call.answer);
+        self.from = 0;
+        self.to = call.written;
+        call.read
     }
 
     // One call of the encoder, after one of the decoder if no text waits. Returns how a call ends
@@ -294,8 +266,7 @@ impl<D: StreamDecoder, E: RawEncoder> Engine<D, E> {
         ensures within { result.1 ≤ length src.now }
         ensures wrote { WritesBytes dst.old dst.new result.2 }
         ensures holds { HoldsBetween pivot.new self.new.from self.new.to }
-        ensures pivot { KeepsRoom pivot.old pivot.new }
-        ensures check { KeepsRoom check.old check.new }
+        ensures lent { KeepsLent pivot.old check.old pivot.new check.new }
     {
         let read = self.fill(src, pivot, last);
         if dst.len() < 4 {
@@ -357,8 +328,7 @@ impl<D: StreamDecoder, E: RawEncoder> Engine<D, E> {
         ensures within { result.1 ≤ length src.now }
         ensures wrote { WritesBytes dst.old dst.new result.2 }
         ensures holds { HoldsBetween pivot.new self.new.from self.new.to }
-        ensures pivot { KeepsRoom pivot.old pivot.new }
-        ensures check { KeepsRoom check.old check.new }
+        ensures lent { KeepsLent pivot.old check.old pivot.new check.new }
     {
         let mut read = 0;
         let mut written = 0;

@@ -3,11 +3,12 @@
 
 ghost use Rattle.std.specs.Prelude.{◌≡◌, ◌↔◌, ◌<◌, ◌≤◌, ◌+◌, ◌*◌, ◌++◌, ◌∷◌, ℕ, ◌⊎◌, Bool, Err};
 ghost use Rattle.std.specs.Prelude.{IsFalse, IsOk, IsTrue, List, Result, Some, [], encode_utf8_all};
-ghost use Rattle.std.specs.Prelude.{length, map, take};
+ghost use Rattle.std.specs.Prelude.{false, length, map, take, true};
 ghost use Rattle.std.specs.Io.KnownBytes.{Appends};
 ghost use Rattle.std.specs.List.{concat, flat_map};
 ghost use Rattle.std.specs.Str.{IsUtf8, chars};
 ghost use Rattle.encoding_mem.specs.Agreement.{ReadsBackOrBreaks};
+ghost use Rattle.encoding_mem.specs.Items.{Item};
 ghost use Rattle.encoding_mem.specs.Coding.{AllMapped, last_set, lost_count, open_from, output};
 ghost use Rattle.encoding_mem.specs.Piece.{ArePieces, AreWellFormed, Piece, malformed_count};
 ghost use Rattle.encoding_mem.specs.Piece.{piece_len, sizes};
@@ -26,7 +27,9 @@ ghost use Rattle.recode_log.specs.Line.{line_bytes};
 ghost use Rattle.recode_log.specs.declared.line.LogLine.TheVariants.{Lost};
 ghost use Rattle.recode.specs.Job.{Faithful, IsValidJob, input_pieces, input_text, log_lines};
 ghost use Rattle.recode.specs.Job.{log_of, lost_log_lines, output_of, output_pieces, target_of};
-ghost use Rattle.recode.specs.Job.{trace};
+ghost use Rattle.recode.specs.Converter.{ConverterView, ConvertsPart, ConvertedSoFar};
+ghost use Rattle.recode.specs.Converter.{IsFreshConverter, IsReportButCalls, IsWhole, owes};
+ghost use Rattle.recode.specs.Job.{trace, whole_trace};
 ghost use Rattle.recode.specs.Job.{RunsThrough, lines_up_to_loss};
 ghost use Rattle.recode.specs.Policy.{reference_form};
 ghost use Rattle.recode.specs.Latency.{HasReached};
@@ -34,7 +37,7 @@ ghost use Rattle.recode.specs.ReadBackJobs.{back, in_utf8};
 ghost use Rattle.recode.specs.Runs.{AgreeButForCalls, IsStopped, IsWholeOutput, RunReturns};
 ghost use Rattle.recode.specs.Runs.{WroteTheSame};
 ghost use Rattle.recode.specs.Session.{Completes, Fails, IsConverted, IsNewSession, IsReport};
-ghost use Rattle.recode.specs.Session.{Tells, View};
+ghost use Rattle.recode.specs.Session.{ReportsOn, Tells, View};
 ghost use Rattle.recode.specs.calls.Slices.{piece_bytes};
 ghost use Rattle.recode.specs.State.{State};
 ghost use Rattle.recode.specs.Step.{Finishes, HasRun, IsNearlyDecided, StepsOn, Stops};
@@ -319,4 +322,31 @@ pub fn decided_pieces_are_converted()
         → HasReached t t1 j s x ps → IsNearlyDecided s.decoder
         → input_pieces j (x ++ y) ≡ qs ++ more
         → sizes qs + 3 ≤ length x → IsPrefix qs ps }
+{}
+
+/// A new converter was handed nothing. Each call is added to those before: it is handed what they
+/// left, and more, or nothing more after the last bytes.
+pub fn calls_add_up()
+    ensures begins { (j : Job) (v : ConverterView) → IsFreshConverter v j
+        → ConvertedSoFar j false [] [] [] v }
+    ensures goes_on { (j : Job) (last last' : Bool) (bytes rest more rest' : List ℕ)
+        (items items' : List Item) (v v' : ConverterView)
+        → (last ≡ true → (last' ≡ true) × (more ≡ [])) → ConvertedSoFar j last bytes rest items v
+        → ConvertsPart v v' last' (rest ++ more) rest' items'
+        → ConvertedSoFar j last' (bytes ++ more) rest' (items ++ items') v' }
+{}
+
+/// Calls of a converter keep the promise of `run`. Once all is written, what they wrote and found
+/// is what the job makes of all that they were handed, and what is reported is the report on it.
+/// Before that it is the first part of it, however the input goes on.
+pub fn calls_are_a_conversion()
+    ensures owes { (j : Job) (last : Bool) (bytes rest : List ℕ) (items : List Item)
+        (v : ConverterView) → ConvertedSoFar j last bytes rest items v
+        → (r : List ℕ) → (last ≡ true → r ≡ [])
+        → whole_trace j (bytes ++ r) ≡ items ++ owes v (rest ++ r) }
+    ensures whole { (j : Job) (bytes : List ℕ) (items : List Item) (v : ConverterView)
+        → ConvertedSoFar j true bytes [] items v → IsWhole v → items ≡ whole_trace j bytes }
+    ensures report { (j : Job) (bytes : List ℕ) (items : List Item) (v : ConverterView)
+        (p : Report) → ConvertedSoFar j true bytes [] items v → IsWhole v → ReportsOn v.state p
+        → IsReportButCalls j bytes p }
 {}

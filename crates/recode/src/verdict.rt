@@ -20,10 +20,9 @@ pub struct Verdict<D> {
 
 impl<D: StreamDecoder> Verdict<D> {
     ghost use Rattle.std.specs.Prelude.{◌≡◌, ◌+◌, false, length};
-    ghost use Rattle.std.specs.Bool.{MatchBool};
     ghost use Rattle.recode.specs.calls.Buffers.{HoldsAnyCharacter, KeepsRoom, is_wide};
     ghost use Rattle.recode.specs.calls.PivotText.{is_in_units, pivot_chars, IsWholeText};
-    ghost use Rattle.recode.specs.calls.Verdict.{IsReadBack, NeedsForm, ReadsAsOther, ReadsAsText};
+    ghost use Rattle.recode.specs.calls.Verdict.{IsCompared, IsReadBack, NeedsForm};
     ghost use Rattle.recode.specs.calls.VerdictView.{verdict_view};
     ghost use Rattle.recode.specs.Work.{IsCounted};
 
@@ -42,11 +41,8 @@ impl<D: StreamDecoder> Verdict<D> {
         requires text { IsWholeText text }
         ensures open_ { (D.view self.new.reader).finished ≡ false }
         ensures by_log { self.new.by_log ≡ self.old.by_log }
-        ensures verdict { MatchBool self.new.faithful
-            (ReadsAsText (D.view self.old.reader).state.pieces
-            (D.view self.new.reader).state.pieces written.now (pivot_chars text.entry))
-            (ReadsAsOther (D.view self.old.reader).state.pieces
-            (D.view self.new.reader).state.pieces written.now (pivot_chars text.entry)) }
+        ensures verdict { IsCompared (verdict_view D.view self.old) (verdict_view D.view self.new)
+            written.now (pivot_chars text.entry) }
         ensures calls { IsCounted 1 (length (pivot_chars text.entry) + 1) calls.old calls.new }
         ensures check { KeepsRoom check.old check.new }
     {

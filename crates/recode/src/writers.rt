@@ -4,11 +4,8 @@ ghost use Rattle.std.specs.Prelude.{◌≡◌, ◌≤◌, take};
 ghost use Rattle.recode.specs.calls.Held.{held_line_bytes};
 ghost use Rattle.recode.specs.calls.Writers.{HasValidLine};
 
-use crate::converter::ConverterResult;
-use crate::engine::Engine;
-use crate::job::{Fault, Pivot, Policy};
-use encoding_front::{Reference, StreamDecoder, write_reference};
-use encoding_mem::RawEncoder;
+use crate::job::{Fault, Policy};
+use encoding_front::{Reference, write_reference};
 use encoding_mem::encode::put_all;
 use recode_log::counted::Counted;
 use recode_log::deliver::deliver;
@@ -50,36 +47,22 @@ impl<'w, W: Write, L: Write> Writers<'w, W, L> {
     ghost use Rattle.std.specs.Prelude.{None, OnOk, IfErr};
     ghost use Rattle.encoding_mem.specs.Coding.{reference_bytes};
     ghost use Rattle.encoding_mem.specs.Items.{Item, Byte};
-    ghost use Rattle.encoding_mem.specs.calls.EncoderRule.{EncoderCall};
     ghost use Rattle.recode_log.specs.Line.{IsValid};
-    ghost use Rattle.recode.specs.Work.{IsCounted};
-    ghost use Rattle.recode.specs.calls.Held.{LeavesPrefix, Passes, PassesBytes, WritesLine};
     ghost use Rattle.recode.specs.calls.Held.{item_of, log_line_of};
-    ghost use Rattle.recode.specs.calls.PivotText.{IsCutInto, IsWholeText, pivot_chars};
-    ghost use Rattle.recode.specs.calls.Writers.{AreReady, AreTheSame, CountsWriterFault};
-    ghost use Rattle.recode.specs.calls.Writers.{HoldNothing, HoldsMore, last_held, writers_view};
-    ghost use Rattle.std.specs.Prelude.{◌*◌, ◌^◌, drop};
+    ghost use Rattle.recode.specs.calls.Writers.{AreReady, HandsOn, HoldNothing};
+    ghost use Rattle.recode.specs.declared.converter.ConverterResult.TheVariants.{Found};
+    ghost use Rattle.std.specs.Prelude.{◌^◌};
     ghost use Rattle.recode_log.specs.declared.line.LogLine.TheVariants.{Lost};
     ghost use Rattle.recode.specs.Policy.{reference_form};
     ghost use Rattle.recode.specs.WrittenItems.{IsSpared};
-    ghost use Rattle.recode.specs.calls.Buffers.{KeepsRoom};
-    ghost use Rattle.recode.specs.calls.EngineView.{HoldsBetween, standing};
-    ghost use Rattle.recode.specs.calls.Lent.{AreLent};
-    ghost use Rattle.recode.specs.calls.Turns.{CanGoOn, ConvertEndsWith, TakesTurns, end_count};
     ghost use Rattle.recode.specs.Converter.{found_items};
-    ghost use Rattle.recode.specs.declared.converter.ConverterResult.{ConverterResult};
     ghost use Rattle.recode.specs.declared.job.Policy.{Policy};
 
     // Delivers the line that is held, if there is one, all of it or a prefix.
     fn deliver_line(&mut self) -> Result<(), Fault>
         requires ready { AreReady self.old }
-        ensures ok { OnOk result (Passes (writers_view W.contents L.contents self.old)
-            (writers_view W.contents L.contents self.new) []) }
+        ensures hands { HandsOn W.contents L.contents self.old self.new [] result }
         ensures none { OnOk result (self.new.line ≡ None) }
-        ensures err { IfErr result (λ f. (to_write : List Item) → LeavesPrefix
-            (writers_view W.contents L.contents self.old)
-            (writers_view W.contents L.contents self.new) self.old.policy f to_write) }
-        ensures failures { CountsWriterFault self.old self.new result }
     {
         let mut bytes = [0; 64];
         let len = put_held_line(self.line, &mut bytes);
@@ -90,13 +73,8 @@ impl<'w, W: Write, L: Write> Writers<'w, W, L> {
     /// Delivers what is held, all of it or a prefix.
     pub fn deliver_held(&mut self) -> Result<(), Fault>
         requires ready { AreReady self.old }
-        ensures ok { OnOk result (Passes (writers_view W.contents L.contents self.old)
-            (writers_view W.contents L.contents self.new) []) }
+        ensures hands { HandsOn W.contents L.contents self.old self.new [] result }
         ensures none { OnOk result (HoldNothing self.new) }
-        ensures err { IfErr result (λ f. (to_write : List Item) → LeavesPrefix
-            (writers_view W.contents L.contents self.old)
-            (writers_view W.contents L.contents self.new) self.old.policy f to_write) }
-        ensures failures { CountsWriterFault self.old self.new result }
     {
         self.deliver_line()?;
         let held = self.held;
@@ -109,13 +87,8 @@ impl<'w, W: Write, L: Write> Writers<'w, W, L> {
     /// Delivers what is held if too little room is left for some character.
     pub fn make_room(&mut self) -> Result<(), Fault>
         requires ready { AreReady self.old }
-        ensures ok { OnOk result (Passes (writers_view W.contents L.contents self.old)
-            (writers_view W.contents L.contents self.new) []) }
+        ensures hands { HandsOn W.contents L.contents self.old self.new [] result }
         ensures room { OnOk result (4 ≤ length self.new.buffer.now - self.new.held) }
-        ensures err { IfErr result (λ f. (to_write : List Item) → LeavesPrefix
-            (writers_view W.contents L.contents self.old)
-            (writers_view W.contents L.contents self.new) self.old.policy f to_write) }
-        ensures failures { CountsWriterFault self.old self.new result }
     {
         if self.buffer.len() - self.held < 4 {
             self.deliver_held()
@@ -124,57 +97,13 @@ impl<'w, W: Write, L: Write> Writers<'w, W, L> {
         }
     }
 
-    /// One call of the engine, which writes after the bytes that are held: what it writes is held,
-    /// too.
-    pub fn convert<D: StreamDecoder, E: RawEncoder>(
-        &mut self,
-        engine: &mut Engine<D, E>,
-        src: &[u8],
-        pivot: &mut Pivot<'_>,
-        check: &mut Pivot<'_>,
-        last: bool,
-    ) -> (ConverterResult, usize, usize)
-        requires writers { AreReady self.old }
-        requires ready { CanGoOn
-            (standing D.view E.parts Policy.Decimal engine.old pivot.old) src.now last }
-        requires holds { HoldsBetween pivot.old engine.old.from engine.old.to }
-        requires lent { AreLent pivot.old check.old }
-        ensures law { (p : Policy) → TakesTurns (standing D.view E.parts p engine.old pivot.old)
-            (standing D.view E.parts p engine.new pivot.new) last src.now
-            (drop result.1 src.now) (map Byte (last_held self.new result.2)
-            ++ found_items (reference_form p) result.0)
-            (3 * end_count result.0) (2 * end_count result.0) }
-        ensures ends { (p : Policy) → ConvertEndsWith
-            (standing D.view E.parts p engine.new pivot.new)
-            (drop result.1 src.now) last (length self.new.buffer.now - self.new.held) result.0 }
-        ensures held { HoldsMore W.contents L.contents self.old self.new result.2 }
-        ensures within { result.1 ≤ length src.now }
-        ensures waits { HoldsBetween pivot.new engine.new.from engine.new.to }
-        ensures pivot { KeepsRoom pivot.old pivot.new }
-        ensures check { KeepsRoom check.old check.new }
-    {
-        let held = self.held;
-        let room = &mut self.buffer[held..];
-        let (result, read, written) = engine.convert(src, room, pivot, check, last);
-        self.held += written;
-        (result, read, written)
-    }
-
     /// Logs a lost character, and holds its reference, or stops.
     pub fn log_lost(&mut self, index: u64, scalar: char) -> Result<(), Fault>
         requires valid { index ≤ 2 ^ 48 }
         requires ready { AreReady self.old }
-        ensures ok { OnOk result (Passes (writers_view W.contents L.contents self.old)
-            (writers_view W.contents L.contents self.new)
-            (found_items (reference_form self.old.policy)
-            (ConverterResult.Found (Lost index scalar)))) }
+        ensures hands { HandsOn W.contents L.contents self.old self.new
+            (found_items (reference_form self.old.policy) (Found (Lost index scalar))) result }
         ensures spared { OnOk result (¬ (self.old.policy ≡ Policy.Stop)) }
-        ensures err { IfErr result (λ f. (to_write : List Item) → LeavesPrefix
-            (writers_view W.contents L.contents self.old)
-            (writers_view W.contents L.contents self.new) self.old.policy f
-            (found_items (reference_form self.old.policy)
-            (ConverterResult.Found (Lost index scalar)) ++ to_write)) }
-        ensures failures { CountsWriterFault self.old self.new result }
     {
         self.log_line(LogLine::Lost { index, scalar })?;
         let form = self.policy.reference_at(index, scalar)?;
@@ -186,17 +115,10 @@ impl<'w, W: Write, L: Write> Writers<'w, W, L> {
     pub fn take_found(&mut self, line: LogLine) -> Result<(), Fault>
         requires valid { IsValid line }
         requires ready { AreReady self.old }
-        ensures ok { OnOk result (Passes (writers_view W.contents L.contents self.old)
-            (writers_view W.contents L.contents self.new)
-            (found_items (reference_form self.old.policy) (ConverterResult.Found line))) }
+        ensures hands { HandsOn W.contents L.contents self.old self.new
+            (found_items (reference_form self.old.policy) (Found line)) result }
         ensures spared { OnOk result (IsSpared self.old.policy
-            (found_items (reference_form self.old.policy) (ConverterResult.Found line))) }
-        ensures err { IfErr result (λ f. (to_write : List Item) → LeavesPrefix
-            (writers_view W.contents L.contents self.old)
-            (writers_view W.contents L.contents self.new) self.old.policy f
-            (found_items (reference_form self.old.policy) (ConverterResult.Found line)
-            ++ to_write)) }
-        ensures failures { CountsWriterFault self.old self.new result }
+            (found_items (reference_form self.old.policy) (Found line))) }
     {
         match line {
             LogLine::Bad { offset, length } => self.hold_line(MalformedLine { offset, length }),
@@ -207,13 +129,8 @@ impl<'w, W: Write, L: Write> Writers<'w, W, L> {
     // Delivers what is held if there are bytes among it, so that no more than a line is held.
     fn deliver_bytes(&mut self) -> Result<(), Fault>
         requires ready { AreReady self.old }
-        ensures ok { OnOk result (Passes (writers_view W.contents L.contents self.old)
-            (writers_view W.contents L.contents self.new) []) }
+        ensures hands { HandsOn W.contents L.contents self.old self.new [] result }
         ensures none { OnOk result (self.new.held ≡ 0) }
-        ensures err { IfErr result (λ f. (to_write : List Item) → LeavesPrefix
-            (writers_view W.contents L.contents self.old)
-            (writers_view W.contents L.contents self.new) self.old.policy f to_write) }
-        ensures failures { CountsWriterFault self.old self.new result }
     {
         if self.held == 0 {
             Ok(())
@@ -227,13 +144,8 @@ impl<'w, W: Write, L: Write> Writers<'w, W, L> {
     pub fn log_line(&mut self, line: LogLine) -> Result<(), Fault>
         requires valid { IsValid line }
         requires ready { AreReady self.old }
-        ensures ok { OnOk result (WritesLine (writers_view W.contents L.contents self.old)
-            (writers_view W.contents L.contents self.new) (item_of line)) }
-        ensures err { IfErr result (λ f. (to_write : List Item) → LeavesPrefix
-            (writers_view W.contents L.contents self.old)
-            (writers_view W.contents L.contents self.new) self.old.policy f
-            (item_of line ∷ to_write)) }
-        ensures failures { CountsWriterFault self.old self.new result }
+        ensures hands { HandsOn W.contents L.contents self.old self.new (item_of line ∷ []) result }
+        ensures none { OnOk result (HoldNothing self.new) }
     {
         self.deliver_bytes()?;
         let mut lines = [0; 64];
@@ -249,12 +161,8 @@ impl<'w, W: Write, L: Write> Writers<'w, W, L> {
     pub fn hold_line(&mut self, line: MalformedLine) -> Result<(), Fault>
         requires valid { IsValid (log_line_of line) }
         requires ready { AreReady self.old }
-        ensures ok { OnOk result (Passes (writers_view W.contents L.contents self.old)
-            (writers_view W.contents L.contents self.new) (item_of (log_line_of line) ∷ [])) }
-        ensures err { IfErr result (λ f. (to_write : List Item) → LeavesPrefix
-            (writers_view W.contents L.contents self.old)
-            (writers_view W.contents L.contents self.new) self.old.policy f to_write) }
-        ensures failures { CountsWriterFault self.old self.new result }
+        ensures hands { HandsOn W.contents L.contents self.old self.new
+            (item_of (log_line_of line) ∷ []) result }
     {
         self.deliver_held()?;
         self.line = Some(line);
@@ -265,13 +173,8 @@ impl<'w, W: Write, L: Write> Writers<'w, W, L> {
     /// room for it, it is delivered, after what is held, all of that or a prefix.
     pub fn put_reference(&mut self, c: char, form: Reference) -> Result<(), Fault>
         requires ready { AreReady self.old }
-        ensures ok { OnOk result (PassesBytes (writers_view W.contents L.contents self.old)
-            (writers_view W.contents L.contents self.new) (reference_bytes form c)) }
-        ensures err { IfErr result (λ f. (to_write : List Item) → LeavesPrefix
-            (writers_view W.contents L.contents self.old)
-            (writers_view W.contents L.contents self.new) self.old.policy f
-            (map Byte (reference_bytes form c) ++ to_write)) }
-        ensures failures { CountsWriterFault self.old self.new result }
+        ensures hands { HandsOn W.contents L.contents self.old self.new
+            (map Byte (reference_bytes form c)) result }
     {
         let mut bytes = [0; 10];
         let len = write_reference(c, form, &mut bytes);

@@ -1,9 +1,10 @@
 -- An engine and its pivot, as contracts see them.
-use Rattle.std.specs.Prelude.{◌≡◌, ℕ, ◌-◌, ◌≤◌, Bool, List, [], true, take, drop}
+use Rattle.std.specs.Prelude.{◌≡◌, ℕ, ◌+◌, ◌-◌, ◌≤◌, Bool, List, [], Some, false, true, take, drop}
 use Rattle.std.specs.Char.Utf16.{utf16_lossy_chars}
 use Rattle.std.specs.Str.{all_scalars, chars, encode_utf8_all}
 use Rattle.encoding_front.specs.calls.Stream.{DecoderView}
 use Rattle.encoding_mem.specs.calls.EncoderRule.{EncoderParts}
+use Rattle.encoding_mem.specs.declared.decoder_result.DecoderResult.TheVariants.{OutputFull}
 use Rattle.encoding_mem.specs.calls.Writing.{encode_utf16_all}
 use Rattle.recode.specs.Converter.{ConverterView}
 use Rattle.recode.specs.State.{State}
@@ -47,6 +48,10 @@ engine_target view parts policy c =
 -- with what waits in the pivot
 abbrev pub standing : {D E : Type 0} → (D → DecoderView) → (E → EncoderParts) → Policy → Engine D E → Pivot → Standing
 standing view parts policy c pivot = record { state = engine_state view parts policy c; answer = c.answer; text = chars_between pivot c.from c.to }
+
+-- an engine after the line of a malformed sequence: U+FFFD waits, which ends at this place of the pivot
+abbrev pub replacing : {D E : Type 0} → Engine D E → (to : ℕ) → Engine D E
+replacing c to = record c { counts = record c.counts { bad = c.counts.bad + 1 }; verdict = record c.verdict { faithful = false }; answer = Some OutputFull; from = 0; to = to }
 
 -- a pivot of UTF-8 over these bytes
 abbrev pub over_text : List ℕ → Pivot

@@ -1,15 +1,14 @@
 -- What is held of the log and of the output, and how lines and bytes are passed on after it.
-use Rattle.std.specs.Prelude.{◌≡◌, List, [], ◌∷◌, ◌++◌, map, Bool, true, ℕ, Option, Some, None}
+use Rattle.std.specs.Prelude.{◌≡◌, List, [], ◌∷◌, ◌++◌, map, Bool, ℕ, Option, Some, None}
 use Rattle.encoding_mem.specs.Items.{Item, Byte, LostAt, MalformedAt}
 use Rattle.recode_log.specs.Line.{line_bytes}
 use Rattle.recode_log.specs.declared.line.LogLine.{LogLine}
 use Rattle.recode_log.specs.declared.line.LogLine.TheVariants.{Bad, Lost}
 use Rattle.recode.specs.Devices.{Written}
 use Rattle.recode.specs.TaggedByte.{Wrote, tagged}
-use Rattle.recode.specs.WrittenItems.{AreCounted, IsSpared, WritesPrefix, WritesPrefixFor}
+use Rattle.recode.specs.WrittenItems.{WritesPrefix, WritesPrefixFor}
 use Rattle.recode.specs.declared.job.Fault.{Fault}
 use Rattle.recode.specs.declared.job.Policy.{Policy}
-use Rattle.recode.specs.declared.counts.Counts.{Counts}
 use Rattle.recode.specs.declared.writers.MalformedLine.{MalformedLine}
 
 -- What a writer and a log have taken, and what is held: a line, if there is one, which the log is given next, and then
@@ -55,29 +54,6 @@ pub record Passes (before after : WritersView) (items : List Item) : Type 0 wher
 -- bytes of the output were passed
 abbrev pub PassesBytes : (before after : WritersView) (bytes : List ℕ) → Type 0
 PassesBytes before after bytes = Passes before after (map Byte bytes)
-
--- The line of an item was passed, and all was written.
-pub record WritesLine (before after : WritersView) (item : Item) : Type 0 where
-  pub passes : Passes before after (item ∷ [])
-  pub none : held_items after ≡ []
-
--- Items were passed, which are counted and of which none stops the conversion, and what was still to be passed is these,
--- then what is still to be passed now.
-pub record PassesItems (before after : WritersView) (c c' : Counts) (p : Policy) (to_write to_write' : List Item) : Type 0 where
-  pub passed : List Item
-  pub passes : Passes before after passed
-  pub counted : AreCounted c c' passed
-  pub spared : IsSpared p passed
-  pub equals : to_write ≡ passed ++ to_write'
-
--- Items were passed. Whatever bytes follow, none if the input ends, what was still to be passed is these items, then what
--- is still to be passed now.
-pub record PassesItemsFor (before after : WritersView) (c c' : Counts) (p : Policy) (last : Bool) (to_write to_write' : List ℕ → List Item) : Type 0 where
-  pub passed : List Item
-  pub passes : Passes before after passed
-  pub counted : AreCounted c c' passed
-  pub spared : IsSpared p passed
-  pub equals : (r : List ℕ) → (last ≡ true → r ≡ []) → to_write r ≡ passed ++ to_write' r
 
 -- the writers took so much of what was held and of what was still to be passed
 abbrev pub LeavesPrefix : (before after : WritersView) (p : Policy) (f : Fault) (to_write : List Item) → Type 0

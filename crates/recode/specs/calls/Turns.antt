@@ -60,14 +60,17 @@ pub record AreCountedSoundly (c : Standing) : Type 0 where
   pub bad : c.state.counts.bad ≤ c.state.counts.index + length c.text
   pub lost : c.state.counts.lost ≤ c.state.counts.index
 
--- the calls that a text that waits may still take: with its end, two
+-- Calls that are set aside: for the decoder's call to come, one; if text waits after which it comes, two more, for the
+-- encoder's call that ends the text and the one that reads back what it wrote. If all is read after the text, its end has
+-- three of its own (`end_count`).
 abbrev pub spare_calls : Option DecoderResult → ℕ
 spare_calls None = 1
 spare_calls (Some decoded.InputEmpty) = 0
 spare_calls (Some decoded.OutputFull) = 3
 spare_calls (Some (decoded.Malformed a b)) = 3
 
--- the calls that are sure to come for it
+-- Calls that are sure to come: the decoder's, one; if text waits before it, the encoder's too; and one more for the U+FFFD
+-- of a malformed sequence. If all is read after the text, its end has two of its own.
 abbrev pub due_calls : Option DecoderResult → ℕ
 due_calls None = 1
 due_calls (Some decoded.InputEmpty) = 0

@@ -53,14 +53,17 @@ ReadsAsOther before after bytes t =
     ((part : List Piece) × IsFixed before bytes part × (¬ (AreRead part t)))
     ⊎ ((taken : List Piece) × HasTaken before after bytes taken × (¬ (AreWellFormed taken × (text taken ≡ t))))
 
+-- what was written for a text was read back, and the verdict says whether it is that text
+abbrev pub IsCompared : (v v' : VerdictView) (bytes t : List ℕ) → Type 0
+IsCompared v v' bytes t = MatchBool v'.faithful (ReadsAsText (to_read v) (to_read v') bytes t) (ReadsAsOther (to_read v) (to_read v') bytes t)
+
 -- What was written for a text was read back, or nothing was, if the log alone says what is lost or something was lost
 -- before.
 pub record IsReadBack (v v' : VerdictView) (bytes t : List ℕ) : Type 0 where
   pub by_log : v'.by_log ≡ v.by_log
   pub open_ : v'.reader.finished ≡ false
   pub kept : (IsTrue v.by_log) ⊎ (IsFalse v.faithful) → v' ≡ v
-  pub compared : IsFalse v.by_log → IsTrue v.faithful
-      → MatchBool v'.faithful (ReadsAsText (to_read v) (to_read v') bytes t) (ReadsAsOther (to_read v) (to_read v') bytes t)
+  pub compared : IsFalse v.by_log → IsTrue v.faithful → IsCompared v v' bytes t
 
 -- if a text will be read back, the room for it is of its form
 abbrev pub NeedsForm : VerdictView → Pivot → PivotText → Type 0

@@ -1,10 +1,11 @@
 -- What the two writers of a conversion have, and how the counts of their failed calls rise.
-use Rattle.std.specs.Prelude.{◌≡◌, ℕ, ◌+◌, ◌-◌, ◌^◌, ◌<◌, ◌≤◌, nat_eq, drop, length, take, Bool, List, Option, None, IfSome, Result}
+use Rattle.std.specs.Prelude.{◌≡◌, ℕ, ◌+◌, ◌-◌, ◌^◌, ◌<◌, ◌≤◌, ◌++◌, nat_eq, length, take, Bool, List, Option, None, IfSome, Result, OnOk, IfErr}
 use Rattle.recode_log.specs.Counted.{failures_of}
 use Rattle.recode_log.specs.Line.{IsValid}
 use Rattle.recode.specs.Devices.{Written, written_in}
 use Rattle.recode.specs.Fault.{log_failures, of_other, reader_failures, writer_failures}
-use Rattle.recode.specs.calls.Held.{PassesBytes, WritersView, log_line_of}
+use Rattle.encoding_mem.specs.Items.{Item}
+use Rattle.recode.specs.calls.Held.{LeavesPrefix, Passes, WritersView, log_line_of}
 use Rattle.recode.specs.declared.job.Fault.{Fault}
 use Rattle.recode.specs.declared.writers.MalformedLine.{MalformedLine}
 use Rattle.recode.specs.declared.writers.Writers.{Writers}
@@ -16,10 +17,6 @@ written_by contents logged writers = written_in contents logged writers.output.n
 -- the two writers by what they have taken and what is held: the line, and the bytes at the start of the buffer
 abbrev pub writers_view : {W L : Type 0} → (W → Option (List ℕ)) → (L → Option (List ℕ)) → Writers W L → WritersView
 writers_view contents logged writers = record { written = written_by contents logged writers; line = writers.line; bytes = take writers.held writers.buffer.now }
-
--- the n bytes that are held last
-abbrev pub last_held : {W L : Type 0} → Writers W L → ℕ → List ℕ
-last_held writers n = take n (drop (writers.held - n) writers.buffer.now)
 
 -- the line that is held, if there is one, is valid
 abbrev pub HasValidLine : Option MalformedLine → Type 0
@@ -50,15 +47,6 @@ pub record AreTheSame {W L : Type 0} (before after : Writers W L) : Type 0 where
   pub log : after.log.ghost_name ≡ before.log.ghost_name
   pub policy : after.policy ≡ before.policy
 
--- So many bytes are held behind those that were. No writer was called.
-pub record HoldsMore {W L : Type 0} (contents : W → Option (List ℕ)) (logged : L → Option (List ℕ)) (before after : Writers W L) (n : ℕ) : Type 0 where
-  pub bytes : PassesBytes (writers_view contents logged before) (writers_view contents logged after) (last_held after n)
-  pub held : after.held ≡ before.held + n
-  pub count : length (last_held after n) ≡ n
-  pub output : after.output ≡ before.output
-  pub log : after.log ≡ before.log
-  pub same : AreTheSame before after
-
 -- The count of the writer that a fault is of rose by one, and the other stayed. No fault is of another device.
 pub record CountsWriterFault {W L T : Type 0} (before after : Writers W L) (result : Result T Fault) : Type 0 where
   pub writer : failures_of after.output.now ≡ failures_of before.output.now + writer_failures result
@@ -70,3 +58,10 @@ pub record CountsWriterFault {W L T : Type 0} (before after : Writers W L) (resu
 -- whether what was read is the end of the input: no bytes
 abbrev pub is_end : List ℕ → Bool
 is_end chunk = nat_eq (length chunk) 0
+
+-- Items were passed. Or a writer failed: its count rose, and what was taken is a prefix of what was held, of these items
+-- and of what follows them.
+pub record HandsOn {W L T : Type 0} (contents : W → Option (List ℕ)) (logged : L → Option (List ℕ)) (before after : Writers W L) (items : List Item) (result : Result T Fault) : Type 0 where
+  pub ok : OnOk result (Passes (writers_view contents logged before) (writers_view contents logged after) items)
+  pub err : IfErr result (λ f. (more : List Item) → LeavesPrefix (writers_view contents logged before) (writers_view contents logged after) before.policy f (items ++ more))
+  pub failures : CountsWriterFault before after result

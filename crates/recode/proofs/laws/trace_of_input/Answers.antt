@@ -4,7 +4,7 @@ use Rattle.recode.specs.Job.{input_pieces, target_of}
 use Rattle.recode.specs.Policy.{reference_form}
 use Rattle.recode.specs.WrittenItems.{bad_line_count, lost_line_count}
 use Rattle.recode.proofs.StopLemmas.{log_where_spared, output_where_spared, runs_through, trace_where_spared}
-use Rattle.recode.proofs.TraceLemmas.{bad_line_count-trace, lost_line_count-trace}
+use Rattle.recode.specs.laws.Items.{bad_line_count-trace, lost_line_count-trace}
 use Rattle.recode.proofs.laws.trace_of_input.Goals as goal
 
 pub returns : goal.returns

@@ -19,7 +19,7 @@ returns-clause-law c =
     let j = c.args.self.now.job in
     let c0 = standing view-value.it parts-value.it j.policy c.args.self.now.engine (over_text c.args.self.now.text) in
     let c1 = standing view-value.it parts-value.it j.policy k.new.self (over_text c.keep_text.new.text) in
-    let kept = standing_kept view-value.it parts-value.it j.policy k.new.self k.new.pivot c.keep_text.new.text k.ensures.pivot.kind c.keep_text.ensures in
+    let kept = standing_kept view-value.it parts-value.it j.policy k.new.self k.new.pivot c.keep_text.new.text k.ensures.lent.pivot.kind c.keep_text.ensures in
     rw (c.settle-self.ensures.same) (
     part_of j c0 c1 _ _ _ _ c.args.last c.args.src.now _ _ (3 * end_count k.result.0) (2 * end_count k.result.0) _ k.result.0
     (subst (λ z. TakesTurns c0 z c.args.last c.args.src.now (drop k.result.1 c.args.src.now) (map Byte (take k.result.2 k.new.dst) ++ found_items (reference_form j.policy) k.result.0) (3 * end_count k.result.0) (2 * end_count k.result.0)) kept (k.ensures.law j.policy))
@@ -30,7 +30,7 @@ pub returns-clause-ends : goal.returns-clause-ends
 returns-clause-ends c =
     let k = c.convert-result in
     let j = c.args.self.now.job in
-    let kept = standing_kept view-value.it parts-value.it j.policy k.new.self k.new.pivot c.keep_text.new.text k.ensures.pivot.kind c.keep_text.ensures in
+    let kept = standing_kept view-value.it parts-value.it j.policy k.new.self k.new.pivot c.keep_text.new.text k.ensures.lent.pivot.kind c.keep_text.ensures in
     rw (c.settle-self.ensures.same) (
     ends_of j (standing view-value.it parts-value.it j.policy k.new.self (over_text c.keep_text.new.text)) _ c.args.last _ k.result.0 _ _
     (subst (λ z. ConvertEndsWith z (drop k.result.1 c.args.src.now) c.args.last (length k.new.dst - k.result.2) k.result.0) kept (k.ensures.ends j.policy))
@@ -39,7 +39,7 @@ returns-clause-ends c =
 pub invariant_of-self-clause-holds : goal.invariant_of-self-clause-holds
 invariant_of-self-clause-holds c =
     let k = c.convert-result in
-    rw (c.settle-self.ensures.same) (holds_kept k.new.pivot c.keep_text.new.text k.new.self.from k.new.self.to k.ensures.pivot.kind c.keep_text.ensures k.ensures.holds)
+    rw (c.settle-self.ensures.same) (holds_kept k.new.pivot c.keep_text.new.text k.new.self.from k.new.self.to k.ensures.lent.pivot.kind c.keep_text.ensures k.ensures.holds)
 
 pub invariant_of-self-clause-within : goal.invariant_of-self-clause-within
 invariant_of-self-clause-within c =
@@ -49,7 +49,7 @@ invariant_of-self-clause-within c =
 pub invariant_of-self-clause-rests : goal.invariant_of-self-clause-rests
 invariant_of-self-clause-rests c = λ open_.
     let k = c.convert-result in
-    let kept = standing_kept view-value.it parts-value.it Policy.Decimal k.new.self k.new.pivot c.keep_text.new.text k.ensures.pivot.kind c.keep_text.ensures in
+    let kept = standing_kept view-value.it parts-value.it Policy.Decimal k.new.self k.new.pivot c.keep_text.new.text k.ensures.lent.pivot.kind c.keep_text.ensures in
     rw (c.settle-self.ensures.same) (
     rests_of (standing view-value.it parts-value.it Policy.Decimal k.new.self (over_text c.keep_text.new.text)) _ c.args.last _ k.result.0 _ _
     (omega (arith, c.requires.limit, (k.ensures.law Policy.Decimal).counted, c.args.self.now.small))

@@ -6,7 +6,7 @@ use Rattle.recode.specs.calls.EngineView.{standing}
 use Rattle.recode.specs.Converter.{found_items}
 use Rattle.recode.specs.calls.Turns.{CanGoOn, ConvertEndsWith, TakesTurns, end_count}
 use Rattle.recode.specs.declared.job.Policy.{Policy}
-use Rattle.recode.proofs.BufferLemmas.{room_on, room_start}
+use Rattle.recode.proofs.BufferLemmas.{lent_on, lent_start}
 use Rattle.recode.proofs.TurnLemmas.{turns_start}
 use Rattle.recode.proofs.ConvertLemmas.{free_into, items_into, turn_after, wrote_into}
 use Rattle.recode.proofs.engine.Engine.convert.Goals as goal
@@ -21,8 +21,7 @@ turns-init g c =
       within = search rules;
       wrote = record { room = search rules; behind = refl };
       holds = c.requires.holds;
-      pivot = room_start _ c.requires.lent.pivot;
-      check = room_start _ c.requires.lent.check;
+      lent = lent_start _ _ c.requires.lent;
     }
 
 pub turns-preserved : goal.turns-preserved
@@ -31,8 +30,6 @@ turns-preserved g c =
     let parts = g.E.RawEncoder.parts in
     let i = c.turns.invariant in
     let t = c.turn-stop in
-    let c0 = standing view parts Policy.Decimal c.args.self.now c.args.pivot.now in
-    let c1 = standing view parts Policy.Decimal c.turns.self c.turns.pivot in
     let c2 = standing view parts Policy.Decimal t.new.self t.new.pivot in
     let ready = rw (take_rest c.args.src.now c.turns.read) at (t.ensures.goes_on c.in_default.is) in
     record {
@@ -44,8 +41,7 @@ turns-preserved g c =
       within = search rules;
       wrote = wrote_into c.args.dst.now c.turns.dst t.new.dst c.turns.written (length c.turns.dst - c.turns.written) t.result.2 refl (search rules) i.wrote t.ensures.wrote;
       holds = t.ensures.holds;
-      pivot = room_on i.pivot t.ensures.pivot;
-      check = room_on i.check t.ensures.check;
+      lent = lent_on i.lent t.ensures.lent;
     }
 
 pub turns-smaller : goal.turns-smaller

@@ -1,7 +1,7 @@
 use Rattle.std.proofs.Common.{◌+◌, ◌*◌, ◌≤◌, length, drop, take, map}
 use Rattle.encoding_mem.specs.Items.{Byte}
 use Rattle.encoding_mem.specs.calls.EncoderRule.{WritesBytes}
-use Rattle.recode.specs.calls.Buffers.{KeepsRoom}
+use Rattle.recode.specs.calls.Lent.{KeepsLent}
 use Rattle.recode.specs.calls.EngineView.{HoldsBetween, standing}
 use Rattle.recode.specs.calls.Turns.{CanGoOn, TakesTurns, waits}
 use Rattle.recode.specs.declared.job.Policy.{Policy}
@@ -17,8 +17,7 @@ invariant-turns g l =
       within : l.read ≤ length l.src;
       wrote : WritesBytes l.initial.dst l.dst l.written;
       holds : HoldsBetween l.pivot l.self.from l.self.to;
-      pivot : KeepsRoom l.initial.pivot l.pivot;
-      check : KeepsRoom l.initial.check l.check;
+      lent : KeepsLent l.initial.pivot l.initial.check l.pivot l.check;
     }
 
 abbrev pub decreases-turns : goal.decreases-turns

@@ -27,7 +27,7 @@ returns-else-read-eq0-clause-more g c e =
     let k = c.in_ok-write_chunk.ensures in
     let on = ne_eqb (length (take c.in-Ok.read c.read.new.buf)) 0 (omega (arith, c.in-Ok.ensures.bound.1, c.if-read-eq0.false)) in
     steps_on _ _ _ _ _ _ _ c.in-Ok.ensures.bytes.0 (omega (arith, c.in-Ok.ensures.bound.1, c.if-read-eq0.false))
-    (omega (arith, k.chunk.converts.counted, c.in-Ok.ensures.bound.1, c.if-read-self.false)) (search rules) on (search rules)
+    (omega (arith, k.chunk.counted, c.in-Ok.ensures.bound.1, c.if-read-self.false)) (search rules) on (search rules)
 
 pub returns-then-read-eq0-clause-end : goal.returns-then-read-eq0-clause-end
 returns-then-read-eq0-clause-end g c e =

@@ -1,18 +1,20 @@
-use Rattle.std.proofs.Common.{◌∙◌, ap, ◌++◌, take}
-use Rattle.recode.specs.calls.Held.{held_line_bytes}
+use Rattle.std.proofs.Common.{[], ◌∷◌, ◌∙◌, ap, ◌++◌, rules, take}
+use Rattle.recode.specs.calls.Held.{held_line_bytes, item_of}
+use Rattle.recode.proofs.HandsLemmas.{hands_after, hands_fault}
 use Rattle.recode.proofs.HeldLemmas.{lines_part, lines_whole, none_held}
 use Rattle.recode.proofs.writers.Writers.log_line.Goals as goal
 
-pub returns-clause-ok : goal.returns-clause-ok
-returns-clause-ok g c =
-    let e = c.in_ok-deliver_bytes.ensures in
-    let none = none_held _ c.deliver_bytes.new.self.buffer.now e.none in
-    let is = c.put_all-end.ensures.prefix ∙ ap (λ x. x ++ take c.write_into-len.result c.write_into-len.new.dst) c.put_held_line-start.ensures.bytes ∙ ap (λ x. held_line_bytes c.deliver_bytes.new.self.line ++ x) c.write_into-len.ensures.line in
-    lines_whole _ _ _ _ _ _ _ _ c.args.line _ _ e.ok none is c.deliver.ensures.ok
+pub returns-in_err-deliver_bytes-clause-hands : goal.returns-in_err-deliver_bytes-clause-hands
+returns-in_err-deliver_bytes-clause-hands g c = hands_fault (item_of c.args.line ∷ []) c.from_residual.ensures.1 c.in_err-deliver_bytes.ensures.hands
 
-pub returns-clause-err : goal.returns-clause-err
-returns-clause-err g c =
+pub returns-clause-hands : goal.returns-clause-hands
+returns-clause-hands g c =
     let e = c.in_ok-deliver_bytes.ensures in
     let none = none_held _ c.deliver_bytes.new.self.buffer.now e.none in
-    let is = c.put_all-end.ensures.prefix ∙ ap (λ x. x ++ take c.write_into-len.result c.write_into-len.new.dst) c.put_held_line-start.ensures.bytes ∙ ap (λ x. held_line_bytes c.deliver_bytes.new.self.line ++ x) c.write_into-len.ensures.line in
-    lines_part _ _ _ _ _ _ _ _ c.args.line _ _ e.ok none is _ c.deliver.ensures.fault c.deliver.ensures.err
+    let line = c.deliver_bytes.new.self.line in
+    let is = c.put_all-end.ensures.prefix ∙ ap (λ x. x ++ take c.write_into-len.result c.write_into-len.new.dst) c.put_held_line-start.ensures.bytes ∙ ap (λ x. held_line_bytes line ++ x) c.write_into-len.ensures.line in
+    hands_after e.hands (record {
+      ok = lines_whole _ _ _ _ line _ _ c.args.line _ _ none is c.deliver.ensures.ok;
+      err = lines_part _ _ _ _ line _ _ c.args.line _ _ none is _ c.deliver.ensures.fault c.deliver.ensures.err;
+      failures = search rules;
+    })

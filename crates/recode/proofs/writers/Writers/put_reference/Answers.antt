@@ -1,18 +1,32 @@
-use Rattle.std.proofs.Common.{◌∙◌, ◌++◌, ap, take}
+use Rattle.std.proofs.Common.{◌++◌, ◌∙◌, ap, map, rules, take}
+use Rattle.encoding_mem.specs.Coding.{reference_bytes}
+use Rattle.encoding_mem.specs.Items.{Byte}
+use Rattle.recode.proofs.HandsLemmas.{hands_after, hands_fault}
 use Rattle.recode.proofs.HeldLemmas.{delivers_part, delivers_whole, holds, none_held}
 use Rattle.recode.proofs.writers.Writers.put_reference.Goals as goal
 
-pub returns-in_ok-deliver_held-clause-ok : goal.returns-in_ok-deliver_held-clause-ok
-returns-in_ok-deliver_held-clause-ok g c =
+pub returns-in_err-deliver_held : goal.returns-in_err-deliver_held
+returns-in_err-deliver_held g c = record { hands = hands_fault (map Byte (reference_bytes c.args.form c.args.c)) c.from_residual.ensures.1 c.in_err-deliver_held.ensures.hands }
+
+pub returns-in_ok-deliver_held : goal.returns-in_ok-deliver_held
+returns-in_ok-deliver_held g c =
     let e = c.in_ok-deliver_held.ensures in
     let none = none_held _ c.deliver_held.new.self.buffer.now e.none.bytes in
-    delivers_whole _ _ _ _ _ _ _ _ _ _ _ e.ok e.none.line none c.write_reference-len.ensures.reference c.deliver.ensures.ok
+    let held = take c.deliver_held.new.self.held c.deliver_held.new.self.buffer.now in
+    let is = c.write_reference-len.ensures.reference in
+    record {
+      hands = hands_after e.hands (record {
+        ok = delivers_whole _ _ _ _ _ held _ _ _ _ e.none.line none is c.deliver.ensures.ok;
+        err = delivers_part _ _ _ _ _ held _ _ _ _ e.none.line none is _ c.deliver.ensures.fault c.deliver.ensures.err;
+        failures = search rules;
+      });
+    }
 
-pub returns-in_ok-deliver_held-clause-err : goal.returns-in_ok-deliver_held-clause-err
-returns-in_ok-deliver_held-clause-err g c =
-    let e = c.in_ok-deliver_held.ensures in
-    let none = none_held _ c.deliver_held.new.self.buffer.now e.none.bytes in
-    delivers_part _ _ _ _ _ _ (take c.deliver_held.new.self.held c.deliver_held.new.self.buffer.now) _ _ _ _ e.ok e.none.line none c.write_reference-len.ensures.reference _ c.deliver.ensures.fault c.deliver.ensures.err
-
-pub returns-else-len-self-clause-ok : goal.returns-else-len-self-clause-ok
-returns-else-len-self-clause-ok g c = holds _ _ _ _ _ (c.put_all-self.ensures.prefix ∙ ap (λ x. take c.args.self.now.held c.args.self.now.buffer.now ++ x) c.write_reference-len.ensures.reference)
+pub returns-else-len-self : goal.returns-else-len-self
+returns-else-len-self g c = record {
+  hands = record {
+    ok = holds _ _ _ _ _ (c.put_all-self.ensures.prefix ∙ ap (λ x. take c.args.self.now.held c.args.self.now.buffer.now ++ x) c.write_reference-len.ensures.reference);
+    err = tt;
+    failures = search rules;
+  };
+}

@@ -1,0 +1,44 @@
+-- Worked rows of `specs/Converter.antt`.
+use Rattle.std.specs.Prelude.{◌≡◌, [], ◌∷◌, codes, false, map, refl, true}
+use Rattle.std.specs.Fmt.{digits}
+use Rattle.std.proofs.Common.{arith}
+use Rattle.encoding_mem.specs.Items.{Byte, LostAt, MalformedAt}
+use Rattle.encoding_mem.specs.declared.reference.Reference.TheVariants.{Decimal, Hexadecimal}
+use Rattle.recode_log.specs.declared.line.LogLine.TheVariants.{Bad, Lost}
+use Rattle.recode.specs.Converter.{ConverterEndsWith, ConverterView, found_items, is_all_converted}
+use Rattle.recode.specs.declared.converter.ConverterResult.TheVariants.{Found, InputEmpty, OutputFull}
+
+-- two bytes at offset 3 are malformed: nothing but their line is found
+malformed_is_found : found_items Decimal (Found (Bad 3 2)) ≡ MalformedAt 3 2 ∷ []
+malformed_is_found = refl
+
+-- the character with index 1, U+00E8, has no bytes: after its line comes its reference
+lost_is_found : found_items Decimal (Found (Lost 1 0xE8)) ≡ LostAt 1 0xE8 ∷ map Byte (codes "&#232;")
+unfolding digits
+lost_is_found = refl
+
+lost_in_hexadecimal : found_items Hexadecimal (Found (Lost 1 0xE8)) ≡ LostAt 1 0xE8 ∷ map Byte (codes "&#xE8;")
+unfolding digits
+lost_in_hexadecimal = refl
+
+nothing_is_found : found_items Decimal OutputFull ≡ []
+nothing_is_found = refl
+
+nothing_at_the_end : found_items Decimal InputEmpty ≡ []
+nothing_at_the_end = refl
+
+all_is_converted : is_all_converted InputEmpty ≡ true
+all_is_converted = refl
+
+not_if_room_is_wanted : is_all_converted OutputFull ≡ false
+not_if_room_is_wanted = refl
+
+not_if_something_is_found : is_all_converted (Found (Bad 3 2)) ≡ false
+not_if_something_is_found = refl
+
+-- room is wanted if three bytes are free, and not if four are
+three_are_few : (v : ConverterView) → v.over ≡ false → ConverterEndsWith v (0x41 ∷ []) false 3 OutputFull
+three_are_few v open_ = (omega arith, open_)
+
+four_are_not : (v : ConverterView) → ConverterEndsWith v (0x41 ∷ []) false 4 OutputFull → ⊥
+four_are_not v h = absurd (omega (arith, h.0))

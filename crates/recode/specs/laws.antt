@@ -1,0 +1,3 @@
+-- Theorems that callers and other crates cite.
+pub mod Items
+pub mod Calls
