@@ -1,299 +1,288 @@
--- Steps of a converter as steps of one run.
-use Rattle.std.proofs.Common.{◌≡◌, ◌≢◌, ℕ, ◌⊎◌, inl, inr, List, [], ◌∷◌, ◌++◌, ◌<◌, arith, take, drop, refl, sym, ap, ◌∙◌, subst, append_assoc, append-nil, Option, Some, None, Result, Ok, Err, OnOk, IfErr, Bool, true, false}
+-- What the calls of a converter make together.
+use Rattle.std.proofs.Common.{◌≡◌, ◌≢◌, ℕ, ◌+◌, ◌<◌, ◌⊎◌, inl, inr, Bool, true, false, IsTrue, List, [], ◌∷◌, ◌++◌, length, map, take, refl, sym, ◌∙◌, ap, subst, arith, append_assoc, append-nil, length-append, length-drop, length-take, drop, IsFalse, ◌-◌, ◌≤◌, ◌↔◌, Option, Some, None}
 use Rattle.std.proofs.lemmas.Grind.{flat_map-append}
-use Rattle.std.proofs.lemmas.List.{append_cancel_right, take-append-drop}
-use Rattle.recode_log.specs.declared.line.LogLine.TheVariants.{Lost}
-use Rattle.recode.specs.Devices.{Devices, Failures, known}
-use Rattle.recode.specs.Session.{Completes, Fails, IsConverted, IsNewSession, IsOver, Tells, View}
-use Rattle.recode.specs.State.{State}
-use Rattle.recode.specs.Step.{Finishes, HasRun, Stops, StepsOn, WrotePrefix}
-use Rattle.recode.specs.TaggedByte.{TaggedByte, Wrote, log_bytes, output_bytes}
-use Rattle.recode.specs.WrittenItems.{StopsAtLoss}
-use Rattle.recode.specs.Job.{IsValidJob, input_text, lost_log_lines, target_of, trace}
-use Rattle.recode.specs.calls.SessionView.{view_of}
-use Rattle.recode.specs.declared.job.Fault.{Fault}
-use Rattle.recode.specs.declared.job.Fault.TheVariants as TheFault
+use Rattle.std.proofs.lemmas.List.{drop-drop, length-take-le}
+use Rattle.encoding_mem.specs.Coding.{reference_bytes}
+use Rattle.encoding_mem.specs.Items.{Byte, Item, LostAt, MalformedAt}
+use Rattle.encoding_mem.specs.declared.reference.Reference.{Reference}
+use Rattle.recode_log.specs.Line.{line_bytes}
+use Rattle.recode_log.specs.declared.line.LogLine.{LogLine}
+use Rattle.recode_log.specs.declared.line.LogLine.TheVariants.{Bad, Lost}
+use Rattle.recode.specs.Converter.{AllIsConverted, ConverterView, ConvertsPart, HasTaken, IsReportButCalls, found_items, owes}
+use Rattle.recode.specs.Job.{input_text, log_of, lost_log_lines, output_of, target_of, trace, whole_trace}
+use Rattle.recode.specs.Policy.{reference_form, up_to_loss, written_under}
+use Rattle.recode.specs.TaggedByte.{IsPrefix, TaggedByte, log_bytes, output_bytes, tagged}
+use Rattle.recode.specs.WrittenItems.{IsSpared, StopsAtLoss, lost_line_count}
+use Rattle.recode.specs.calls.ConverterView.{converter_view}
+use Rattle.recode.specs.declared.converter.ConverterResult.{ConverterResult}
+use Rattle.recode.specs.declared.converter.ConverterResult.TheVariants.{Found, InputEmpty, OutputFull}
 use Rattle.recode.specs.declared.job.Job.{Job}
-use Rattle.recode.specs.declared.job.Progress.{Progress}
+use Rattle.recode.specs.declared.job.Policy.{Policy}
 use Rattle.recode.specs.declared.job.Report.{Report as RunReport}
-use Rattle.recode.specs.declared.session.Phase.{Phase}
-use Rattle.recode.specs.declared.session.Phase.TheVariants.{Done, Open, Stopped}
-use Rattle.jillapun_c.specs.ConverterRuns.{HasConverted, HasRunTo, JoinsToCalls, devices_of}
-use Rattle.jillapun_c.specs.Conversions.{ConvertsInMemory, HasNoCounts, HasNoSizes, IsDone, IsToldReport}
-use Rattle.jillapun_c.specs.Converters.{ConvertsByStep, HandsOut, HoldsNothing, IsNewConverter, MakesStep, MayStep, StepReturns, StepsIfMay, TellsEnd, TellsStatus, held_losses, held_output, view_in}
+use Rattle.recode.specs.laws.Calls.{owed_on, taken_first, taken_on, taken_report, taken_whole}
+use Rattle.recode.specs.laws.Items.{log_bytes-append, log_bytes-bytes, log_bytes-lines, lost_line_count-append, lost_line_count-bytes, output_bytes-append, output_bytes-bytes, output_bytes-lines, spared_append, spared_bytes, tagged-append, written_spared, written_whole}
+use Rattle.jillapun_c.proofs.ConverterTurnLemmas.{owes_split}
+use Rattle.jillapun_c.specs.Coders.{converter_in}
+use Rattle.jillapun_c.specs.ConverterRuns.{Carries, HasConverted, IsFirstPartOf, IsOverWith, JoinsToCalls, StandsAt, StopsAt}
+use Rattle.jillapun_c.specs.ConverterTurns.{IsReady, PassesLimit, TurnEnds, Turns, found_log, found_reference, stage_at}
+use Rattle.jillapun_c.specs.Conversions.{ConvertsInMemory, IsDone, IsToldReport, IsToldStop}
+use Rattle.jillapun_c.specs.Converters.{ConvertsAll, HandsOut, HoldsNothing, IsNewConverter, TellsStage, TellsStatus, TellsVerdict, held_losses, listed, view_in}
 use Rattle.jillapun_c.specs.Losses.{log_of_losses, loss_bytes}
+use Rattle.jillapun_c.specs.Room.{FillsRoom, IsFilled}
 use Rattle.jillapun_c.specs.declared.coder.Coder.{Coder}
 use Rattle.jillapun_c.specs.declared.converter.Converter.{Converter}
+use Rattle.jillapun_c.specs.declared.converter.Stage.{Stage}
+use Rattle.jillapun_c.specs.declared.converter.Stage.TheVariants.{Open, Stopped, TooLong}
 use Rattle.jillapun_c.specs.declared.converter.progress.ConverterProgress.{ConverterProgress}
+use Rattle.jillapun_c.specs.declared.converter.progress.TheConstants.ConverterProgress.{NONE}
 use Rattle.jillapun_c.specs.declared.losses.Loss.{Loss}
 use Rattle.jillapun_c.specs.declared.report.Report.{Report}
-use Rattle.jillapun_c.specs.declared.status.TheConstants.{STOPPED}
 
--- ---- devices that begin where earlier steps left them
+-- ---- what a policy writes of items
 
--- the devices of one step: an input, and what it wrote of an output and a log that were empty
-abbrev lent : (input output log : List ℕ) → Failures → Devices
-lent input output log failures = record { input = Some input; written = known output log; failures = failures }
+-- the output and the log that a policy writes of some items
+abbrev output_under : Policy → List Item → List ℕ
+output_under p items = output_bytes (tagged (written_under p items))
 
-are_lent : (t : Devices) (input output log : List ℕ) → t.input ≡ Some input → t.written ≡ known output log → t ≡ lent input output log t.failures
-are_lent t input output log is written = subst (λ i. t ≡ record { input = i; written = known output log; failures = t.failures }) is
-    (subst (λ w. t ≡ record { input = t.input; written = w; failures = t.failures }) written refl)
+abbrev log_under : Policy → List Item → List ℕ
+log_under p items = log_bytes (tagged (written_under p items))
 
-wrote_after : (a b o l : List ℕ) (t : List TaggedByte) → Wrote (known [] []) (known o l) t → Wrote (known a b) (known (a ++ o) (b ++ l)) t
-wrote_after a b o l t w = record { output = ap (λ z. a ++ z) w.output; lined = ap (λ z. b ++ z) w.lined }
+output_of_both : (s t : List Item) → output_bytes (tagged (s ++ t)) ≡ output_bytes (tagged s) ++ output_bytes (tagged t)
+output_of_both s t = ap output_bytes (tagged-append s t) ∙ output_bytes-append (tagged s) (tagged t)
 
--- a step that went on, with more input after what it read, and more written before
-on_after : (src rest o l a b more : List ℕ) (f g : Failures) (limit : ℕ) (s s' : State) → (p : StepsOn (lent src [] [] f) (lent rest o l g) limit s s')
-    → StepsOn (devices_of (p.chunk ++ more) a b) (devices_of more (a ++ o) (b ++ l)) limit s s'
-on_after src rest o l a b more f g limit s s' p = record {
-  chunk = p.chunk;
-  consumed = refl;
-  counted = p.counted;
-  grows = p.grows;
-  within = p.within;
-  target = p.target;
-  policy = p.policy;
-  source = p.source;
-  pays = record { written_items = p.pays.written_items; wrote = wrote_after a b o l _ p.pays.wrote; counted = p.pays.counted; spared = p.pays.spared; equals = p.pays.equals };
-  advances = p.advances;
-  output = ap (λ z. a ++ z) p.output;
-  logged = ap (λ z. b ++ z) p.logged;
-  settled = p.settled;
-  verdict = p.verdict;
-  calls = p.calls;
-  least = p.least;
+log_of_both : (s t : List Item) → log_bytes (tagged (s ++ t)) ≡ log_bytes (tagged s) ++ log_bytes (tagged t)
+log_of_both s t = ap log_bytes (tagged-append s t) ∙ log_bytes-append (tagged s) (tagged t)
+
+-- of items that do not stop the policy, all is written, and then what is written of the items after them
+output_then : (p : Policy) (s t : List Item) → IsSpared p s → output_under p (s ++ t) ≡ output_under p s ++ output_under p t
+output_then p s t spared = ap (λ x. output_bytes (tagged x)) (written_spared p s t spared) ∙ output_of_both s (written_under p t)
+    ∙ ap (λ x. output_bytes (tagged x) ++ output_under p t) (sym (written_whole p s spared))
+
+log_then : (p : Policy) (s t : List Item) → IsSpared p s → log_under p (s ++ t) ≡ log_under p s ++ log_under p t
+log_then p s t spared = ap (λ x. log_bytes (tagged x)) (written_spared p s t spared) ∙ log_of_both s (written_under p t)
+    ∙ ap (λ x. log_bytes (tagged x) ++ log_under p t) (sym (written_whole p s spared))
+
+output_under_bytes : (p : Policy) (bs : List ℕ) → output_under p (map Byte bs) ≡ bs
+output_under_bytes p bs = ap (λ x. output_bytes (tagged x)) (written_whole p (map Byte bs) (spared_bytes p bs)) ∙ output_bytes-bytes bs
+
+log_under_bytes : (p : Policy) (bs : List ℕ) → log_under p (map Byte bs) ≡ []
+log_under_bytes p bs = ap (λ x. log_bytes (tagged x)) (written_whole p (map Byte bs) (spared_bytes p bs)) ∙ log_bytes-bytes bs
+
+nothing_under : (p : Policy) → written_under p [] ≡ []
+nothing_under Policy.Decimal = refl
+nothing_under Policy.Hexadecimal = refl
+nothing_under Policy.Stop = refl
+
+bad_under : (p : Policy) (offset size : ℕ) → written_under p (MalformedAt offset size ∷ []) ≡ MalformedAt offset size ∷ []
+bad_under Policy.Decimal offset size = refl
+bad_under Policy.Hexadecimal offset size = refl
+bad_under Policy.Stop offset size = refl
+
+-- the bytes and the log of a line, and then of bytes
+line_output : (line bs : List ℕ) (t : List TaggedByte) → output_bytes t ≡ bs → output_bytes (map TaggedByte.Line line ++ t) ≡ bs
+line_output line bs t is = output_bytes-append (map TaggedByte.Line line) t ∙ ap (λ x. x ++ output_bytes t) (output_bytes-lines line) ∙ is
+
+line_log : (line : List ℕ) (t : List TaggedByte) → log_bytes t ≡ [] → log_bytes (map TaggedByte.Line line ++ t) ≡ line
+line_log line t none = log_bytes-append (map TaggedByte.Line line) t ∙ ap (λ x. log_bytes (map TaggedByte.Line line) ++ x) none ∙ append-nil (log_bytes (map TaggedByte.Line line)) ∙ log_bytes-lines line
+
+-- what is written of what a call found
+found_output : (p : Policy) (r : ConverterResult) → output_under p (found_items (reference_form p) r) ≡ found_reference p r
+found_output p InputEmpty = ap (λ x. output_bytes (tagged x)) (nothing_under p)
+found_output p OutputFull = ap (λ x. output_bytes (tagged x)) (nothing_under p)
+found_output p (Found (Bad offset size)) = ap (λ x. output_bytes (tagged x)) (bad_under p offset size) ∙ line_output (line_bytes (Bad offset size)) [] [] refl
+found_output Policy.Decimal (Found (Lost index scalar)) = line_output (line_bytes (Lost index scalar)) (reference_bytes Reference.Decimal scalar) (tagged (map Byte (reference_bytes Reference.Decimal scalar))) (output_bytes-bytes (reference_bytes Reference.Decimal scalar))
+found_output Policy.Hexadecimal (Found (Lost index scalar)) = line_output (line_bytes (Lost index scalar)) (reference_bytes Reference.Hexadecimal scalar) (tagged (map Byte (reference_bytes Reference.Hexadecimal scalar))) (output_bytes-bytes (reference_bytes Reference.Hexadecimal scalar))
+found_output Policy.Stop (Found (Lost index scalar)) = line_output (line_bytes (Lost index scalar)) [] [] refl
+
+found_logged : (p : Policy) (r : ConverterResult) → log_under p (found_items (reference_form p) r) ≡ found_log r
+found_logged p InputEmpty = ap (λ x. log_bytes (tagged x)) (nothing_under p)
+found_logged p OutputFull = ap (λ x. log_bytes (tagged x)) (nothing_under p)
+found_logged p (Found (Bad offset size)) = ap (λ x. log_bytes (tagged x)) (bad_under p offset size) ∙ line_log (line_bytes (Bad offset size)) [] refl
+found_logged Policy.Decimal (Found (Lost index scalar)) = line_log (line_bytes (Lost index scalar)) (tagged (map Byte (reference_bytes Reference.Decimal scalar))) (log_bytes-bytes (reference_bytes Reference.Decimal scalar))
+found_logged Policy.Hexadecimal (Found (Lost index scalar)) = line_log (line_bytes (Lost index scalar)) (tagged (map Byte (reference_bytes Reference.Hexadecimal scalar))) (log_bytes-bytes (reference_bytes Reference.Hexadecimal scalar))
+found_logged Policy.Stop (Found (Lost index scalar)) = line_log (line_bytes (Lost index scalar)) [] refl
+
+-- ---- before the first turn
+
+pub begun : (j : Job) (c : Converter) → IsNewConverter c j → HasConverted j false [] [] [] [] c
+begun j c new = record {
+  items = [];
+  taken = taken_first j (view_in c) new.fresh;
+  policy = new.policy;
+  written = new.empty.0 ∙ sym (ap (λ x. output_bytes (tagged x)) (nothing_under j.policy));
+  logged = ap log_of_losses new.empty.1 ∙ sym (ap (λ x. log_bytes (tagged x)) (nothing_under j.policy));
+  stage = subst (λ s. StandsAt s j (view_in c) [] []) (sym new.stage) (λ is. refl);
+  over = λ is. absurd (cc (sym is ∙ new.fresh.over));
 }
 
--- the step that read the end
-end_after : (src rest o l a b : List ℕ) (f g : Failures) (limit : ℕ) (s s' : State) → (p : Finishes (lent src [] [] f) (lent rest o l g) limit s s')
-    → Finishes (devices_of p.chunk a b) (devices_of [] (a ++ o) (b ++ l)) limit s s'
-end_after src rest o l a b f g limit s s' p = record {
-  chunk = p.chunk;
-  consumed = sym (append-nil p.chunk);
-  end = refl;
-  counted = p.counted;
-  within = p.within;
-  pays = record { written_items = p.pays.written_items; wrote = wrote_after a b o l _ p.pays.wrote; counted = p.pays.counted; spared = p.pays.spared; equals = p.pays.equals };
-  source = p.source;
-  verdict = p.verdict;
-  calls = p.calls;
-  least = p.least;
-  sound = p.sound;
+-- more is handed in
+pub handed_in : (j : Job) (before last : Bool) (input rest more out : List ℕ) (records : List Loss) (c : Converter) → (before ≡ true → (last ≡ true) × (more ≡ []))
+    → HasConverted j before input rest out records c → HasConverted j last (input ++ more) (rest ++ more) out records c
+handed_in j before last input rest more out records c end h = record {
+  items = h.items;
+  taken = subst (λ (x : List Item). HasTaken j last (input ++ more) (rest ++ more) x (view_in c)) (append-nil h.items)
+      (taken_on j before last input rest more (rest ++ more) h.items [] (view_in c) (view_in c) end h.taken (record {
+        job = refl;
+        owed = λ r none. refl;
+        verdict = λ r none. ((λ k. k), (λ k. k));
+        source = λ r none. refl;
+        counted = refl;
+        lines = record { bad = omega arith; lost = omega arith };
+        ended = λ is. let e = h.taken.law.ended is in ((end e.0).0, ap (λ x. x ++ more) e.1 ∙ (end e.0).1);
+      }));
+  policy = h.policy;
+  written = h.written;
+  logged = h.logged;
+  stage = stays c.stage h.stage;
+  over = λ is. let o = h.over is in record { last_ = (end o.last_).0; none = ap (λ x. x ++ more) o.none ∙ (end o.last_).1; whole = o.whole };
+}
+  where
+    stays : (s : Stage) → StandsAt s j (view_in c) input h.items → StandsAt s j (view_in c) (input ++ more) h.items
+    stays Open k = k
+    stays (Stopped index scalar) k = k
+    stays TooLong k = (k.0, record { long = omega (arith, k.1.long, length-append input more); read = k.1.read; all = k.1.all })
+
+-- ---- what is handed out
+
+log_of_more : (records more : List Loss) → log_of_losses (records ++ more) ≡ log_of_losses records ++ log_of_losses more
+log_of_more records more = flat_map-append loss_bytes records more
+
+-- a converter hands out what it holds
+pub handed_out : (j : Job) (last : Bool) (input rest out : List ℕ) (records : List Loss) (c c' : Converter) (dst dst' : List ℕ) (losses losses' : List Loss) (p p' : ConverterProgress)
+    → HandsOut c c' dst dst' losses losses' p p' → HasConverted j last input rest (out ++ take p.written dst) (records ++ take p.losses losses) c
+    → HasConverted j last input rest (out ++ take p'.written dst') (records ++ take p'.losses losses') c'
+handed_out j last input rest out records c c' dst dst' losses losses' p p' hands h = record {
+  items = h.items;
+  taken = subst (λ v. HasTaken j last input rest h.items v) view h.taken;
+  policy = ap (λ (z : Converter). z.policy) hands.rest ∙ h.policy;
+  written = append_assoc out (take p'.written dst') c'.held ∙ ap (λ x. out ++ x) (sym hands.output.is) ∙ sym (append_assoc out (take p.written dst) c.held) ∙ h.written;
+  logged = ap log_of_losses (append_assoc records (take p'.losses losses') (held_losses c') ∙ ap (λ x. records ++ x) (sym hands.lost.is) ∙ sym (append_assoc records (take p.losses losses) (held_losses c))) ∙ h.logged;
+  stage = subst (λ v. StandsAt c'.stage j v input h.items) view (subst (λ s. StandsAt s j (view_in c) input h.items) (sym (ap (λ (z : Converter). z.stage) hands.rest)) h.stage);
+  over = λ is. subst (λ v. IsOverWith v last rest) view (h.over (ap (λ v. v.over) view ∙ is));
+}
+  where
+    view : view_in c ≡ view_in c'
+    view = ap (λ (z : Converter). view_in z) (sym hands.rest)
+
+-- ---- a turn
+
+ready_output : (p : Policy) (c : Converter) (given out : List ℕ) (items : List Item) → c.held ≡ [] → (out ++ given) ++ c.held ≡ output_under p items → out ++ given ≡ output_under p items
+ready_output p c given out items none is = sym (append-nil (out ++ given)) ∙ ap (λ x. (out ++ given) ++ x) (sym none) ∙ is
+
+ready_log : (p : Policy) (c : Converter) (records : List Loss) (items : List Item) → held_losses c ≡ [] → log_of_losses (records ++ held_losses c) ≡ log_under p items → log_of_losses records ≡ log_under p items
+ready_log p c records items none is = ap log_of_losses (sym (append-nil records) ∙ ap (λ x. records ++ x) (sym none)) ∙ is
+
+-- the items of a turn
+abbrev turn_items : Policy → List ℕ → ConverterResult → List Item
+turn_items p bytes r = map Byte bytes ++ found_items (reference_form p) r
+
+turn_output : (p : Policy) (items : List Item) (bytes : List ℕ) (r : ConverterResult) → IsSpared p items → output_under p (items ++ turn_items p bytes r) ≡ output_under p items ++ (bytes ++ found_reference p r)
+turn_output p items bytes r spared = output_then p items (turn_items p bytes r) spared
+    ∙ ap (λ x. output_under p items ++ x) (output_then p (map Byte bytes) (found_items (reference_form p) r) (spared_bytes p bytes))
+    ∙ ap (λ x. output_under p items ++ (x ++ output_under p (found_items (reference_form p) r))) (output_under_bytes p bytes)
+    ∙ ap (λ x. output_under p items ++ (bytes ++ x)) (found_output p r)
+
+turn_log : (p : Policy) (items : List Item) (bytes : List ℕ) (r : ConverterResult) → IsSpared p items → log_under p (items ++ turn_items p bytes r) ≡ log_under p items ++ found_log r
+turn_log p items bytes r spared = log_then p items (turn_items p bytes r) spared
+    ∙ ap (λ x. log_under p items ++ x) (log_then p (map Byte bytes) (found_items (reference_form p) r) (spared_bytes p bytes))
+    ∙ ap (λ x. log_under p items ++ (x ++ log_under p (found_items (reference_form p) r))) (log_under_bytes p bytes)
+    ∙ ap (λ x. log_under p items ++ x) (found_logged p r)
+
+-- items that end with bytes
+spared_turn : (p : Policy) (items : List Item) (bytes : List ℕ) → IsSpared p items → IsSpared p (items ++ (map Byte bytes ++ []))
+spared_turn p items bytes spared = spared_append p items (map Byte bytes ++ []) spared (spared_append p (map Byte bytes) [] (spared_bytes p bytes) (λ is. refl))
+
+-- the stage after what was found
+found_stands : (p : Policy) (line : LogLine) (j : Job) (v : ConverterView) (input : List ℕ) (items : List Item) (bytes : List ℕ) → j.policy ≡ p → IsSpared p items
+    → StandsAt (stage_at p line) j v input (items ++ turn_items p bytes (Found line))
+found_stands p (Bad offset size) j v input items bytes is spared = λ stop.
+    omega (arith, spared (sym is ∙ stop), lost_line_count-append items (map Byte bytes ++ (MalformedAt offset size ∷ [])), lost_line_count-append (map Byte bytes) (MalformedAt offset size ∷ []), lost_line_count-bytes bytes)
+found_stands Policy.Decimal (Lost index scalar) j v input items bytes is spared = λ stop. absurd (cc (sym is ∙ stop))
+found_stands Policy.Hexadecimal (Lost index scalar) j v input items bytes is spared = λ stop. absurd (cc (sym is ∙ stop))
+found_stands Policy.Stop (Lost index scalar) j v input items bytes is spared = record {
+  policy = is;
+  before = items ++ map Byte bytes;
+  first = omega (arith, spared refl, lost_line_count-append items (map Byte bytes), lost_line_count-bytes bytes);
+  is = sym (append_assoc items (map Byte bytes) (found_items (reference_form Policy.Stop) (Found (Lost index scalar))))
+      ∙ ap (λ q. (items ++ map Byte bytes) ++ found_items (reference_form q) (Found (Lost index scalar))) (sym is);
 }
 
--- the step that a fault ended
-stop_after : (src rest o l a b : List ℕ) (f g : Failures) (limit : ℕ) (s : State) (fault : Fault) → (p : Stops (lent src [] [] f) (lent rest o l g) limit s fault)
-    → Stops (devices_of (p.read.input ++ p.read.refused) a b) (devices_of [] (a ++ o) (b ++ l)) limit s fault
-stop_after src rest o l a b f g limit s fault p = record {
-  read = record {
-    input = p.read.input;
-    refused = p.read.refused;
-    ended = p.read.ended;
-    consumed = sym (append-nil (p.read.input ++ p.read.refused));
-    end = λ e. refl;
-    none = p.read.none;
-    spared = p.read.spared;
-  };
-  within = p.within;
-  limited = p.limited;
-  pays = record { taken = p.pays.taken; wrote = wrote_after a b o l _ p.pays.wrote; left = p.pays.left };
-  untouched = λ h. (
-    (p.untouched h).0,
-    record { output = ap (λ z. a ++ z) (p.untouched h).1.output ∙ append-nil a; log = ap (λ z. b ++ z) (p.untouched h).1.log ∙ append-nil b },
+-- the stage after a turn
+stands_after : (j : Job) (c c' : Converter) (last : Bool) (input src rest : List ℕ) (items : List Item) (bytes : List ℕ) (r : ConverterResult) → TurnEnds c c' last src rest r
+    → c.policy ≡ j.policy → (view_in c).job ≡ j → IsSpared j.policy items → (view_in c).state.counts.read + length src ≡ length input
+    → StandsAt c'.stage j (view_in c') input (items ++ turn_items j.policy bytes r)
+stands_after j c c' last input src rest items bytes InputEmpty ends policy job spared counted = elim ends [
+  | inl e ↦ subst (λ s. StandsAt s j (view_in c') input (items ++ turn_items j.policy bytes InputEmpty)) (sym e.0) (spared_turn j.policy items bytes spared)
+  | inr e ↦ let limit : (view_in c).job.limit ≡ j.limit = ap (λ (k : Job). k.limit) job in
+      subst (λ s. StandsAt s j (view_in c') input (items ++ turn_items j.policy bytes InputEmpty)) (sym e.stage)
+      (spared_turn j.policy items bytes spared, record { long = omega (arith, e.long, limit, counted); read = e.read ∙ limit; all = e.all })
+]
+stands_after j c c' last input src rest items bytes OutputFull ends policy job spared counted =
+    subst (λ s. StandsAt s j (view_in c') input (items ++ turn_items j.policy bytes OutputFull)) (sym ends.0) (spared_turn j.policy items bytes spared)
+stands_after j c c' last input src rest items bytes (Found line) ends policy job spared counted =
+    subst (λ s. StandsAt s j (view_in c') input (items ++ turn_items j.policy bytes (Found line))) (sym (ends.0 ∙ ap (λ p. stage_at p line) policy))
+    (found_stands j.policy line j (view_in c') input items bytes refl spared)
+
+over_after : (c c' : Converter) (last : Bool) (src rest : List ℕ) (r : ConverterResult) → TurnEnds c c' last src rest r → (view_in c').over ≡ true → IsOverWith (view_in c') last rest
+over_after c c' last src rest InputEmpty ends over = elim ends [
+  | inl e ↦ record { last_ = sym e.1.over ∙ over; none = e.1.all; whole = e.1.whole (sym e.1.over ∙ over) }
+  | inr e ↦ absurd (cc (sym over ∙ e.all.over))
+]
+over_after c c' last src rest OutputFull ends over = absurd (cc (sym over ∙ ends.1))
+over_after c c' last src rest (Found line) ends over = absurd (cc (sym over ∙ ends.1))
+
+-- a turn goes on with what was converted before it
+pub turned_on : (j : Job) (last : Bool) (input src rest out : List ℕ) (records : List Loss) (c c' : Converter) (dst dst' : List ℕ) (at to : ℕ) (r : ConverterResult) → IsReady c
+    → Turns c c' last src rest dst dst' at to r → HasConverted j last input src (out ++ take at dst) records c → HasConverted j last input rest (out ++ take to dst') records c'
+turned_on j last input src rest out records c c' dst dst' at to r ready t h =
+    let p : Policy = j.policy in
+    let job : (view_in c).job ≡ j = h.taken.law.job ∙ h.taken.fresh.job in
+    let spared : IsSpared j.policy h.items = subst (λ s. StandsAt s j (view_in c) input h.items) ready.stage h.stage in
+    let law : ConvertsPart (view_in c) (view_in c') last src rest (turn_items j.policy t.bytes r) =
+    subst (λ (k : Job). ConvertsPart (view_in c) (view_in c') last src rest (turn_items k.policy t.bytes r)) job t.law in
+    let all : HasTaken j last (input ++ []) rest (h.items ++ turn_items j.policy t.bytes r) (view_in c') =
+    taken_on j last last input src [] rest h.items (turn_items j.policy t.bytes r) (view_in c) (view_in c') (λ is. (is, refl)) h.taken
+    (subst (λ (x : List ℕ). ConvertsPart (view_in c) (view_in c') last x rest (turn_items j.policy t.bytes r)) (sym (append-nil src)) law) in
+    record {
+      items = h.items ++ turn_items j.policy t.bytes r;
+      taken = subst (λ (x : List ℕ). HasTaken j last x rest (h.items ++ turn_items j.policy t.bytes r) (view_in c')) (append-nil input) all;
+      policy = t.policy ∙ h.policy;
+      written = append_assoc out (take to dst') c'.held ∙ ap (λ x. out ++ x) t.written ∙ sym (append_assoc out (take at dst) (t.bytes ++ found_reference c.policy r))
+          ∙ ap (λ x. (out ++ take at dst) ++ (t.bytes ++ found_reference x r)) h.policy
+          ∙ ap (λ x. x ++ (t.bytes ++ found_reference j.policy r)) (ready_output j.policy c (take at dst) out h.items ready.empty.0 h.written) ∙ sym (turn_output j.policy h.items t.bytes r spared);
+      logged = log_of_more records (held_losses c') ∙ ap (λ x. log_of_losses records ++ x) t.logged ∙ ap (λ x. x ++ found_log r) (ready_log j.policy c records h.items ready.empty.1 h.logged)
+          ∙ sym (turn_log j.policy h.items t.bytes r spared);
+      stage = stands_after j c c' last input src rest h.items t.bytes r t.ends h.policy job spared (omega (arith, h.taken.law.counted, h.taken.fresh.read));
+      over = over_after c c' last src rest r t.ends;
+    }
+
+-- ---- what was handed out, of the whole
+
+-- what is written of a front is the first part of what is written of all
+cut_front : (s t : List Item) → (more : List Item) × (up_to_loss (s ++ t) ≡ up_to_loss s ++ more)
+cut_front [] t = (up_to_loss t, refl)
+cut_front (Byte b ∷ s) t = let k = cut_front s t in (k.0, ap (λ l. Byte b ∷ l) k.1)
+cut_front (MalformedAt o n ∷ s) t = let k = cut_front s t in (k.0, ap (λ l. MalformedAt o n ∷ l) k.1)
+cut_front (LostAt i u ∷ s) t = ([], refl)
+
+under_front : (p : Policy) (s t : List Item) → (more : List Item) × (written_under p (s ++ t) ≡ written_under p s ++ more)
+under_front Policy.Decimal s t = (t, refl)
+under_front Policy.Hexadecimal s t = (t, refl)
+under_front Policy.Stop s t = cut_front s t
+
+pub first_part : (j : Job) (last : Bool) (input rest out : List ℕ) (records : List Loss) (c : Converter) → HasConverted j last input rest out records c → IsFirstPartOf j last input out records
+first_part j last input rest out records c h = record {
+  first_bytes = λ r none. let more = under_front j.policy h.items (owes (view_in c) (rest ++ r)) in (
+    c.held ++ output_bytes (tagged more.0),
+    ap (output_under j.policy) (owed_on j last input rest h.items (view_in c) h.taken r none) ∙ ap (λ x. output_bytes (tagged x)) more.1 ∙ output_of_both (written_under j.policy h.items) more.0
+        ∙ ap (λ x. x ++ output_bytes (tagged more.0)) (sym h.written) ∙ append_assoc out c.held (output_bytes (tagged more.0)),
+  );
+  first_records = λ r none. let more = under_front j.policy h.items (owes (view_in c) (rest ++ r)) in (
+    log_of_losses (held_losses c) ++ log_bytes (tagged more.0),
+    ap (log_under j.policy) (owed_on j last input rest h.items (view_in c) h.taken r none) ∙ ap (λ x. log_bytes (tagged x)) more.1 ∙ log_of_both (written_under j.policy h.items) more.0
+        ∙ ap (λ x. x ++ log_bytes (tagged more.0)) (sym h.logged ∙ log_of_more records (held_losses c)) ∙ append_assoc (log_of_losses records) (log_of_losses (held_losses c)) (log_bytes (tagged more.0)),
   );
 }
-
--- what was read is the first part of what was handed in
-part_read : (src chunk : List ℕ) (read : ℕ) → src ≡ chunk ++ drop read src → chunk ≡ take read src
-part_read src chunk read is = append_cancel_right chunk (take read src) (drop read src) (sym is ∙ sym (take-append-drop read src))
-
--- ---- a run, step by step
-
--- what is known of steps of the engine
-pub record Laws : Type 0 where
-  pub begins : (t : Devices) (j : Job) (v : View) → IsNewSession v j → HasRun t t j.limit v.state v.state
-  pub goes_on : (t t1 t2 : Devices) (limit : ℕ) (s s1 s2 : State) → HasRun t t1 limit s s1 → StepsOn t1 t2 limit s1 s2 → HasRun t t2 limit s s2
-  pub completes : (t t1 t2 : Devices) (j : Job) (v w : View) (s : State) (p : RunReport) → IsValidJob j → IsNewSession v j → HasRun t t1 j.limit v.state s
-      → Finishes t1 t2 j.limit s w.state → Tells w p → Completes t t2 j p
-  pub fails : (t t1 t2 : Devices) (j : Job) (v : View) (s : State) (f : Fault) → IsNewSession v j → HasRun t t1 j.limit v.state s → Stops t1 t2 j.limit s f → Fails t t2 j f
-
-open_not_done : (phase : Phase) → phase ≡ Open → phase ≡ Done → ⊥
-open_not_done Open o d = cc
-open_not_done Done o d = cc
-open_not_done Stopped o d = cc
-
-stopped_not_open : (phase : Phase) → phase ≡ Stopped → phase ≡ Open → ⊥
-stopped_not_open Open s o = cc
-stopped_not_open Done s o = cc
-stopped_not_open Stopped s o = cc
-
-stopped_not_done : (phase : Phase) → phase ≡ Stopped → phase ≡ Done → ⊥
-stopped_not_done Open s d = cc
-stopped_not_done Done s d = cc
-stopped_not_done Stopped s d = cc
-
-no_fault : (o : Option Fault) (f : Fault) → o ≡ None → o ≡ Some f → ⊥
-no_fault None f n s = cc
-no_fault (Some g) f n s = cc
-
-same_fault : (f g : Fault) (o : Option Fault) → o ≡ Some f → o ≡ Some g → f ≡ g
-same_fault f g o a b = ap (λ o. elim o [ None ↦ f | Some z ↦ z ]) (sym a ∙ b)
-
--- nothing was read or written
-begun : Laws → (j : Job) (v : View) (fault : Option Fault) → IsNewSession v j → fault ≡ None → HasRunTo j [] [] [] v fault
-begun laws j v fault new none = record {
-  new = v;
-  is_new = new;
-  job = new.job;
-  goes_on = λ o more. laws.begins (devices_of more [] []) j v new;
-  done = λ d p tells. absurd (open_not_done v.phase new.open_ d);
-  failed = λ f some. absurd (no_fault fault f none some);
-}
-
--- a step that went on
-went_on : Laws → (j : Job) (x a b src o l : List ℕ) (read : ℕ) (v v' : View) (fault fault' : Option Fault) (f g : Failures) → HasRunTo j x a b v fault → v.phase ≡ Open
-    → StepsOn (lent src [] [] f) (lent (drop read src) o l g) j.limit v.state v'.state → v'.job ≡ v.job → v'.phase ≡ Open → fault' ≡ None
-    → HasRunTo j (x ++ take read src) (a ++ o) (b ++ l) v' fault'
-went_on laws j x a b src o l read v v' fault fault' f g h live on job phase none = record {
-  new = h.new;
-  is_new = h.is_new;
-  job = job ∙ h.job;
-  goes_on = λ again more. subst (λ i. HasRun (devices_of i [] []) (devices_of more (a ++ o) (b ++ l)) j.limit h.new.state v'.state)
-      (sym (append_assoc x on.chunk more) ∙ ap (λ r. (x ++ r) ++ more) (part_read src on.chunk read on.consumed))
-      (laws.goes_on _ _ _ j.limit h.new.state v.state v'.state (h.goes_on live (on.chunk ++ more)) (on_after src (drop read src) o l a b more f g j.limit v.state v'.state on));
-  done = λ d p tells. absurd (open_not_done v'.phase phase d);
-  failed = λ e some. absurd (no_fault fault' e none some);
-}
-
--- the step that read the end
-came_to_end : Laws → (j : Job) (x a b src o l : List ℕ) (read : ℕ) (v v' : View) (fault fault' : Option Fault) (f g : Failures) → IsValidJob j → HasRunTo j x a b v fault → v.phase ≡ Open
-    → Finishes (lent src [] [] f) (lent (drop read src) o l g) j.limit v.state v'.state → v'.job ≡ v.job → v'.phase ≡ Done → fault' ≡ None
-    → HasRunTo j (x ++ take read src) (a ++ o) (b ++ l) v' fault'
-came_to_end laws j x a b src o l read v v' fault fault' f g valid h live end job phase none = record {
-  new = h.new;
-  is_new = h.is_new;
-  job = job ∙ h.job;
-  goes_on = λ again more. absurd (open_not_done v'.phase again phase);
-  done = λ d p tells. subst (λ r. Completes (devices_of (x ++ r) [] []) (devices_of [] (a ++ o) (b ++ l)) j p) (part_read src end.chunk read end.consumed)
-      (laws.completes _ _ _ j h.new v' v.state p valid h.is_new (h.goes_on live end.chunk) (end_after src (drop read src) o l a b f g j.limit v.state v'.state end) tells);
-  failed = λ e some. absurd (no_fault fault' e none some);
-}
-
--- the step that a fault ended
-was_stopped : Laws → (j : Job) (x a b src o l : List ℕ) (read : ℕ) (v v' : View) (fault fault' : Option Fault) (e : Fault) (f g : Failures) → HasRunTo j x a b v fault → v.phase ≡ Open
-    → Stops (lent src [] [] f) (lent (drop read src) o l g) j.limit v.state e → v'.job ≡ v.job → v'.phase ≡ Stopped → fault' ≡ Some e
-    → HasRunTo j (x ++ take read src) (a ++ o) (b ++ l) v' fault'
-was_stopped laws j x a b src o l read v v' fault fault' e f g h live stop job phase some = record {
-  new = h.new;
-  is_new = h.is_new;
-  job = job ∙ h.job;
-  goes_on = λ again more. absurd (stopped_not_open v'.phase phase again);
-  done = λ d p tells. absurd (stopped_not_done v'.phase phase d);
-  failed = λ e' some'. subst (λ z. Fails (devices_of (x ++ take read src) [] []) (devices_of [] (a ++ o) (b ++ l)) j z) (same_fault e e' fault' some some')
-      (subst (λ r. Fails (devices_of (x ++ r) [] []) (devices_of [] (a ++ o) (b ++ l)) j e) (part_read src (stop.read.input ++ stop.read.refused) read stop.read.consumed)
-      (laws.fails _ _ _ j h.new v.state e h.is_new (h.goes_on live (stop.read.input ++ stop.read.refused)) (stop_after src (drop read src) o l a b f g j.limit v.state e stop)));
-}
-
--- a step, however it ended
-stepped : Laws → (j : Job) (x a b src o l : List ℕ) (read : ℕ) (v v' : View) (fault fault' : Option Fault) (f g : Failures) (answer : Result Progress Fault) → IsValidJob j
-    → HasRunTo j x a b v fault → v.phase ≡ Open → StepReturns (lent src [] [] f) (lent (drop read src) o l g) v v' answer → OnOk answer (fault' ≡ None) → IfErr answer (λ e. fault' ≡ Some e)
-    → HasRunTo j (x ++ take read src) (a ++ o) (b ++ l) v' fault'
-stepped laws j x a b src o l read v v' fault fault' f g (Ok Progress.More) valid h live step unbroken broken =
-    went_on laws j x a b src o l read v v' fault fault' f g h live (subst (λ k. StepsOn (lent src [] [] f) (lent (drop read src) o l g) k.limit v.state v'.state) h.job (step.more refl))
-    step.session.job step.session.phase unbroken
-stepped laws j x a b src o l read v v' fault fault' f g (Ok Progress.Done) valid h live step unbroken broken =
-    came_to_end laws j x a b src o l read v v' fault fault' f g valid h live (subst (λ k. Finishes (lent src [] [] f) (lent (drop read src) o l g) k.limit v.state v'.state) h.job (step.done refl))
-    step.session.job step.session.phase unbroken
-stepped laws j x a b src o l read v v' fault fault' f g (Err e) valid h live step unbroken broken =
-    was_stopped laws j x a b src o l read v v' fault fault' e f g h live (subst (λ k. Stops (lent src [] [] f) (lent (drop read src) o l g) k.limit v.state e) h.job step.fault)
-    step.session.job step.session.phase broken
-
--- ---- calls of a converter
-
-log_of_both : (records more : List Loss) → log_of_losses (records ++ more) ≡ log_of_losses records ++ log_of_losses more
-log_of_both records more = flat_map-append loss_bytes records more
-
-told_as : (j : Job) (x a a' b b' : List ℕ) (v v' : View) (fault fault' : Option Fault) → a ≡ a' → b ≡ b' → v ≡ v' → fault ≡ fault' → HasRunTo j x a b v fault → HasRunTo j x a' b' v' fault'
-told_as j x a a' b b' v v' fault fault' p q r s h = subst (λ z. HasRunTo j x z b' v' fault') p
-    (subst (λ z. HasRunTo j x a z v' fault') q (subst (λ z. HasRunTo j x a b z fault') r (subst (λ z. HasRunTo j x a b v z) s h)))
-
--- a new converter
-pub begins : Laws → (j : Job) (c : Converter) → IsNewConverter c j → HasConverted j [] [] [] c
-begins laws j c new = told_as j [] [] (held_output c) [] (log_of_losses (held_losses c)) (view_in c) (view_in c) c.fault c.fault (sym new.empty.0) (ap log_of_losses (sym new.empty.1)) refl refl
-    (begun laws j (view_in c) c.fault new.session new.fault)
-
-still_open : (phase : Phase) → ¬ (IsOver phase) → phase ≡ Open
-still_open Open n = refl
-still_open Done n = absurd (n tt)
-still_open Stopped n = absurd (n tt)
-
-made_step : Laws → (j : Job) (x y : List ℕ) (records : List Loss) (c m : Converter) (src : List ℕ) (last : Bool) (read : ℕ) → IsValidJob j → HasConverted j x y records c → MayStep c src last
-    → MakesStep c m src read → HasConverted j (x ++ take read src) y records m
-made_step laws j x y records c m src last read valid h may step =
-    let lent_step : StepReturns (lent src [] [] step.before.failures) (lent (drop read src) (held_output m) (log_of_losses (held_losses m)) step.after.failures) (view_in c) (view_in m) step.answer =
-    subst (λ t. StepReturns t (lent (drop read src) (held_output m) (log_of_losses (held_losses m)) step.after.failures) (view_in c) (view_in m) step.answer)
-    (are_lent step.before src [] [] step.begins step.blank)
-    (subst (λ t. StepReturns step.before t (view_in c) (view_in m) step.answer) (are_lent step.after (drop read src) (held_output m) (log_of_losses (held_losses m)) step.rest step.made) step.step) in
-    told_as j (x ++ take read src) _ (y ++ held_output m) _ (log_of_losses (records ++ held_losses m)) (view_in m) (view_in m) m.fault m.fault
-    (ap (λ z. (y ++ z) ++ held_output m) may.empty.0 ∙ ap (λ z. z ++ held_output m) (append-nil y))
-    (ap (λ z. log_of_losses (records ++ z) ++ log_of_losses (held_losses m)) may.empty.1 ∙ ap (λ z. log_of_losses z ++ log_of_losses (held_losses m)) (append-nil records)
-    ∙ sym (log_of_both records (held_losses m)))
-    refl refl
-    (stepped laws j x (y ++ held_output c) (log_of_losses (records ++ held_losses c)) src (held_output m) (log_of_losses (held_losses m)) read (view_in c) (view_in m) c.fault m.fault
-    step.before.failures step.after.failures step.answer valid h (still_open (view_in c).phase may.open_) lent_step step.unbroken step.broken)
-
-nil_or_not : {X : Type 0} (xs : List X) → (xs ≡ []) ⊎ (xs ≢ [])
-nil_or_not [] = inl refl
-nil_or_not (x ∷ xs) = inr (λ e. cc)
-
-open_or_over : (phase : Phase) → (¬ (IsOver phase)) ⊎ (IsOver phase)
-open_or_over Open = inl (λ o. o)
-open_or_over Done = inr tt
-open_or_over Stopped = inr tt
-
-given_or_not : (src : List ℕ) (last : Bool) → ((last ≡ true) ⊎ (src ≢ [])) ⊎ (¬ ((last ≡ true) ⊎ (src ≢ [])))
-given_or_not src true = inl (inl refl)
-given_or_not [] false = inr (λ g. elim g [ inl e ↦ cc | inr n ↦ n refl ])
-given_or_not (b ∷ src) false = inl (inr (λ e. cc))
-
-may_or_not : (c : Converter) (src : List ℕ) (last : Bool) → (MayStep c src last) ⊎ (¬ (MayStep c src last))
-may_or_not c src last = elim (nil_or_not (held_output c)) [
-  | inr some ↦ inr (λ m. some m.empty.0)
-  | inl none ↦ elim (nil_or_not (held_losses c)) [
-    | inr some ↦ inr (λ m. some m.empty.1)
-    | inl quiet ↦ elim (open_or_over (view_in c).phase) [
-      | inr over ↦ inr (λ m. m.open_ over)
-      | inl live ↦ elim (given_or_not src last) [
-        | inl given ↦ inl (record { empty = (none, quiet); open_ = live; given = given })
-        | inr not ↦ inr (λ m. not m.given)
-      ]
-    ]
-  ]
-]
-
--- a call that may make a step
-read_on : Laws → (j : Job) (x y : List ℕ) (records : List Loss) (c m : Converter) (src : List ℕ) (last : Bool) (read : ℕ) → IsValidJob j → HasConverted j x y records c
-    → StepsIfMay c m src last read → HasConverted j (x ++ take read src) y records m
-read_on laws j x y records c m src last read valid h call = elim (may_or_not c src last) [
-  | inl may ↦ made_step laws j x y records c m src last read valid h may (call.steps may)
-  | inr not ↦ subst (λ d. HasConverted j (x ++ take read src) y records d) (sym (call.waits not).0)
-      (subst (λ n. HasConverted j (x ++ take n src) y records c) (sym (call.waits not).1) (subst (λ i. HasConverted j i y records c) (sym (append-nil x)) h))
-]
-
--- what is handed out was made
-handed_out : (j : Job) (x y : List ℕ) (records : List Loss) (c c' : Converter) (dst dst' : List ℕ) (room room' : List Loss) (p : ConverterProgress) → HasConverted j x y records c
-    → HandsOut c c' dst dst' room room' p → HasConverted j x (y ++ take p.written dst') (records ++ take p.losses room') c'
-handed_out j x y records c c' dst dst' room room' p h out = told_as j x _ _ _ _ (view_in c) (view_in c') c.fault c'.fault
-    (ap (λ z. y ++ z) out.output.is ∙ sym (append_assoc y (take p.written dst') (held_output c')))
-    (ap log_of_losses (ap (λ z. records ++ z) out.lost.is ∙ sym (append_assoc records (take p.losses room') (held_losses c'))))
-    (ap view_of (sym out.session)) (sym out.fault) h
-
--- a call
-goes_on : Laws → (j : Job) (x y : List ℕ) (records : List Loss) (c m c' : Converter) (src dst dst' : List ℕ) (last : Bool) (room room' : List Loss) (p : ConverterProgress) → IsValidJob j
-    → HasConverted j x y records c → StepsIfMay c m src last p.read → HandsOut m c' dst dst' room room' p
-    → HasConverted j (x ++ take p.read src) (y ++ take p.written dst') (records ++ take p.losses room') c'
-goes_on laws j x y records c m c' src dst dst' last room room' p valid h steps out =
-    handed_out j (x ++ take p.read src) y records m c' dst dst' room room' p (read_on laws j x y records c m src last p.read valid h steps) out
 
 -- ---- the end
 
@@ -325,89 +314,326 @@ never_stopped true status ok lossy is = omega (arith, ok refl, is)
 never_stopped false status ok lossy is = omega (arith, lossy refl, is)
 
 -- all was converted
-all_told : (j : Job) (x y : List ℕ) (records : List Loss) (p : RunReport) (report : Report) (status : ℕ) → IsConverted (known [] []) (known y (log_of_losses records)) j x p
+all_told : (j : Job) (x y : List ℕ) (records : List Loss) (p : RunReport) (report : Report) (status : ℕ) → y ≡ output_of j x → log_of_losses records ≡ log_of j x → IsReportButCalls j x p
     → IsToldReport p report status → ConvertsInMemory j x y records report status
-all_told j x y records p report status c t = record {
-  made = λ d. record { is_output = c.whole.output; is_log = c.whole.logged };
-  counts = λ v. record { read = t.read ∙ c.report.read; bad = t.bad ∙ c.report.bad; lost = t.lost ∙ c.report.lost; no_character = t.no_character };
-  faithful = λ ok. c.report.faithful.0 (told_ok p.faithful status t.lossy ok);
-  lossy = λ lossy f. told_lossy p.faithful status t.faithful lossy (c.report.faithful.1 f);
+all_told j x y records p report status output logged r t = record {
+  made = λ d. record { is_output = output; is_log = logged };
+  counts = λ v. record { read = t.read ∙ r.read; bad = t.bad ∙ r.bad; lost = t.lost ∙ r.lost; no_character = t.no_character };
+  faithful = λ ok. r.faithful.0 (told_ok p.faithful status t.lossy ok);
+  lossy = λ lossy f. told_lossy p.faithful status t.faithful lossy (r.faithful.1 f);
   stopped = λ e. absurd (never_stopped p.faithful status t.faithful t.lossy e);
 }
 
+-- what is known of a policy that stops: the character is the first that is lost
+abbrev pub FirstLaw : Type 0
+FirstLaw = (j : Job) (x : List ℕ) (index scalar : ℕ) (taken : List TaggedByte) → StopsAtLoss j.policy index scalar taken (trace j x)
+    → take 1 (lost_log_lines (target_of j) 0 (input_text j x)) ≡ Lost index scalar ∷ []
+
+-- what a policy writes that stops at a character
+stop_written : (p : Policy) (before ref more : List Item) (index scalar : ℕ) → p ≡ Policy.Stop → lost_line_count before ≡ 0
+    → written_under p ((before ++ (LostAt index scalar ∷ ref)) ++ more) ≡ before ++ (LostAt index scalar ∷ [])
+stop_written p before ref more index scalar is first = ap (λ q. written_under q ((before ++ (LostAt index scalar ∷ ref)) ++ more)) is
+    ∙ ap up_to_loss (append_assoc before (LostAt index scalar ∷ ref) more) ∙ written_spared Policy.Stop before (LostAt index scalar ∷ (ref ++ more)) (λ _. first)
+
 -- the policy stopped it
-stop_told : (j : Job) (x y : List ℕ) (records : List Loss) (index scalar : ℕ) (report : Report) (status : ℕ)
-    → WrotePrefix (known [] []) (known y (log_of_losses records)) j.policy (TheFault.Unmappable index scalar) (trace j x)
-    → ((taken : List TaggedByte) → StopsAtLoss j.policy index scalar taken (trace j x) → take 1 (lost_log_lines (target_of j) 0 (input_text j x)) ≡ Lost index scalar ∷ [])
-    → (status ≡ STOPPED) × (report.index ≡ index) × (report.scalar ≡ scalar) × HasNoCounts report × HasNoSizes report → ConvertsInMemory j x y records report status
-stop_told j x y records index scalar report status w first told = record {
-  made = λ d. record { is_output = w.wrote.output ∙ ap output_bytes w.stopped.whole; is_log = w.wrote.lined ∙ ap log_bytes w.stopped.whole };
-  counts = λ v. absurd (elim v [ inl e ↦ omega (arith, e, told.0) | inr e ↦ omega (arith, e, told.0) ]);
-  faithful = λ e. absurd (omega (arith, e, told.0));
-  lossy = λ e. absurd (omega (arith, e, told.0));
-  stopped = λ e. record {
-    policy = w.stopped.policy;
-    first = subst (λ i. take 1 (lost_log_lines (target_of j) 0 (input_text j x)) ≡ Lost i report.scalar ∷ []) (sym told.1)
-        (subst (λ s. take 1 (lost_log_lines (target_of j) 0 (input_text j x)) ≡ Lost index s ∷ []) (sym told.2) (first w.taken w.stopped));
-    no_counts = told.3;
-  };
-}
+stop_told : FirstLaw → (j : Job) (last : Bool) (x rest y : List ℕ) (records : List Loss) (v : ConverterView) (items : List Item) (index scalar : ℕ) (report : Report) (status : ℕ)
+    → HasTaken j last x rest items v → StopsAt j.policy index scalar items → y ≡ output_under j.policy items → log_of_losses records ≡ log_under j.policy items
+    → IsToldStop index scalar report status → ConvertsInMemory j x y records report status
+stop_told law j last x rest y records v items index scalar report status taken stops output logged told =
+    let ref : List Item = map Byte (reference_bytes (reference_form j.policy) scalar) in
+    let own : written_under j.policy items ≡ stops.before ++ (LostAt index scalar ∷ []) =
+    ap (written_under j.policy) (stops.is ∙ sym (append-nil (stops.before ++ (LostAt index scalar ∷ ref)))) ∙ stop_written j.policy stops.before ref [] index scalar stops.policy stops.first in
+    let all : trace j x ≡ stops.before ++ (LostAt index scalar ∷ []) =
+    ap (λ z. written_under j.policy (whole_trace j z)) (sym (append-nil x)) ∙ ap (written_under j.policy) (owed_on j last x rest items v taken [] (λ _. refl))
+    ∙ ap (λ z. written_under j.policy (z ++ owes v (rest ++ []))) stops.is ∙ stop_written j.policy stops.before ref (owes v (rest ++ [])) index scalar stops.policy stops.first in
+    record {
+      made = λ d. record { is_output = output ∙ ap (λ z. output_bytes (tagged z)) (own ∙ sym all); is_log = logged ∙ ap (λ z. log_bytes (tagged z)) (own ∙ sym all) };
+      counts = λ v. absurd (elim v [ inl e ↦ omega (arith, e, told.stopped) | inr e ↦ omega (arith, e, told.stopped) ]);
+      faithful = λ e. absurd (omega (arith, e, told.stopped));
+      lossy = λ e. absurd (omega (arith, e, told.stopped));
+      stopped = λ e. record {
+        policy = stops.policy;
+        first = law j x report.index report.scalar (tagged (trace j x)) (record {
+          policy = stops.policy;
+          items = stops.before;
+          first = stops.first;
+          last = all ∙ ap (λ i. stops.before ++ (LostAt i scalar ∷ [])) (sym told.index_) ∙ ap (λ u. stops.before ++ (LostAt report.index u ∷ [])) (sym told.scalar_);
+          whole = refl;
+        });
+        no_counts = told.no_counts;
+      };
+    }
 
--- what is known of whole runs
-pub record RunLaws : Type 0 where
-  pub completes : (x : List ℕ) (s s' : Devices) (j : Job) (p : RunReport) → s.input ≡ Some x → Completes s s' j p → IsConverted s.written s'.written j x p
-  pub fails : (x : List ℕ) (s s' : Devices) (j : Job) (f : Fault) → s.input ≡ Some x → Fails s s' j f → WrotePrefix s.written s'.written j.policy f (trace j x)
-  pub first : (j : Job) (x : List ℕ) (index scalar : ℕ) (taken : List TaggedByte) → StopsAtLoss j.policy index scalar taken (trace j x)
-      → take 1 (lost_log_lines (target_of j) 0 (input_text j x)) ≡ Lost index scalar ∷ []
+over_or_not : (b : Bool) → (b ≡ true) ⊎ (b ≡ false)
+over_or_not true = inl refl
+over_or_not false = inr refl
 
-done_or_not : (phase : Phase) → (phase ≡ Done) ⊎ (phase ≢ Done)
-done_or_not Open = inr (λ e. cc)
-done_or_not Done = inl refl
-done_or_not Stopped = inr (λ e. cc)
-
-ended : RunLaws → (j : Job) (x y : List ℕ) (records : List Loss) (v : View) (fault : Option Fault) (report : Report) (status : ℕ) → HasRunTo j x y (log_of_losses records) v fault
-    → TellsEnd fault v report status → ConvertsInMemory j x y records report status
-ended laws j x y records v None report status h tells = elim (done_or_not v.phase) [
-  | inl done ↦ all_told j x y records (tells.done done).0 report status (laws.completes x _ _ j _ refl (h.done done (tells.done done).0 (tells.done done).1)) (tells.done done).2
-  | inr other ↦ nothing_said j x y records report status (not_done status (omega (arith, (tells.open_ other).1)) (λ e. omega (arith, e, (tells.open_ other).1)))
+-- what is told of a conversion that was handed out, by its stage
+stage_told : FirstLaw → (s : Stage) (j : Job) (last : Bool) (x rest y : List ℕ) (records : List Loss) (v : ConverterView) (items : List Item) (report : Report) (status : ℕ)
+    → HasTaken j last x rest items v → y ≡ output_under j.policy items → log_of_losses records ≡ log_under j.policy items → StandsAt s j v x items
+    → (v.over ≡ true → IsOverWith v last rest) → TellsStage s v report status → ConvertsInMemory j x y records report status
+stage_told law Open j last x rest y records v items report status taken output logged stands over tells = elim (over_or_not v.over) [
+  | inl is ↦
+      let o : IsOverWith v last rest = over is in
+      let end : HasTaken j true x [] items v = subst (λ b. HasTaken j b x [] items v) o.last_ (subst (λ (z : List ℕ). HasTaken j last x z items v) o.none taken) in
+      let all : items ≡ whole_trace j x = taken_whole j x items v end o.whole in
+      let done = tells.done is in
+      all_told j x y records done.0 report status (output ∙ ap (output_under j.policy) all) (logged ∙ ap (log_under j.policy) all) (taken_report j x items v done.0 end o.whole done.1) done.2
+  | inr is ↦ nothing_said j x y records report status (not_done status (omega (arith, (tells.open_ is).1)) (λ e. omega (arith, e, (tells.open_ is).1)))
 ]
-ended laws j x y records v (Some TheFault.Read) report status h tells = nothing_said j x y records report status (not_done status (omega (arith, tells.0)) (λ e. omega (arith, e, tells.0)))
-ended laws j x y records v (Some TheFault.Write) report status h tells = nothing_said j x y records report status (not_done status (omega (arith, tells.0)) (λ e. omega (arith, e, tells.0)))
-ended laws j x y records v (Some TheFault.Log) report status h tells = nothing_said j x y records report status (not_done status (omega (arith, tells.0)) (λ e. omega (arith, e, tells.0)))
-ended laws j x y records v (Some TheFault.TooLong) report status h tells = nothing_said j x y records report status (not_done status (omega (arith, tells.0)) (λ e. omega (arith, e, tells.0)))
-ended laws j x y records v (Some (TheFault.Unmappable index scalar)) report status h tells =
-    stop_told j x y records index scalar report status (laws.fails x _ _ j _ refl (h.failed (TheFault.Unmappable index scalar) refl)) (laws.first j x index scalar) tells
+stage_told law (Stopped index scalar) j last x rest y records v items report status taken output logged stands over tells =
+    stop_told law j last x rest y records v items index scalar report status taken stands output logged tells
+stage_told law TooLong j last x rest y records v items report status taken output logged stands over tells =
+    nothing_said j x y records report status (not_done status (omega (arith, tells.1)) (λ e. omega (arith, e, tells.1)))
 
--- a status that a converter tells that holds nothing
-ends : RunLaws → (j : Job) (x y : List ℕ) (records : List Loss) (c : Converter) (report : Report) (status : ℕ) → HasConverted j x y records c → HoldsNothing c
-    → TellsStatus c report status → ConvertsInMemory j x y records report status
-ends laws j x y records c report status h empty tells = ended laws j x y records (view_in c) c.fault report status
-    (told_as j x _ y _ (log_of_losses records) (view_in c) (view_in c) c.fault c.fault (ap (λ z. y ++ z) empty.0 ∙ append-nil y)
-    (ap (λ z. log_of_losses (records ++ z)) empty.1 ∙ ap log_of_losses (append-nil records)) refl refl h) (tells.empty empty)
+nil_or_not : {X : Type 0} (xs : List X) → (xs ≡ []) ⊎ (xs ≢ [])
+nil_or_not [] = inl refl
+nil_or_not (x ∷ xs) = inr (λ e. cc)
 
 nothing_held : (c : Converter) → (HoldsNothing c) ⊎ (¬ (HoldsNothing c))
-nothing_held c = elim (nil_or_not (held_output c)) [
+nothing_held c = elim (nil_or_not c.held) [
   | inr some ↦ inr (λ h. some h.0)
   | inl none ↦ elim (nil_or_not (held_losses c)) [ inr some ↦ inr (λ h. some h.1) | inl quiet ↦ inl (none, quiet) ]
 ]
 
 -- what a converter tells, whether it holds something or not
-told_so_far : RunLaws → (j : Job) (x y : List ℕ) (records : List Loss) (c : Converter) (report : Report) (status : ℕ) → HasConverted j x y records c → TellsStatus c report status
-    → ConvertsInMemory j x y records report status
-told_so_far laws j x y records c report status h tells = elim (nothing_held c) [
-  | inl empty ↦ ends laws j x y records c report status h empty tells
+pub told_so_far : FirstLaw → (j : Job) (last : Bool) (x rest y : List ℕ) (records : List Loss) (c : Converter) (report : Report) (status : ℕ) → HasConverted j last x rest y records c
+    → TellsStatus c report status → ConvertsInMemory j x y records report status
+told_so_far law j last x rest y records c report status h tells = elim (nothing_held c) [
+  | inl empty ↦ stage_told law c.stage j last x rest y records (view_in c) h.items report status h.taken
+      (sym (append-nil y) ∙ ap (λ z. y ++ z) (sym empty.0) ∙ h.written)
+      (ap log_of_losses (sym (append-nil records) ∙ ap (λ z. records ++ z) (sym empty.1)) ∙ h.logged) h.stage h.over (tells.empty empty)
   | inr held ↦ nothing_said j x y records report status (not_done status (omega (arith, (tells.held held).1)) (λ e. omega (arith, e, (tells.held held).1)))
 ]
 
--- a call, and what came before it
-pub joins : Laws → RunLaws → (c : Converter) (after : Option Coder) (src dst dst' : List ℕ) (last : Bool) (room room' : List Loss) (p : ConverterProgress) (report : Report) (status : ℕ)
-    → ConvertsByStep c after src last dst dst' room room' p report status → JoinsToCalls c after src dst' room' p report status
-joins laws runs c after src dst dst' last room room' p report status call = λ j x y records valid h.
-    let so_far : HasConverted j (x ++ take p.read src) (y ++ take p.written dst') (records ++ take p.losses room') call.converter =
-    goes_on laws j x y records c call.fed call.converter src dst dst' last room room' p valid h call.steps call.hands_out in
+-- ---- a call of a converter
+
+-- a call has made some turns: what it has handed out goes on from where the converter was, and what is owed has become
+-- less if it wants room that was not short at the start
+pub record RunsTo (c0 c : Converter) (last : Bool) (src dst0 dst : List ℕ) (losses0 losses : List Loss) (p : ConverterProgress) : Type 0 where
+  pub carried : Carries c0 c last src (drop p.read src) (take p.written dst) (take p.losses losses)
+  pub read : p.read ≤ length src
+  pub output : IsFilled dst0 dst p.written
+  pub lost : IsFilled losses0 losses p.losses
+  pub wants_room : IsFalse p.wants_room ↔ HoldsNothing c
+  pub output_full : (c.held ≡ []) ⊎ (p.written ≡ length dst)
+  pub lost_full : (held_losses c ≡ []) ⊎ (p.losses ≡ length losses)
+  pub ended : (view_in c).ended ≡ true → (drop p.read src ≡ []) × (last ≡ true)
+  pub at_most : length (owes (view_in c) (drop p.read src)) ≤ length (owes (view_in c0) src)
+  pub fewer : p.wants_room ≡ true → 32 ≤ length dst → 0 < length losses → length (owes (view_in c) (drop p.read src)) < length (owes (view_in c0) src)
+
+view_out : (c c' : Converter) (dst dst' : List ℕ) (losses losses' : List Loss) (p p' : ConverterProgress) → HandsOut c c' dst dst' losses losses' p p' → view_in c' ≡ view_in c
+view_out c c' dst dst' losses losses' p p' hands = ap (λ (z : Converter). view_in z) hands.rest
+
+length_none : {X : Type 0} (xs : List X) → length xs ≡ 0 → xs ≡ []
+length_none [] none = refl
+length_none (x ∷ xs) none = absurd (omega (arith, none))
+
+-- all that is held finds room if there is enough
+all_given : {X : Type 0} (held held' old new : List X) (to : ℕ) → FillsRoom held held' old new 0 to → length held ≤ length new → held' ≡ []
+all_given held held' old new to f enough = elim f.full [
+  | inl none ↦ none
+  | inr full ↦ length_none held' (omega (arith, ap length f.is, length-append (take 0 old) held, length-append (take to new) held', length-take 0 old, length-take-le to new f.fits, enough, full))
+]
+
+listed_one : (o : Option Loss) → length (listed o) ≤ 1
+listed_one None = omega arith
+listed_one (Some loss) = omega arith
+
+-- before the first turn
+pub started : (c0 c : Converter) (last : Bool) (src dst0 dst : List ℕ) (losses0 losses : List Loss) (p : ConverterProgress) → ((view_in c0).ended ≡ true → (src ≡ []) × (last ≡ true))
+    → HandsOut c0 c dst0 dst losses0 losses NONE p → RunsTo c0 c last src dst0 dst losses0 losses p
+started c0 c last src dst0 dst losses0 losses p end hands = record {
+  carried = λ j input out records h. subst (λ n. HasConverted j last input (drop n src) (out ++ take p.written dst) (records ++ take p.losses losses) c) (sym hands.read)
+      (handed_out j last input src out records c0 c dst0 dst losses0 losses NONE p hands
+      (subst (λ (x : List ℕ). HasConverted j last input src x (records ++ take 0 losses0) c0) (sym (append-nil out))
+      (subst (λ (x : List Loss). HasConverted j last input src out x c0) (sym (append-nil records)) h)));
+  read = omega (arith, hands.read);
+  output = record { fits = hands.output.fits; after = hands.output.after };
+  lost = record { fits = hands.lost.fits; after = hands.lost.after };
+  wants_room = hands.wants_room;
+  output_full = hands.output.full;
+  lost_full = hands.lost.full;
+  ended = λ is. let e = end (ap (λ v. v.ended) (sym view) ∙ is) in (ap (λ n. drop n src) hands.read ∙ e.0, e.1);
+  at_most = subst (λ n. n ≤ length (owes (view_in c0) src)) (sym same) (omega arith);
+  fewer = λ wants bytes records. absurd (cc (sym wants ∙ hands.wants_room.1 (
+    all_given c0.held c.held dst0 dst p.written hands.output (omega (arith, hands.small, bytes)),
+    all_given (held_losses c0) (held_losses c) losses0 losses p.losses hands.lost (omega (arith, listed_one c0.loss, records)),
+  )));
+}
+  where
+    view : view_in c ≡ view_in c0
+    view = view_out c0 c dst0 dst losses0 losses NONE p hands
+
+    same : length (owes (view_in c) (drop p.read src)) ≡ length (owes (view_in c0) src)
+    same = ap (λ v. length (owes v (drop p.read src))) view ∙ ap (λ n. length (owes (view_in c0) (drop n src))) hands.read
+
+drop_further : {X : Type 0} (a b : List X) (at to : ℕ) → at ≤ to → drop at a ≡ drop at b → drop to a ≡ drop to b
+drop_further a b at to on is = ap (λ n. drop n a) (omega (arith, on)) ∙ sym (drop-drop (to - at) at a) ∙ ap (drop (to - at)) is ∙ drop-drop (to - at) at b ∙ ap (λ n. drop n b) (omega (arith, on))
+
+filled_on : {X : Type 0} (old a b new held held' : List X) (at mid to : ℕ) → IsFilled old a at → at ≤ mid → drop mid b ≡ drop mid a → FillsRoom held held' b new mid to → IsFilled old new to
+filled_on old a b new held held' at mid to f on behind g = record {
+  fits = g.fits;
+  after = g.after ∙ drop_further b a mid to g.from behind ∙ drop_further a old at to (omega (arith, on, g.from)) f.after;
+}
+
+-- what holds nothing holds nothing after it was handed out
+nothing_more : {X : Type 0} (held held' old new : List X) (at to : ℕ) → FillsRoom held held' old new at to → held ≡ [] → held' ≡ []
+nothing_more held held' old new at to f none = length_none held' (omega (arith, ap length f.is, ap length none, length-append (take at old) held, length-append (take to new) held', length-take at old, length-take-le to new f.fits, f.from))
+
+-- a turn, and what it leaves is handed out
+pub record Iterates (c m c' : Converter) (last : Bool) (src dst dst1 dst' : List ℕ) (losses losses' : List Loss) (read to : ℕ) (r : ConverterResult) (p p' : ConverterProgress) : Type 0 where
+  pub ready : IsReady c
+  pub turns : Turns c m last (drop p.read src) (drop read (drop p.read src)) dst dst1 p.written to r
+  pub within : read ≤ length (drop p.read src)
+  pub hands : HandsOut m c' dst1 dst' losses losses' (record p { read = p.read + read; written = to }) p'
+
+pub smaller : (c m c' : Converter) (last : Bool) (src dst dst1 dst' : List ℕ) (losses losses' : List Loss) (read to : ℕ) (r : ConverterResult) (p p' : ConverterProgress)
+    → Iterates c m c' last src dst dst1 dst' losses losses' read to r p p' → ((r ≡ InputEmpty) × HoldsNothing c') ⊎ (length (owes (view_in c') (drop p'.read src)) < length (owes (view_in c) (drop p.read src)))
+smaller c m c' last src dst dst1 dst' losses losses' read to r p p' i = elim i.turns.less [
+  | inl none ↦ inl (none.0, (nothing_more m.held c'.held dst1 dst' to p'.written i.hands.output none.1.0, nothing_more (held_losses m) (held_losses c') losses losses' p.losses p'.losses i.hands.lost none.1.1))
+  | inr less ↦ inr (subst (λ v. length (owes v (drop p'.read src)) < length (owes (view_in c) (drop p.read src))) (sym (view_out m c' dst1 dst' losses losses' _ p' i.hands))
+      (subst (λ (x : List ℕ). length (owes (view_in m) x) < length (owes (view_in c) (drop p.read src))) (drop-drop read p.read src ∙ ap (λ n. drop n src) (omega (arith, i.hands.read))) less))
+]
+
+pub iterated : (c0 c m c' : Converter) (last : Bool) (src dst0 dst dst1 dst' : List ℕ) (losses0 losses losses' : List Loss) (read to : ℕ) (r : ConverterResult) (p p' : ConverterProgress)
+    → RunsTo c0 c last src dst0 dst losses0 losses p → Iterates c m c' last src dst dst1 dst' losses losses' read to r p p' → RunsTo c0 c' last src dst0 dst' losses0 losses' p'
+iterated c0 c m c' last src dst0 dst dst1 dst' losses0 losses losses' read to r p p' k i = record {
+  carried = λ j input out records h. subst (λ (x : List ℕ). HasConverted j last input x (out ++ take p'.written dst') (records ++ take p'.losses losses') c') rest
+      (handed_out j last input (drop read (drop p.read src)) out records m c' dst1 dst' losses losses' (record p { read = p.read + read; written = to }) p' i.hands
+      (turned_on j last input (drop p.read src) (drop read (drop p.read src)) out (records ++ take p.losses losses) c m dst dst1 p.written to r i.ready i.turns (k.carried j input out records h)));
+  read = omega (arith, i.hands.read, i.within, length-drop p.read src, k.read);
+  output = filled_on dst0 dst dst1 dst' m.held c'.held p.written to p'.written k.output i.turns.from i.turns.behind i.hands.output;
+  lost = filled_on losses0 losses losses losses' (held_losses m) (held_losses c') p.losses p.losses p'.losses k.lost (omega arith) refl i.hands.lost;
+  wants_room = i.hands.wants_room;
+  output_full = i.hands.output.full;
+  lost_full = i.hands.lost.full;
+  ended = λ is. let e = i.turns.law.ended (ap (λ v. v.ended) (sym view) ∙ is) in (sym rest ∙ e.1, e.0);
+  at_most = elim less [ inl none ↦ no_more | inr fewer ↦ omega (arith, fewer, k.at_most) ];
+  fewer = λ wants bytes records. elim less [
+    | inl none ↦ absurd (cc (sym wants ∙ i.hands.wants_room.1 none.1))
+    | inr fewer ↦ omega (arith, fewer, k.at_most)
+  ];
+}
+  where
+    rest : drop read (drop p.read src) ≡ drop p'.read src
+    rest = drop-drop read p.read src ∙ ap (λ n. drop n src) (omega (arith, i.hands.read))
+
+    view : view_in c' ≡ view_in m
+    view = view_out m c' dst1 dst' losses losses' _ p' i.hands
+
+    less : ((r ≡ InputEmpty) × HoldsNothing c') ⊎ (length (owes (view_in c') (drop p'.read src)) < length (owes (view_in c) (drop p.read src)))
+    less = smaller c m c' last src dst dst1 dst' losses losses' read to r p p' i
+
+    -- a turn owes no more than it owed
+    no_more : length (owes (view_in c') (drop p'.read src)) ≤ length (owes (view_in c0) src)
+    no_more =
+        let split = owes_split (view_in c) (view_in m) last (drop p.read src) (drop read (drop p.read src)) _ i.turns.law in
+        let same : length (owes (view_in c') (drop p'.read src)) ≡ length (owes (view_in m) (drop read (drop p.read src))) =
+        ap (λ v. length (owes v (drop p'.read src))) view ∙ ap (λ x. length (owes (view_in m) x)) (sym rest) in
+        omega (arith, split, same, k.at_most)
+
+-- a turn that ended since its bytes were converted leaves nothing to be converted, or there is more than the limit allows
+pub all_converted : (c0 c m c' : Converter) (last : Bool) (src dst0 dst dst1 dst' : List ℕ) (losses0 losses losses' : List Loss) (read to : ℕ) (r : ConverterResult) (p p' : ConverterProgress) → r ≡ InputEmpty
+    → RunsTo c0 c last src dst0 dst losses0 losses p → Iterates c m c' last src dst dst1 dst' losses losses' read to r p p' → ConvertsAll c' last (drop p'.read src) dst' losses' p'
+all_converted c0 c m c' last src dst0 dst dst1 dst' losses0 losses losses' read to r p p' is k i = record {
+  wants_room = i.hands.wants_room;
+  output = i.hands.output.full;
+  lost = i.hands.lost.full;
+  all = λ empty open_ over. elim (subst (λ z. TurnEnds c m last (drop p.read src) (drop read (drop p.read src)) z) is i.turns.ends) [
+    | inl e ↦
+        let none : last ≡ false = sym e.1.over ∙ ap (λ v. v.over) (sym view) ∙ over in (
+          none,
+          subst (λ v. AllIsConverted v (drop p'.read src) false) (sym view) (subst (λ b. AllIsConverted (view_in m) (drop p'.read src) b) none (subst (λ (x : List ℕ). AllIsConverted (view_in m) x last) rest e.1)),
+        )
+    | inr e ↦ absurd (other (sym e.stage ∙ ap (λ (z : Converter). z.stage) (sym i.hands.rest) ∙ open_))
+  ];
+}
+  where
+    rest : drop read (drop p.read src) ≡ drop p'.read src
+    rest = drop-drop read p.read src ∙ ap (λ n. drop n src) (omega (arith, i.hands.read))
+
+    view : view_in c' ≡ view_in m
+    view = view_out m c' dst1 dst' losses losses' _ p' i.hands
+
+    other : TooLong ≡ Open → ⊥
+    other same = cc
+
+-- a turn over a slice of the rest, and what it leaves is handed out
+pub iterates : (c m c' : Converter) (last : Bool) (src rest dst dst1 dst' : List ℕ) (losses losses' : List Loss) (read to : ℕ) (r : ConverterResult) (p p' : ConverterProgress) → rest ≡ drop p.read src → IsReady c
+    → Turns c m last rest (drop read rest) dst dst1 p.written to r → read ≤ length rest → HandsOut m c' dst1 dst' losses losses' (record p { read = p.read + read; written = to }) p'
+    → Iterates c m c' last src dst dst1 dst' losses losses' read to r p p'
+iterates c m c' last src rest dst dst1 dst' losses losses' read to r p p' is ready turns within hands = record {
+  ready = ready;
+  turns = subst (λ (x : List ℕ). Turns c m last x (drop read x) dst dst1 p.written to r) is turns;
+  within = subst (λ (x : List ℕ). read ≤ length x) is within;
+  hands = hands;
+}
+
+-- ---- calls together
+
+-- that the end was told changes nothing of what was converted
+told_as : (j : Job) (last : Bool) (input rest out : List ℕ) (records : List Loss) (c : Converter) (finished : Bool) → HasConverted j last input rest out records c
+    → HasConverted j last input rest out records (record c { is_finished = finished })
+told_as j last input rest out records c finished h = record {
+  items = h.items;
+  taken = h.taken;
+  policy = h.policy;
+  written = h.written;
+  logged = h.logged;
+  stage = h.stage;
+  over = h.over;
+}
+
+-- what a call is to read: what it was handed, and after the end nothing but the end
+pub record IsToRead (c : Converter) (src : List ℕ) (last : Bool) (src' : List ℕ) (last' : Bool) : Type 0 where
+  pub ended : (view_in c).ended ≡ true → (src' ≡ []) × (last' ≡ true)
+  pub open_ : (view_in c).ended ≡ false → (src' ≡ src) × (last' ≡ last)
+
+-- after lawful calls that is what it was handed
+reads_handed : (j : Job) (last : Bool) (input src out : List ℕ) (records : List Loss) (c : Converter) (src' : List ℕ) (last' : Bool) → HasConverted j last input src out records c
+    → IsToRead c src last src' last' → (src' ≡ src) × (last' ≡ last)
+reads_handed j last input src out records c src' last' h r = elim (over_or_not (view_in c).ended) [
+  | inl is ↦ let e = h.taken.law.ended is in let k = r.ended is in (k.0 ∙ sym e.1, k.1 ∙ sym e.0)
+  | inr is ↦ r.open_ is
+]
+
+-- a call goes on with those before it
+pub joins : FirstLaw → (c c' : Converter) (after : Option Coder) (finished : Bool) (src src' dst : List ℕ) (last last' : Bool) (losses : List Loss) (p : ConverterProgress) (report : Report) (status : ℕ)
+    → converter_in after ≡ Some (record c' { is_finished = finished }) → IsToRead c src last src' last'
+    → Carries c c' last' src' (drop p.read src') (take p.written dst) (take p.losses losses) → TellsStatus c' report status → JoinsToCalls c after src last dst losses p report status
+joins law c c' after finished src src' dst last last' losses p report status held_is reads carries tells = λ j before input rest more out records h is end.
+    let handed : HasConverted j last (input ++ more) src out records c =
+    subst (λ (x : List ℕ). HasConverted j last (input ++ more) x out records c) (sym is) (handed_in j before last input rest more out records c end h) in
+    let same = reads_handed j last (input ++ more) src out records c src' last' handed reads in
+    let carried : Carries c c' last src (drop p.read src) (take p.written dst) (take p.losses losses) =
+    subst (λ b. Carries c c' b src (drop p.read src) (take p.written dst) (take p.losses losses)) same.1
+    (subst (λ (x : List ℕ). Carries c c' last' x (drop p.read x) (take p.written dst) (take p.losses losses)) same.0 carries) in
+    let so_far : HasConverted j last (input ++ more) (drop p.read src) (out ++ take p.written dst) (records ++ take p.losses losses) c' = carried j (input ++ more) out records handed in
     record {
-      converter = call.converter;
-      held_is = call.held_is;
-      so_far = so_far;
-      told = told_so_far runs j (x ++ take p.read src) (y ++ take p.written dst') (records ++ take p.losses room') call.converter report status so_far call.tells;
+      converter = record c' { is_finished = finished };
+      held_is = held_is;
+      so_far = told_as j last (input ++ more) (drop p.read src) (out ++ take p.written dst) (records ++ take p.losses losses) c' finished so_far;
+      part = first_part j last (input ++ more) (drop p.read src) (out ++ take p.written dst) (records ++ take p.losses losses) c' so_far;
+      told = told_so_far law j last (input ++ more) (drop p.read src) (out ++ take p.written dst) (records ++ take p.losses losses) c' report status so_far tells;
     }
+
+-- what a call converts of what it is to read it converts of what it was handed
+pub converts_handed : (c c' : Converter) (finished : Bool) (src src' dst : List ℕ) (last last' : Bool) (losses : List Loss) (p : ConverterProgress) → IsToRead c src last src' last'
+    → ConvertsAll c' last' (drop p.read src') dst losses p → ConvertsAll (record c' { is_finished = finished }) last (drop p.read src) dst losses p
+converts_handed c c' finished src src' dst last last' losses p reads k = record {
+  wants_room = k.wants_room;
+  output = k.output;
+  lost = k.lost;
+  all = λ empty open_ over. let a = k.all empty open_ over in elim (over_or_not (view_in c).ended) [
+    | inl is ↦ absurd (cc (sym a.0 ∙ (reads.ended is).1))
+    | inr is ↦ let r = reads.open_ is in (sym r.1 ∙ a.0, subst (λ (x : List ℕ). AllIsConverted (view_in c') (drop p.read x) false) r.0 a.1)
+  ];
+}
+
+-- and reads no more than that
+pub reads_within : (c : Converter) (src src' : List ℕ) (last last' : Bool) (read : ℕ) → IsToRead c src last src' last' → read ≤ length src' → read ≤ length src
+reads_within c src src' last last' read reads within = elim (over_or_not (view_in c).ended) [
+  | inl is ↦ omega (arith, within, ap length (reads.ended is).0)
+  | inr is ↦ omega (arith, within, ap length (reads.open_ is).0)
+]

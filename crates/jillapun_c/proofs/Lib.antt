@@ -3,6 +3,7 @@ mod AskedLemmas
 mod CoderLemmas
 mod ConversionLemmas
 mod ConverterRunLemmas
+mod ConverterTurnLemmas
 mod EncoderPartLemmas
 mod EncodingNumberLemmas
 mod FrontPartLemmas

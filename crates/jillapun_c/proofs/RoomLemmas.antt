@@ -1,36 +1,64 @@
--- Rooms that are filled from a list.
-use Rattle.std.proofs.Common.{◌≡◌, ℕ, ◌+◌, ◌≤◌, min, ◌⊎◌, inl, inr, List, [], ◌++◌, length, take, drop, sym, ap, ◌∙◌, arith, length-append, length-drop, subst}
-use Rattle.std.proofs.lemmas.List.{drop_all, drop_at, drop-drop, length-take-le, take_at, take-append-drop}
+-- Rooms that are filled from a place on.
+use Rattle.std.proofs.Common.{◌≡◌, ℕ, ◌+◌, ◌-◌, ◌≤◌, min, ◌⊎◌, inl, inr, List, [], ◌++◌, length, take, drop, sym, ap, ◌∙◌, arith, length-append, length-drop, append-nil, append_assoc}
+use Rattle.std.proofs.lemmas.List.{drop_all, drop-append-le, drop-drop, length-take-le, take_all, take_at, take-append-drop, take-append-le}
+use Rattle.std.proofs.lemmas.Slice.{between_is, drop-put_mid, take-put_mid}
 use Rattle.std.proofs.lemmas.Bool.{cases_lt}
-use Rattle.jillapun_c.specs.Converters.{FillsRoom}
+use Rattle.std.proofs.Math.Seq.{drop-append-add, take-append-add}
+use Rattle.std.specs.List.{copy_within}
+use borrow.Rule.Slice.PartMut.{put_mid}
+use Rattle.jillapun_c.specs.Room.{FillsRoom}
 
--- the room stays as long as it was
-room_length : {X : Type 0} (part room : List X) (n : ℕ) → length part ≡ n → n ≤ length room → length (part ++ drop n room) ≡ length room
-room_length part room n is fits = length-append part (drop n room) ∙ omega (arith, is, fits, length-drop n room)
+-- a room stays as long as it was when a part of it is written
+length_put : {X : Type 0} (a k : ℕ) (xs ys : List X) → a + k ≤ length xs → length ys ≡ k → length (put_mid a k xs ys) ≡ length xs
+length_put a k xs ys within same =
+    length-append (take a xs) (ys ++ drop k (drop a xs)) ∙ omega (arith, length-take-le a xs (omega (arith, within)), length-append ys (drop k (drop a xs)), length-drop k (drop a xs), length-drop a xs, within, same)
 
--- so many elements stand at the start of the room, and what is after them is as before
-put : {X : Type 0} (held part rest room : List X) (n : ℕ) → length part ≡ n → n ≤ length room → held ≡ part ++ rest → (rest ≡ []) ⊎ (n ≡ length room)
-    → FillsRoom held rest room (part ++ drop n room) n
-put held part rest room n is fits parts full = record {
-  fits = omega (arith, room_length part room n is fits, fits);
-  is = parts ∙ ap (λ p. p ++ rest) (sym (take_at part (drop n room) n is));
-  after = drop_at part (drop n room) n is;
-  full = elim full [ inl e ↦ inl e | inr e ↦ inr (e ∙ sym (room_length part room n is fits)) ];
-}
-
-all_or_full : {X : Type 0} (left room : List X) (n : ℕ) → n ≡ min (length left) (length room) → (drop n left ≡ []) ⊎ (n ≡ length room)
-all_or_full left room n count = elim (cases_lt (length left) (length room)) [
-  | inl short ↦ inl (drop_all n left (omega (arith, count, short)))
-  | inr long ↦ inr (omega (arith, count, long))
+all_or_full : {X : Type 0} (list room : List X) (at n : ℕ) → at ≤ length room → n ≡ min (length list) (length room - at) → (drop n list ≡ []) ⊎ (at + n ≡ length room)
+all_or_full list room at n within count = elim (cases_lt (length list) (length room - at)) [
+  | inl short ↦ inl (drop_all n list (omega (arith, count, short)))
+  | inr long ↦ inr (omega (arith, count, long, within))
 ]
 
--- the first of what is left stand at the start of the room
-pub fills : {X : Type 0} (made : List X) (given : ℕ) (room left copied : List X) (n : ℕ) → left ≡ drop given made → n ≡ min (length left) (length room) → copied ≡ take n left
-    → FillsRoom (drop given made) (drop (given + n) made) room (copied ++ drop n room) n
-fills made given room left copied n is count copy = subst (λ rest. FillsRoom (drop given made) rest room (copied ++ drop n room) n) (ap (drop n) is ∙ drop-drop n given made)
-    (put (drop given made) copied (drop n left) room n (ap length copy ∙ length-take-le n left (omega (arith, count))) (omega (arith, count))
-    (sym is ∙ sym (take-append-drop n left) ∙ ap (λ p. p ++ drop n left) (sym copy)) (all_or_full left room n count))
+-- as many elements as fit were put into a room from a place on
+pub fills : {X : Type 0} (list room copied : List X) (at n m : ℕ) → m ≡ n → at ≤ length room → n ≡ min (length list) (length room - at) → copied ≡ take n list
+    → FillsRoom list (drop m list) room (put_mid at m room copied) at (at + n)
+fills list room copied at n m same within count copy =
+    let size : length copied ≡ m = ap length copy ∙ length-take-le n list (omega (arith, count)) ∙ sym same in
+    let room_size : length (put_mid at m room copied) ≡ length room = length_put at m room copied (omega (arith, same, within, count)) size in
+    record {
+      from = omega arith;
+      fits = omega (arith, room_size, within, count);
+      is = sym (ap (λ x. x ++ drop m list) (take-put_mid at m room copied (at + n) (omega (arith, size, same)) within) ∙ append_assoc (take at room) copied (drop m list)
+          ∙ ap (λ x. take at room ++ (x ++ drop m list)) (copy ∙ ap (λ k. take k list) (sym same)) ∙ ap (λ x. take at room ++ x) (take-append-drop m list));
+      after = drop-put_mid at m room copied (at + n) (omega (arith, same)) within size;
+      full = elim (all_or_full list room at n within count) [ inl e ↦ inl (ap (λ k. drop k list) same ∙ e) | inr e ↦ inr (e ∙ sym room_size) ];
+    }
 
--- nothing is left of a list after so many elements, exactly if it has no more
-pub nothing_left : {X : Type 0} (n : ℕ) (xs : List X) → drop n xs ≡ [] → length xs ≤ n
-nothing_left n xs none = omega (arith, length-drop n xs, ap length none)
+-- what is left after the first elements moves to the start
+pub shifted : (xs : List ℕ) (n len : ℕ) → n ≤ len → len ≤ length xs → take (len - n) (copy_within xs n len 0) ≡ drop n (take len xs)
+shifted xs n len h k =
+    let size : length (take (len - n) (drop n xs)) ≡ len - n = length-take-le (len - n) (drop n xs) (omega (arith, length-drop n xs)) in
+    take_at (take (len - n) (drop n xs)) (drop (0 + (len - n)) xs) (len - n) size ∙ between_is xs n len
+
+-- ---- what was written into all of a room after a place
+
+nothing_behind : (at k : ℕ) (room : List ℕ) → k ≡ length room - at → drop k (drop at room) ≡ []
+nothing_behind at k room size = drop-drop k at room ∙ drop_all (at + k) room (omega (arith, size))
+
+pub part_size : (at k : ℕ) (room : List ℕ) → k ≡ length room - at → length (take k (drop at room)) ≡ k
+part_size at k room size = length-take-le k (drop at room) (omega (arith, size, length-drop at room))
+
+pub length_rest_put : (at k : ℕ) (room part : List ℕ) → at ≤ length room → k ≡ length room - at → length part ≡ length (take k (drop at room)) → length (put_mid at k room part) ≡ length room
+length_rest_put at k room part within size same = length_put at k room part (omega (arith, within, size)) (same ∙ part_size at k room size)
+
+pub take_rest_put : (at k n : ℕ) (room part : List ℕ) → at ≤ length room → n ≤ length part → take (at + n) (put_mid at k room part) ≡ take at room ++ take n part
+take_rest_put at k n room part within fits =
+    ap (λ m. take (m + n) (put_mid at k room part)) (sym (length-take-le at room within)) ∙ take-append-add (take at room) (part ++ drop k (drop at room)) n
+    ∙ ap (λ l. take at room ++ l) (take-append-le n part (drop k (drop at room)) fits)
+
+pub drop_rest_put : (at k n : ℕ) (room part : List ℕ) → at ≤ length room → k ≡ length room - at → n ≤ length part → drop n part ≡ drop n (take k (drop at room))
+    → drop (at + n) (put_mid at k room part) ≡ drop (at + n) room
+drop_rest_put at k n room part within size fits behind =
+    ap (λ m. drop (m + n) (put_mid at k room part)) (sym (length-take-le at room within)) ∙ drop-append-add (take at room) (part ++ drop k (drop at room)) n
+    ∙ drop-append-le n part (drop k (drop at room)) fits ∙ ap (λ l. drop n part ++ l) (nothing_behind at k room size) ∙ append-nil (drop n part)
+    ∙ behind ∙ ap (drop n) (take_all k (drop at room) (omega (arith, length-drop at room, size))) ∙ drop-drop n at room

@@ -4,8 +4,6 @@ use Rattle.encoding_mem.specs.Piece.{malformed_count}
 use Rattle.encoding_mem.specs.Coding.{lost_count}
 use Rattle.recode_log.specs.declared.line.LogLine.TheVariants.{Lost}
 use Rattle.recode.specs.Job.{Faithful, input_pieces, input_text, log_of, lost_log_lines, output_of, target_of}
-use Rattle.recode.specs.declared.job.Fault.{Fault}
-use Rattle.recode.specs.declared.job.Fault.TheVariants as TheFault
 use Rattle.recode.specs.declared.job.Job.{Job}
 use Rattle.recode.specs.declared.job.Policy.{Policy}
 use Rattle.recode.specs.declared.job.Report.{Report as RunReport}
@@ -71,14 +69,13 @@ pub record IsToldReport (p : RunReport) (report : Report) (status : ℕ) : Type 
   pub no_character : (report.index ≡ 0) × (report.scalar ≡ 0)
   pub no_sizes : HasNoSizes report
 
--- what the fault of a run in memory becomes: `NO_MEMORY`, `TOO_LONG`, or `STOPPED` with the character
-abbrev pub IsToldFault : Fault → Report → (status : ℕ) → Type 0
-IsToldFault TheFault.Read report status = (status ≡ NO_MEMORY) × (report ≡ NONE)
-IsToldFault TheFault.Write report status = (status ≡ NO_MEMORY) × (report ≡ NONE)
-IsToldFault TheFault.Log report status = (status ≡ NO_MEMORY) × (report ≡ NONE)
-IsToldFault TheFault.TooLong report status = (status ≡ TOO_LONG) × (report ≡ NONE)
-IsToldFault (TheFault.Unmappable index scalar) report status =
-    (status ≡ STOPPED) × (report.index ≡ index) × (report.scalar ≡ scalar) × HasNoCounts report × HasNoSizes report
+-- what is told of a conversion that the policy stopped: the character
+pub record IsToldStop (index scalar : ℕ) (report : Report) (status : ℕ) : Type 0 where
+  pub stopped : status ≡ STOPPED
+  pub index_ : report.index ≡ index
+  pub scalar_ : report.scalar ≡ scalar
+  pub no_counts : HasNoCounts report
+  pub no_sizes : HasNoSizes report
 
 -- memory begins with what is reported, which it has room for, and nothing after it has changed
 pub record IsHandedOver (j : Job) (input : List ℕ) (dst dst' : List ℕ) (losses losses' : List Loss) (report : Report) (status : ℕ) : Type 0 where

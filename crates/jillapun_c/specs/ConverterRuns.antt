@@ -1,65 +1,100 @@
 -- What the calls of a converter make together.
-use Rattle.std.specs.Prelude.{◌≡◌, ◌⊎◌, ℕ, List, [], ◌++◌, take, MatchOption, Option, Some}
+use Rattle.std.specs.Prelude.{◌≡◌, ◌⊎◌, ◌<◌, ℕ, Bool, true, false, List, [], ◌++◌, drop, length, take, MatchOption, Option, Some}
+use Rattle.encoding_mem.specs.Items.{Item}
 use Rattle.encoding_tables.specs.IndexLists.{IndexLists}
-use Rattle.recode.specs.Devices.{Devices, known}
-use Rattle.recode.specs.Job.{IsValidJob}
-use Rattle.recode.specs.Session.{Completes, Fails, IsNewSession, Tells, View}
-use Rattle.recode.specs.Step.{HasRun}
-use Rattle.recode.specs.declared.job.Fault.{Fault}
+use Rattle.recode_log.specs.declared.line.LogLine.TheVariants.{Lost}
+use Rattle.recode.specs.Converter.{AllIsConverted, ConverterView, HasTaken, IsWhole, found_items}
+use Rattle.recode.specs.Job.{log_of, output_of}
+use Rattle.recode.specs.Policy.{reference_form, written_under}
+use Rattle.recode.specs.TaggedByte.{IsPrefix, log_bytes, output_bytes, tagged}
+use Rattle.recode.specs.WrittenItems.{IsSpared, lost_line_count}
+use Rattle.recode.specs.declared.converter.ConverterResult.TheVariants.{Found}
 use Rattle.recode.specs.declared.job.Job.{Job}
-use Rattle.recode.specs.declared.job.Report.{Report as RunReport}
-use Rattle.recode.specs.declared.session.Phase.TheVariants.{Done, Open}
+use Rattle.recode.specs.declared.job.Policy.{Policy}
 use Rattle.jillapun_c.specs.Asked.{IfAsked}
 use Rattle.jillapun_c.specs.Coders.{converter_in}
 use Rattle.jillapun_c.specs.Conversions.{ConvertsInMemory}
-use Rattle.jillapun_c.specs.Converters.{IsNewConverter, held_losses, held_output, view_in}
+use Rattle.jillapun_c.specs.Converters.{IsNewConverter, held_losses, view_in}
 use Rattle.jillapun_c.specs.Losses.{log_of_losses}
 use Rattle.jillapun_c.specs.declared.coder.Coder.{Coder}
 use Rattle.jillapun_c.specs.declared.converter.Converter.{Converter}
+use Rattle.jillapun_c.specs.declared.converter.Stage.{Stage}
+use Rattle.jillapun_c.specs.declared.converter.Stage.TheVariants.{Open, Stopped, TooLong}
 use Rattle.jillapun_c.specs.declared.converter.progress.ConverterProgress.{ConverterProgress}
 use Rattle.jillapun_c.specs.declared.losses.Loss.{Loss}
 use Rattle.jillapun_c.specs.declared.report.Report.{Report}
 use Rattle.jillapun_c.specs.declared.status.TheConstants.{IN_USE, NO_MEMORY, OK}
 
--- an input of which this is still to be read, and what was written to an output and a log
-abbrev pub devices_of : (input output log : List ℕ) → Devices
-devices_of input output log = record { input = Some input; written = known output log; failures = record { reader = 0; writer = 0; log = 0 } }
+-- the input is longer than the limit, and all that the limit allows is converted
+pub record IsTooLong (j : Job) (v : ConverterView) (input : List ℕ) : Type 0 where
+  pub long : j.limit < length input
+  pub read : v.state.counts.read ≡ j.limit
+  pub all : AllIsConverted v [] false
 
--- A run of a job has read this input, and written this output and this log, and a view is where it stands: it goes on,
--- whatever bytes follow, or it came to its end, or this fault ended it.
-pub record HasRunTo (j : Job) (input output log : List ℕ) (v : View) (fault : Option Fault) : Type 0 where
-  pub new : View
-  pub is_new : IsNewSession new j
-  pub job : v.job ≡ j
-  pub goes_on : v.phase ≡ Open → (more : List ℕ) → HasRun (devices_of (input ++ more) [] []) (devices_of more output log) j.limit new.state v.state
-  pub done : v.phase ≡ Done → (p : RunReport) → Tells v p → Completes (devices_of input [] []) (devices_of [] output log) j p
-  pub failed : (f : Fault) → fault ≡ Some f → Fails (devices_of input [] []) (devices_of [] output log) j f
+-- the policy stops, and these items end with the first character that is lost
+pub record StopsAt (p : Policy) (index scalar : ℕ) (items : List Item) : Type 0 where
+  pub policy : p ≡ Policy.Stop
+  pub before : List Item
+  pub first : lost_line_count before ≡ 0
+  pub is : items ≡ before ++ found_items (reference_form p) (Found (Lost index scalar))
 
--- The calls of a converter, from a new one of a job on, have read this input and handed out this output and these records:
--- a run has written that and what the converter still holds.
-abbrev pub HasConverted : Job → (input output : List ℕ) → List Loss → Converter → Type 0
-HasConverted j input output losses c = HasRunTo j input (output ++ held_output c) (log_of_losses (losses ++ held_losses c)) (view_in c) c.fault
+-- what a stage says of all that was handed in and of the items of it that were converted
+abbrev pub StandsAt : Stage → Job → ConverterView → (input : List ℕ) → List Item → Type 0
+StandsAt Open j v input items = IsSpared j.policy items
+StandsAt (Stopped index scalar) j v input items = StopsAt j.policy index scalar items
+StandsAt TooLong j v input items = IsSpared j.policy items × IsTooLong j v input
 
--- a handle holds a converter whose calls read this input and handed out this output and these records, and a report and
--- a status tell of them what those of a conversion in memory do
-pub record HoldsConversion (j : Job) (input output : List ℕ) (losses : List Loss) (held : Option Coder) (report : Report) (status : ℕ) : Type 0 where
+-- a conversion that is over was handed its end, has read all, and owes nothing
+pub record IsOverWith (v : ConverterView) (last : Bool) (rest : List ℕ) : Type 0 where
+  pub last_ : last ≡ true
+  pub none : rest ≡ []
+  pub whole : IsWhole v
+
+-- The calls of a converter, from a new one of a job on, were handed this input, of which the rest is not read. They handed
+-- out this output and these records: with what the converter still holds, that is what its policy writes of the items that
+-- were converted.
+pub record HasConverted (j : Job) (last : Bool) (input rest output : List ℕ) (losses : List Loss) (c : Converter) : Type 0 where
+  pub items : List Item
+  pub taken : HasTaken j last input rest items (view_in c)
+  pub policy : c.policy ≡ j.policy
+  pub written : output ++ c.held ≡ output_bytes (tagged (written_under j.policy items))
+  pub logged : log_of_losses (losses ++ held_losses c) ≡ log_bytes (tagged (written_under j.policy items))
+  pub stage : StandsAt c.stage j (view_in c) input items
+  pub over : (view_in c).over ≡ true → IsOverWith (view_in c) last rest
+
+-- a converter went on from some bytes to the rest of them, and handed out these bytes and records
+abbrev pub Carries : (before after : Converter) → (last : Bool) → (src rest output : List ℕ) → List Loss → Type 0
+Carries c c' last src rest output losses = (j : Job) (input out : List ℕ) (records : List Loss) → HasConverted j last input src out records c
+    → HasConverted j last input rest (out ++ output) (records ++ losses) c'
+
+-- an output and records are the first part of what a job makes of an input, however it goes on
+pub record IsFirstPartOf (j : Job) (last : Bool) (input output : List ℕ) (losses : List Loss) : Type 0 where
+  pub first_bytes : (r : List ℕ) → (last ≡ true → r ≡ []) → IsPrefix output (output_of j (input ++ r))
+  pub first_records : (r : List ℕ) → (last ≡ true → r ≡ []) → IsPrefix (log_of_losses losses) (log_of j (input ++ r))
+
+-- a handle holds a converter whose calls were handed this input and handed out this output and these records; these are
+-- the first part of what the job makes of it; and a report and a status tell of them what those of a conversion in
+-- memory do
+pub record HoldsConversion (j : Job) (last : Bool) (input rest output : List ℕ) (losses : List Loss) (held : Option Coder) (report : Report) (status : ℕ) : Type 0 where
   pub converter : Converter
   pub held_is : converter_in held ≡ Some converter
-  pub so_far : HasConverted j input output losses converter
+  pub so_far : HasConverted j last input rest output losses converter
+  pub part : IsFirstPartOf j last input output losses
   pub told : ConvertsInMemory j input output losses report status
 
--- a call of a converter goes on with what the calls before it read and handed out: what it read and handed out is joined to
--- that, and what it tells is true of all
-abbrev pub JoinsToCalls : Converter → (held : Option Coder) (src dst : List ℕ) → List Loss → ConverterProgress → Report → (status : ℕ) → Type 0
-JoinsToCalls c held src dst losses p report status = (j : Job) (input output : List ℕ) (records : List Loss) → IsValidJob j → HasConverted j input output records c
-    → HoldsConversion j (input ++ take p.read src) (output ++ take p.written dst) (records ++ take p.losses losses) held report status
+-- A call of a converter goes on with what the calls before it left and handed out: it is handed first what they have not
+-- read, and nothing else if they were handed the end. What it hands out is joined to that, and what it tells is true of all.
+abbrev pub JoinsToCalls : Converter → (held : Option Coder) (src : List ℕ) (last : Bool) (dst : List ℕ) → List Loss → ConverterProgress → Report → (status : ℕ) → Type 0
+JoinsToCalls c held src last dst losses p report status = (j : Job) (last_before : Bool) (input rest more output : List ℕ) (records : List Loss)
+    → HasConverted j last_before input rest output records c → src ≡ rest ++ more → (last_before ≡ true → (last ≡ true) × (more ≡ []))
+    → HoldsConversion j last (input ++ more) (drop p.read src) (output ++ take p.written dst) (records ++ take p.losses losses) held report status
 
--- a handle holds a converter of a job that has read nothing
+-- a handle holds a converter of a job that was handed nothing
 pub record HoldsNewConverter (job : Job) (held : Option Coder) : Type 0 where
   pub converter : Converter
   pub held_is : converter_in held ≡ Some converter
   pub is_new : IsNewConverter converter job
-  pub so_far : HasConverted job [] [] [] converter
+  pub so_far : HasConverted job false [] [] [] [] converter
 
 -- a converter of a job is made, or memory is refused
 abbrev pub MakesConverter : (new : Option Coder) (status : ℕ) → Job → Type 0

@@ -3,6 +3,7 @@ pub mod Asked
 pub mod Coders
 pub mod Conversions
 pub mod ConverterRuns
+pub mod ConverterTurns
 pub mod Converters
 pub mod DecoderCalls
 pub mod EncoderCalls

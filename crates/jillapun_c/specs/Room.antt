@@ -1,5 +1,5 @@
 -- What a call leaves in the room that the caller lends it.
-use Rattle.std.specs.Prelude.{◌≡◌, ℕ, ◌≤◌, List, ◌++◌, length, take, drop}
+use Rattle.std.specs.Prelude.{◌≡◌, ◌⊎◌, ℕ, ◌≤◌, List, [], ◌++◌, length, take, drop}
 use Rattle.std.specs.Str.{IsUtf8}
 use Rattle.encoding_mem.specs.calls.TextDestination.{cleared}
 use Rattle.jillapun_c.specs.declared.status.TheConstants.{REFUSED}
@@ -26,3 +26,17 @@ pub record TextIsPut (old text new : List ℕ) (written : ℕ) : Type 0 where
 -- nothing in the room has changed, and the length that is returned is SIZE_MAX
 abbrev pub IsUnwritten : (old new : List ℕ) → ℕ → Type 0
 IsUnwritten old new returned = (returned ≡ REFUSED) × (new ≡ old)
+
+-- so many elements were put at the start of a room, and nothing after them has changed
+pub record IsFilled {X : Type 0} (old new : List X) (count : ℕ) : Type 0 where
+  pub fits : count ≤ length new
+  pub after : drop count new ≡ drop count old
+
+-- As many of some elements as fit were put into a room that was filled up to a place; it is filled up to another then,
+-- and nothing after that has changed.
+pub record FillsRoom {X : Type 0} (held held' old new : List X) (at to : ℕ) : Type 0 where
+  pub from : at ≤ to
+  pub fits : to ≤ length new
+  pub is : take at old ++ held ≡ take to new ++ held'
+  pub after : drop to new ≡ drop to old
+  pub full : (held' ≡ []) ⊎ (to ≡ length new)

@@ -1,59 +1,68 @@
 //! The exports that convert by steps.
 
-ghost use Rattle.std.specs.Prelude.{◌≡◌, ◌≢◌, [], None};
+ghost use Rattle.std.specs.Prelude.{◌≡◌, ◌≢◌, [], None, false};
 ghost use Rattle.recode.specs.Job.{IsValidJob};
 ghost use Rattle.jillapun_c.specs.ConverterRuns.{HasConverted, OpensConverter};
 ghost use Rattle.jillapun_c.specs.Converters.{IsNewConverter};
 ghost use Rattle.jillapun_c.specs.declared.status.TheConstants.{OK};
 
+pub(crate) mod held;
 pub(crate) mod made;
 pub(crate) mod progress;
 pub(crate) mod step;
+pub(crate) mod turn;
 
 use crate::coder::Coder;
+use crate::converter::held::Held;
 use crate::handle::CoderHandle;
 use crate::losses::Loss;
 use crate::request::Request;
 use crate::status::{CLOSED, IN_USE, NO_MEMORY, OK};
 use crate::tables_handle::TablesHandle;
-use recode::laws::steps_are_a_run;
-use recode::{Fault, Job, Session};
+use recode::{Job, Policy};
 use std::alloc::Global;
 
-/// A conversion by steps, and what its last step made.
+/// What a conversion has come to.
+#[derive(Clone, Copy)]
+pub enum Stage {
+    /// It goes on, or all of it is converted.
+    Open,
+    /// The policy stopped it at this character.
+    Stopped { index: u64, scalar: char },
+    /// The input has more bytes than the limit.
+    TooLong,
+}
+
+/// A conversion by steps, and what of it waits for room.
 #[derive(Drop)]
 pub struct Converter {
     /// The conversion.
-    pub session: Session<'static>,
-    /// What ended it before its time, if something did.
-    pub fault: Option<Fault>,
-    /// What the last step wrote.
-    pub output: Vec<u8>,
-    /// How many bytes of `output` were handed out.
-    pub given: usize,
-    /// What was lost in the last step.
-    pub losses: Vec<Loss>,
-    /// How many records of `losses` were handed out.
-    pub told: usize,
+    pub stream: recode::Converter<'static>,
+    /// What is done about a character that has no bytes in the output encoding.
+    pub policy: Policy,
+    /// The bytes that wait for room.
+    pub held: Held,
+    /// The record that waits for room, if one does.
+    pub loss: Option<Loss>,
+    /// What the conversion has come to.
+    pub stage: Stage,
     /// Whether the end was told.
     pub is_finished: bool,
 }
 
 impl Converter {
-    // One that has read nothing.
-    fn new(alloc: Global, job: Job<'static>) -> Converter
+    /// One that was handed nothing.
+    pub(crate) fn new(job: Job<'static>) -> Converter
         requires { IsValidJob job }
         ensures is_new { IsNewConverter result job.entry }
-        ensures so_far { HasConverted job.entry [] [] [] result }
+        ensures so_far { HasConverted job.entry false [] [] [] [] result }
     {
-        steps_are_a_run();
         Converter {
-            session: Session::new(job),
-            fault: None,
-            output: Vec::new(alloc),
-            given: 0,
-            losses: Vec::new(alloc),
-            told: 0,
+            stream: recode::Converter::new(job),
+            policy: job.policy,
+            held: Held::none(),
+            loss: None,
+            stage: Stage::Open,
             is_finished: false,
         }
     }
@@ -108,7 +117,7 @@ pub extern "C" fn jillapun_converter_new(
         Err(status) => return status,
         Ok(job) => job,
     };
-    match Box::new(alloc, Coder::Converter(Converter::new(alloc, job))) {
+    match Box::new(alloc, Coder::Converter(Converter::new(job))) {
         Ok(coder) => {
             out.coder.put(coder);
             OK

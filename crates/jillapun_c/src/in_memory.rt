@@ -1,21 +1,26 @@
-//! Runs from memory to memory.
+//! Conversions from memory to memory.
 
 ghost use Rattle.std.specs.Prelude.{◌≡◌, ◌≢◌, ◌<◌, ◌≤◌, ◌⊎◌, ◌++◌};
-ghost use Rattle.std.specs.Prelude.{drop, false, length, true, vec_len};
+ghost use Rattle.std.specs.Prelude.{IfOk, drop, false, length, true, vec_len};
 ghost use Rattle.recode.specs.Job.{IsValidJob};
 ghost use Rattle.jillapun_c.specs.Conversions.{ConvertsIfShort, ConvertsInMemory, IsDone};
 ghost use Rattle.jillapun_c.specs.declared.report.TheConstants.Report.{NONE};
 ghost use Rattle.jillapun_c.specs.declared.status.TheConstants.{ROOM};
 
-use crate::losses::{Loss, LossLog};
-use crate::report::{Report, told};
-use crate::run::run_in_buffers;
+use crate::converter::Converter;
+use crate::losses::Loss;
+use crate::report::Report;
 use crate::status::{LOSSY, NO_MEMORY, OK, ROOM, STOPPED, TOO_LONG};
-use recode::laws::{known_input, stops_at_first_loss};
-use recode::{Counted, Job};
-use std::alloc::Global;
+use recode::Job;
+use recode::laws::stops_at_first_loss;
+use std::alloc::{AllocError, Global};
 
-// What a run in memory made.
+// How many bytes and how many records a step has room for.
+const STEP_SIZE: usize = 4096;
+
+const STEP_LOSSES: usize = 16;
+
+// What a conversion made.
 #[derive(Drop)]
 struct Made {
     status: u8,
@@ -24,25 +29,35 @@ struct Made {
     losses: Vec<Loss>,
 }
 
-// Runs a job in memory of its own.
-fn run_in_memory(alloc: Global, job: Job<'_>, src: &[u8]) -> Made
+// Converts in memory of its own, step by step.
+fn run_in_memory(alloc: Global, job: Job<'static>, src: &[u8]) -> Result<Made, AllocError>
     requires { IsValidJob job }
-    ensures { ConvertsInMemory job.entry src.now result.output.items result.losses.items
-        result.report result.status }
+    ensures { IfOk result (λ made. ConvertsInMemory job.entry src.now made.output.items
+        made.losses.items made.report made.status) }
 {
-    known_input();
     stops_at_first_loss();
-    let mut reader = Counted::new(src);
-    let mut writer = Counted::new(Vec::new(alloc));
-    let mut log = Counted::new(LossLog::of(Vec::new(alloc)));
-    let answer = run_in_buffers(&mut reader, &mut writer, &mut log, job);
-    let (status, report) = told(answer);
-    Made {
+    let mut converter = Converter::new(job);
+    let mut output = Vec::new(alloc);
+    let mut losses = Vec::new(alloc);
+    let mut room = [0; STEP_SIZE];
+    let mut records = [Loss::NONE; STEP_LOSSES];
+    let mut rest = src;
+    'steps: loop {
+        let progress = converter.run(rest, true, &mut room, &mut records);
+        output.extend_from_slice(&room[..progress.written])?;
+        losses.extend_from_slice(&records[..progress.losses])?;
+        rest = &rest[progress.read..];
+        if !progress.wants_room {
+            break;
+        }
+    }
+    let (status, report) = converter.tell();
+    Ok(Made {
         status,
         report,
-        output: writer.into_inner(),
-        losses: log.into_inner().into_losses(),
-    }
+        output,
+        losses,
+    })
 }
 
 // Puts what was made at the start of the caller's memory, if there is room for it, and reports how
@@ -89,7 +104,7 @@ fn hand_over(made: &Made, dst: &mut [u8], losses: &mut [Loss], report: &mut Repo
 /// Runs a job from memory to memory.
 pub(crate) fn convert_job(
     alloc: Global,
-    job: Job<'_>,
+    job: Job<'static>,
     src: &[u8],
     dst: &mut [u8],
     losses: &mut [Loss],
@@ -105,7 +120,9 @@ pub(crate) fn convert_job(
     if src.len() as u64 > job.limit {
         return TOO_LONG;
     }
-    let made = run_in_memory(alloc, job, src);
+    let Ok(made) = run_in_memory(alloc, job, src) else {
+        return NO_MEMORY;
+    };
     match made.status {
         OK | LOSSY | STOPPED => {
             if hand_over(&made, dst, losses, report) {
@@ -114,7 +131,7 @@ pub(crate) fn convert_job(
                 ROOM
             }
         }
-        // Of what is in memory nothing fails but for want of it.
+        // No other comes: the end is handed in, and the limit is kept.
         _ => NO_MEMORY,
     }
 }

@@ -24,7 +24,6 @@ mod mem;
 mod progress;
 mod report;
 mod request;
-mod run;
 pub mod status;
 mod tables;
 mod tables_handle;

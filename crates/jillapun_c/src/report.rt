@@ -1,10 +1,8 @@
 //! What a conversion reports.
 
-ghost use Rattle.std.specs.Prelude.{IfErr, IfOk};
-ghost use Rattle.jillapun_c.specs.Conversions.{IsToldFault, IsToldReport};
+ghost use Rattle.jillapun_c.specs.Conversions.{IsToldReport, IsToldStop};
 
-use crate::status::{LOSSY, NO_MEMORY, OK, STOPPED, TOO_LONG};
-use recode::Fault;
+use crate::status::{LOSSY, OK, STOPPED};
 
 /// What a conversion reports beside its status.
 #[repr(C)]
@@ -42,36 +40,27 @@ impl Report {
     };
 }
 
-// The status of a run that a fault ended, and what is reported of it.
-fn told_fault(fault: Fault) -> (u8, Report)
-    ensures told { IsToldFault fault result.1 result.0 }
+/// The status of a conversion that the policy stopped at this character, and what is reported of it.
+pub(crate) fn told_stop(index: u64, scalar: char) -> (u8, Report)
+    ensures { IsToldStop index scalar result.1 result.0 }
 {
-    let mut report = Report::NONE;
-    let status = match fault {
-        Fault::Read | Fault::Write | Fault::Log => NO_MEMORY,
-        Fault::TooLong => TOO_LONG,
-        Fault::Unmappable { index, scalar } => {
-            report.index = index;
-            report.scalar = u32::from(scalar);
-            STOPPED
-        }
+    let report = Report {
+        index,
+        scalar: u32::from(scalar),
+        ..Report::NONE
     };
-    (status, report)
+    (STOPPED, report)
 }
 
-/// The status of what a run returned, and what is reported of it.
-pub(crate) fn told(answer: Result<recode::Report, Fault>) -> (u8, Report)
-    ensures ok { IfOk answer (λ p. IsToldReport p result.1 result.0) }
-    ensures err { IfErr answer (λ f. IsToldFault f result.1 result.0) }
+/// The status of a conversion that came to its end, and what is reported of it.
+pub(crate) fn told_report(run: recode::Report) -> (u8, Report)
+    ensures { IsToldReport run result.1 result.0 }
 {
-    match answer {
-        Ok(run) => {
-            let mut report = Report::NONE;
-            report.read = run.read;
-            report.bad = run.bad;
-            report.lost = run.lost;
-            (if run.faithful { OK } else { LOSSY }, report)
-        }
-        Err(fault) => told_fault(fault),
-    }
+    let report = Report {
+        read: run.read,
+        bad: run.bad,
+        lost: run.lost,
+        ..Report::NONE
+    };
+    (if run.faithful { OK } else { LOSSY }, report)
 }

@@ -1,33 +1,24 @@
 //! What a converter made, on its way into the caller's memory.
 
-ghost use Rattle.std.specs.Prelude.{◌≡◌, ◌↔◌, ◌+◌, ◌<◌, ◌^◌, IsTrue, [], drop};
-ghost use Rattle.jillapun_c.specs.Converters.{FillsRoom, HandsOut, HoldsNothing};
+ghost use Rattle.std.specs.Prelude.{◌≡◌, ◌↔◌, ◌+◌, ◌-◌, ◌≤◌, IsTrue, drop, length};
+ghost use Rattle.jillapun_c.specs.Converters.{HandsOut, HoldsNothing, held_losses};
+ghost use Rattle.jillapun_c.specs.Room.{FillsRoom};
 
 use crate::converter::Converter;
 use crate::converter::progress::ConverterProgress;
 use crate::losses::Loss;
 
-// Puts what is left of a list, after what was handed out, at the start of the room, as far as it
-// fits. Returns how much that is.
-fn fill<T: Copy>(made: &[T], given: usize, room: &mut [T]) -> usize
-    ensures fills { FillsRoom (drop given made.now) (drop (given + result) made.now) room.old
-        room.new result }
-    ensures in_range { given + result < 2 ^ 64 }
+/// Puts the first elements of a list into a room that is filled up to a place, as many as fit.
+/// Returns up to where it is filled then.
+pub(crate) fn fill<T: Copy>(list: &[T], room: &mut [T], at: usize) -> usize
+    requires { at ≤ length room.old }
+    ensures fills { FillsRoom list.now (drop (result - at) list.now) room.old room.new at result }
+    ensures within { result ≤ at + length list.now }
 {
-    if made.len() <= given {
-        return 0;
-    }
-    let left = &made[given..];
-    let count = left.len().min(room.len());
-    room[..count].copy_from_slice(&left[..count]);
-    count
-}
-
-// Whether all of a list was handed out.
-fn is_given<T>(made: &[T], given: usize) -> bool
-    ensures { IsTrue result ↔ (drop given made.now ≡ []) }
-{
-    made.len() <= given
+    let count = list.len().min(room.len() - at);
+    let to = at + count;
+    room[at..to].copy_from_slice(&list[..count]);
+    to
 }
 
 impl Converter {
@@ -35,24 +26,41 @@ impl Converter {
     pub(crate) fn holds_nothing(&self) -> bool
         ensures { IsTrue result ↔ HoldsNothing self.now }
     {
-        is_given(&self.output, self.given) && is_given(&self.losses, self.told)
+        self.held.is_empty() && self.loss.is_none()
     }
 
-    /// Hands out what was made, as far as there is room, and tells how much it is.
+    // Hands out the record that waits, if one does and there is room.
+    fn hand_out_loss(&mut self, losses: &mut [Loss], at: usize) -> usize
+        requires { at ≤ length losses.old }
+        ensures fills { FillsRoom (held_losses self.old) (held_losses self.new) losses.old
+            losses.new at result }
+        ensures rest { self.new ≡ record self.old { loss = self.new.loss } }
+    {
+        match self.loss {
+            Some(loss) if at < losses.len() => {
+                losses[at] = loss;
+                self.loss = None;
+                at + 1
+            }
+            _ => at,
+        }
+    }
+
+    /// Hands out what was made, as far as there is room, after what was handed out before, and tells
+    /// whether something is left.
     pub(crate) fn hand_out(
         &mut self,
         dst: &mut [u8],
         losses: &mut [Loss],
         progress: &mut ConverterProgress,
     )
-        ensures hands_out { HandsOut self.old self.new dst.old dst.new losses.old losses.new
+        requires written { progress.old.written ≤ length dst.old }
+        requires told { progress.old.losses ≤ length losses.old }
+        ensures { HandsOut self.old self.new dst.old dst.new losses.old losses.new progress.old
             progress.new }
-        ensures read { progress.new.read ≡ progress.old.read }
     {
-        progress.written = fill(&self.output, self.given, dst);
-        self.given += progress.written;
-        progress.losses = fill(&self.losses, self.told, losses);
-        self.told += progress.losses;
+        progress.written = self.held.hand_out(dst, progress.written);
+        progress.losses = self.hand_out_loss(losses, progress.losses);
         progress.wants_room = !self.holds_nothing();
     }
 }

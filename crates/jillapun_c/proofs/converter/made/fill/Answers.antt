@@ -1,7 +1,6 @@
-use Rattle.std.proofs.lemmas.List.{take_rest}
+use Rattle.std.proofs.Common.{arith, ◌∙◌}
 use Rattle.jillapun_c.proofs.RoomLemmas.{fills}
 use Rattle.jillapun_c.proofs.converter.made.fill.Goals as goal
 
 pub returns-clause-fills : goal.returns-clause-fills
-returns-clause-fills g c = fills c.args.made.now c.args.given c.args.room.now _ c.copy_from_slice.new.self c.min-count.result (take_rest c.args.made.now c.args.given) c.min-count.ensures
-    c.copy_from_slice.ensures.after
+returns-clause-fills g c = fills c.args.list.now c.args.room.now c.copy_from_slice.new.self c.args.at c.min-count.result _ (omega arith) c.requires c.min-count.ensures c.copy_from_slice.ensures.after

@@ -1,6 +1,5 @@
 use Rattle.std.proofs.Common.{ap, sym, ◌∙◌, Some}
 use Rattle.jillapun_c.specs.Coders.{converter_in}
-use Rattle.jillapun_c.proofs.ConverterRunLemmas.{joins}
 use Rattle.jillapun_c.proofs.converter.step.jillapun_converter_step.Goals as goal
 
 pub returns-clause-converts : goal.returns-clause-converts
@@ -8,12 +7,5 @@ returns-clause-converts c k held live = rw c.put.ensures
     (c.convert_step-status.ensures.converts k (ap converter_in (ap Some c.deref_mut.ensures.value ∙ sym c.in-Some.ensures.coder) ∙ held) live)
 
 pub returns-clause-joins : goal.returns-clause-joins
-returns-clause-joins c k held live = joins
-    (record {
-      begins = c.steps_are_a_run.ensures.begins;
-      goes_on = c.steps_are_a_run.ensures.goes_on;
-      completes = c.steps_are_a_run.ensures.completes;
-      fails = c.steps_are_a_run.ensures.fails;
-    })
-    (record { completes = c.known_input.ensures.completes; fails = c.known_input.ensures.fails; first = c.stops_at_first_loss.ensures.fault })
-    k _ _ _ _ _ _ _ _ _ _ (returns-clause-converts c k held live)
+returns-clause-joins c k held live = rw c.put.ensures
+    (c.convert_step-status.ensures.joins k (ap converter_in (ap Some c.deref_mut.ensures.value ∙ sym c.in-Some.ensures.coder) ∙ held) live)
