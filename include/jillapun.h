@@ -70,10 +70,7 @@ enum {
      * line, or 0 if in none alone. Nothing was kept.
      */
     JILLAPUN_BAD_INDEX = 4,
-    /**
-     * Memory was refused. Nothing was kept, and the call can be made again. A conversion by steps
-     * has ended.
-     */
+    /** Memory was refused. Nothing was kept, and the call can be made again. */
     JILLAPUN_NO_MEMORY = 5,
     /** The handle holds nothing: it is zeroed, or was freed. Nothing was done. */
     JILLAPUN_CLOSED = 6,
@@ -413,8 +410,8 @@ typedef struct {
     /** How many records were written to `losses`. */
     size_t losses;
     /**
-     * Whether room is wanted: bytes or records are left that did not fit. The next call hands them
-     * out, and reads nothing.
+     * Whether room is wanted: bytes or a record are left that did not fit. The next call hands
+     * them out first.
      */
     bool wants_room;
 } jillapun_converter_progress;
@@ -869,35 +866,35 @@ void jillapun_converter_free(jillapun_converter *converter);
 /* The export that makes a step of a conversion. */
 
 /**
- * Converts the next bytes of an input. It reads at most 16384 bytes, from the start of `src`,
- * writes what they give at the start of `dst`, and a record of each loss at the start of
- * `losses`, and tells in `progress` how much of each. `last` says that nothing follows `src` in
- * the input: a call with `last` and no bytes reads the end. What finds no room is kept, and
- * calls read nothing until all of it was handed out (`wants_room`).
+ * Converts the next bytes of an input. It reads from the start of `src`, writes what that gives
+ * at the start of `dst`, and a record of each loss at the start of `losses`, and tells in
+ * `progress` how much of each. `last` says that nothing follows `src` in the input: give it
+ * again, with what of `src` was not read, until the end is told. What finds no room is kept, a
+ * few bytes and one record at most, and comes first in the next call.
  *
- * - `JILLAPUN_GOES_ON`: call again, with what of `src` was not read, or with what follows if
- *   all was; and with room, if `progress` says that it is wanted.
+ * - `JILLAPUN_GOES_ON`: call again. If `progress` says that room is wanted (`wants_room`), with
+ *   room, and with what of `src` was not read; what follows may stand behind it. Else all of
+ *   `src` is read, and all that it decides is written: call with what follows.
  * - `JILLAPUN_OK`: all was converted and handed out. Nothing was malformed, and the output,
  *   read again, is the text of the input. `JILLAPUN_LOSSY`: the same, but something was lost.
  *   The report has the counts.
  * - `JILLAPUN_STOPPED`: the policy is `JILLAPUN_STOP`, and the character that has no bytes is
  *   in the report. What is before it was converted, with the escape that would come before a
  *   reference, and its record is the last.
- * - `JILLAPUN_TOO_LONG`: the input is longer than the limit. `JILLAPUN_NO_MEMORY`: memory was
- *   refused.
- * - `JILLAPUN_FINISHED`: an earlier call returned one of the five above, which end the
+ * - `JILLAPUN_TOO_LONG`: the input is longer than the limit. All that the limit allows was
+ *   converted.
+ * - `JILLAPUN_FINISHED`: an earlier call returned one of the four above, which end the
  *   conversion. `JILLAPUN_CLOSED`: the handle holds no converter. Nothing is done, and all of
  *   `progress` and of the report is 0: keep the report of the end.
  *
  * At `JILLAPUN_OK`, `JILLAPUN_LOSSY` and `JILLAPUN_STOPPED` the outputs of all calls, joined,
- * are what `jillapun_convert` writes for all that was read, and so are the records, however the
- * input is cut and however the room. Before, and at `JILLAPUN_TOO_LONG` and
- * `JILLAPUN_NO_MEMORY`, they are the first part of what it would write without a limit, however
- * the input goes on. Before the end, and at these two, the report is 0. Room for one byte and
- * one record is enough, and records want room even if nobody reads them.
+ * are what `jillapun_convert` writes for all that was handed in, and so are the records,
+ * however the input is cut and however the room. Before, and at `JILLAPUN_TOO_LONG`, they are
+ * the first part of what it would write without a limit, however the input goes on. Before the
+ * end, and at `JILLAPUN_TOO_LONG`, the report is 0. Room for one byte and one record is enough,
+ * and records want room even if nobody reads them.
  *
- * What is kept is never more than what one call reads gives: memory does not grow with the
- * input.
+ * No memory is taken.
  */
 uint8_t jillapun_converter_step(jillapun_converter *converter, const uint8_t *src, size_t src_len,
     bool last, uint8_t *dst, size_t dst_len, jillapun_loss *losses, size_t losses_len,

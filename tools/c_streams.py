@@ -419,7 +419,8 @@ class Streams:
         self.must("converter_new", new(self.tables, *numbers, limit, handle))
         self.must("converter_new twice", new(self.tables, *numbers, limit, handle), "IN_USE")
         progress, most, losses = self.library.struct("ConverterProgress")(), self.random.choice((1, 9, 5000)), []
-        output, parts = bytearray(), [*parts, b""]
+        # The end comes with the last bytes, or after them.
+        output, parts = bytearray(), [*parts, b""] if not parts or self.random.random() < 0.5 else [*parts]
         for _ in range(MOST_CALLS):
             room, filled = bytearray(b"\x5a" * self.random.randint(0, most)), (loss * self.random.randint(0, 2))()
             last = len(parts) == 1

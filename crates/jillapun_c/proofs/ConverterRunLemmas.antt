@@ -8,10 +8,10 @@ use Rattle.encoding_mem.specs.declared.reference.Reference.{Reference}
 use Rattle.recode_log.specs.Line.{line_bytes}
 use Rattle.recode_log.specs.declared.line.LogLine.{LogLine}
 use Rattle.recode_log.specs.declared.line.LogLine.TheVariants.{Bad, Lost}
-use Rattle.recode.specs.Converter.{AllIsConverted, ConverterView, ConvertsPart, HasTaken, IsReportButCalls, found_items, owes}
+use Rattle.recode.specs.Converter.{AllIsConverted, ConverterView, ConvertsPart, ConvertedSoFar, IsReportButCalls, found_items, owes}
 use Rattle.recode.specs.Job.{input_text, log_of, lost_log_lines, output_of, target_of, trace, whole_trace}
 use Rattle.recode.specs.Policy.{reference_form, up_to_loss, written_under}
-use Rattle.recode.specs.TaggedByte.{IsPrefix, TaggedByte, log_bytes, output_bytes, tagged}
+use Rattle.recode.specs.TaggedByte.{IsPrefix, TaggedByte, log_bytes, output_bytes, tagged, tagged_item}
 use Rattle.recode.specs.WrittenItems.{IsSpared, StopsAtLoss, lost_line_count}
 use Rattle.recode.specs.calls.ConverterView.{converter_view}
 use Rattle.recode.specs.declared.converter.ConverterResult.{ConverterResult}
@@ -19,13 +19,13 @@ use Rattle.recode.specs.declared.converter.ConverterResult.TheVariants.{Found, I
 use Rattle.recode.specs.declared.job.Job.{Job}
 use Rattle.recode.specs.declared.job.Policy.{Policy}
 use Rattle.recode.specs.declared.job.Report.{Report as RunReport}
-use Rattle.recode.specs.laws.Calls.{owed_on, taken_first, taken_on, taken_report, taken_whole}
+use Rattle.recode.specs.laws.Calls.{owed_on, part_none, taken_first, taken_on, taken_report, taken_whole}
 use Rattle.recode.specs.laws.Items.{log_bytes-append, log_bytes-bytes, log_bytes-lines, lost_line_count-append, lost_line_count-bytes, output_bytes-append, output_bytes-bytes, output_bytes-lines, spared_append, spared_bytes, tagged-append, written_spared, written_whole}
-use Rattle.jillapun_c.proofs.ConverterTurnLemmas.{owes_split}
+use Rattle.jillapun_c.proofs.ConverterTurnLemmas.{length_none, owes_split}
 use Rattle.jillapun_c.specs.Coders.{converter_in}
-use Rattle.jillapun_c.specs.ConverterRuns.{Carries, HasConverted, IsFirstPartOf, IsOverWith, JoinsToCalls, StandsAt, StopsAt}
-use Rattle.jillapun_c.specs.ConverterTurns.{IsReady, PassesLimit, TurnEnds, Turns, found_log, found_reference, stage_at}
-use Rattle.jillapun_c.specs.Conversions.{ConvertsInMemory, IsDone, IsToldReport, IsToldStop}
+use Rattle.jillapun_c.specs.ConverterRuns.{Carries, HasConverted, IsFirstPartOf, IsOverWith, JoinsToCalls, IsAtStage, EndsAtLoss, WritesUnder}
+use Rattle.jillapun_c.specs.ConverterTurns.{CanTurn, PassesLimit, TurnEnds, MakesTurn, found_log, found_reference, stage_at}
+use Rattle.jillapun_c.specs.Conversions.{ConvertsInMemory, IsMadeOf, IsToldReport, IsToldStop}
 use Rattle.jillapun_c.specs.Converters.{ConvertsAll, HandsOut, HoldsNothing, IsNewConverter, TellsStage, TellsStatus, TellsVerdict, held_losses, listed, view_in}
 use Rattle.jillapun_c.specs.Losses.{log_of_losses, loss_bytes}
 use Rattle.jillapun_c.specs.Room.{FillsRoom, IsFilled}
@@ -40,67 +40,48 @@ use Rattle.jillapun_c.specs.declared.report.Report.{Report}
 
 -- ---- what a policy writes of items
 
--- the output and the log that a policy writes of some items
-abbrev output_under : Policy → List Item → List ℕ
-output_under p items = output_bytes (tagged (written_under p items))
-
-abbrev log_under : Policy → List Item → List ℕ
-log_under p items = log_bytes (tagged (written_under p items))
-
-output_of_both : (s t : List Item) → output_bytes (tagged (s ++ t)) ≡ output_bytes (tagged s) ++ output_bytes (tagged t)
-output_of_both s t = ap output_bytes (tagged-append s t) ∙ output_bytes-append (tagged s) (tagged t)
-
-log_of_both : (s t : List Item) → log_bytes (tagged (s ++ t)) ≡ log_bytes (tagged s) ++ log_bytes (tagged t)
-log_of_both s t = ap log_bytes (tagged-append s t) ∙ log_bytes-append (tagged s) (tagged t)
-
 -- of items that do not stop the policy, all is written, and then what is written of the items after them
-output_then : (p : Policy) (s t : List Item) → IsSpared p s → output_under p (s ++ t) ≡ output_under p s ++ output_under p t
-output_then p s t spared = ap (λ x. output_bytes (tagged x)) (written_spared p s t spared) ∙ output_of_both s (written_under p t)
-    ∙ ap (λ x. output_bytes (tagged x) ++ output_under p t) (sym (written_whole p s spared))
+under_then : (p : Policy) (s t : List Item) (a b l m : List ℕ) → IsSpared p s → WritesUnder p s a l → WritesUnder p t b m → WritesUnder p (s ++ t) (a ++ b) (l ++ m)
+under_then p s t a b l m spared x y = record {
+  is_output = ap (λ z. z ++ b) (x.is_output ∙ ap (λ z. output_bytes (tagged z)) own) ∙ ap (λ z. output_bytes (tagged s) ++ z) y.is_output
+      ∙ sym (ap output_bytes all ∙ output_bytes-append (tagged s) (tagged (written_under p t)));
+  is_log = ap (λ z. z ++ m) (x.is_log ∙ ap (λ z. log_bytes (tagged z)) own) ∙ ap (λ z. log_bytes (tagged s) ++ z) y.is_log
+      ∙ sym (ap log_bytes all ∙ log_bytes-append (tagged s) (tagged (written_under p t)));
+}
+  where
+    own : written_under p s ≡ s
+    own = written_whole p s spared
 
-log_then : (p : Policy) (s t : List Item) → IsSpared p s → log_under p (s ++ t) ≡ log_under p s ++ log_under p t
-log_then p s t spared = ap (λ x. log_bytes (tagged x)) (written_spared p s t spared) ∙ log_of_both s (written_under p t)
-    ∙ ap (λ x. log_bytes (tagged x) ++ log_under p t) (sym (written_whole p s spared))
+    all : tagged (written_under p (s ++ t)) ≡ tagged s ++ tagged (written_under p t)
+    all = ap tagged (written_spared p s t spared) ∙ tagged-append s (written_under p t)
 
-output_under_bytes : (p : Policy) (bs : List ℕ) → output_under p (map Byte bs) ≡ bs
-output_under_bytes p bs = ap (λ x. output_bytes (tagged x)) (written_whole p (map Byte bs) (spared_bytes p bs)) ∙ output_bytes-bytes bs
+under_bytes : (p : Policy) (bs : List ℕ) → WritesUnder p (map Byte bs) bs []
+under_bytes p bs = let own = written_whole p (map Byte bs) (spared_bytes p bs) in record {
+  is_output = sym (ap (λ z. output_bytes (tagged z)) own ∙ output_bytes-bytes bs);
+  is_log = sym (ap (λ z. log_bytes (tagged z)) own ∙ log_bytes-bytes bs);
+}
 
-log_under_bytes : (p : Policy) (bs : List ℕ) → log_under p (map Byte bs) ≡ []
-log_under_bytes p bs = ap (λ x. log_bytes (tagged x)) (written_whole p (map Byte bs) (spared_bytes p bs)) ∙ log_bytes-bytes bs
-
-nothing_under : (p : Policy) → written_under p [] ≡ []
-nothing_under Policy.Decimal = refl
-nothing_under Policy.Hexadecimal = refl
-nothing_under Policy.Stop = refl
-
-bad_under : (p : Policy) (offset size : ℕ) → written_under p (MalformedAt offset size ∷ []) ≡ MalformedAt offset size ∷ []
-bad_under Policy.Decimal offset size = refl
-bad_under Policy.Hexadecimal offset size = refl
-bad_under Policy.Stop offset size = refl
-
--- the bytes and the log of a line, and then of bytes
-line_output : (line bs : List ℕ) (t : List TaggedByte) → output_bytes t ≡ bs → output_bytes (map TaggedByte.Line line ++ t) ≡ bs
-line_output line bs t is = output_bytes-append (map TaggedByte.Line line) t ∙ ap (λ x. x ++ output_bytes t) (output_bytes-lines line) ∙ is
-
-line_log : (line : List ℕ) (t : List TaggedByte) → log_bytes t ≡ [] → log_bytes (map TaggedByte.Line line ++ t) ≡ line
-line_log line t none = log_bytes-append (map TaggedByte.Line line) t ∙ ap (λ x. log_bytes (map TaggedByte.Line line) ++ x) none ∙ append-nil (log_bytes (map TaggedByte.Line line)) ∙ log_bytes-lines line
+-- a line, and after it a reference or nothing
+under_line : (p : Policy) (item : Item) (bs line : List ℕ) → written_under p (item ∷ map Byte bs) ≡ item ∷ map Byte bs → tagged_item item ≡ map TaggedByte.Line line
+    → WritesUnder p (item ∷ map Byte bs) bs line
+under_line p item bs line own is =
+    let all : tagged (written_under p (item ∷ map Byte bs)) ≡ map TaggedByte.Line line ++ tagged (map Byte bs) = ap tagged own ∙ ap (λ z. z ++ tagged (map Byte bs)) is in record {
+      is_output = sym (ap output_bytes all ∙ output_bytes-append (map TaggedByte.Line line) (tagged (map Byte bs)) ∙ ap (λ z. z ++ output_bytes (tagged (map Byte bs))) (output_bytes-lines line)
+          ∙ output_bytes-bytes bs);
+      is_log = sym (ap log_bytes all ∙ log_bytes-append (map TaggedByte.Line line) (tagged (map Byte bs)) ∙ ap (λ z. log_bytes (map TaggedByte.Line line) ++ z) (log_bytes-bytes bs)
+          ∙ append-nil (log_bytes (map TaggedByte.Line line)) ∙ log_bytes-lines line);
+    }
 
 -- what is written of what a call found
-found_output : (p : Policy) (r : ConverterResult) → output_under p (found_items (reference_form p) r) ≡ found_reference p r
-found_output p InputEmpty = ap (λ x. output_bytes (tagged x)) (nothing_under p)
-found_output p OutputFull = ap (λ x. output_bytes (tagged x)) (nothing_under p)
-found_output p (Found (Bad offset size)) = ap (λ x. output_bytes (tagged x)) (bad_under p offset size) ∙ line_output (line_bytes (Bad offset size)) [] [] refl
-found_output Policy.Decimal (Found (Lost index scalar)) = line_output (line_bytes (Lost index scalar)) (reference_bytes Reference.Decimal scalar) (tagged (map Byte (reference_bytes Reference.Decimal scalar))) (output_bytes-bytes (reference_bytes Reference.Decimal scalar))
-found_output Policy.Hexadecimal (Found (Lost index scalar)) = line_output (line_bytes (Lost index scalar)) (reference_bytes Reference.Hexadecimal scalar) (tagged (map Byte (reference_bytes Reference.Hexadecimal scalar))) (output_bytes-bytes (reference_bytes Reference.Hexadecimal scalar))
-found_output Policy.Stop (Found (Lost index scalar)) = line_output (line_bytes (Lost index scalar)) [] [] refl
-
-found_logged : (p : Policy) (r : ConverterResult) → log_under p (found_items (reference_form p) r) ≡ found_log r
-found_logged p InputEmpty = ap (λ x. log_bytes (tagged x)) (nothing_under p)
-found_logged p OutputFull = ap (λ x. log_bytes (tagged x)) (nothing_under p)
-found_logged p (Found (Bad offset size)) = ap (λ x. log_bytes (tagged x)) (bad_under p offset size) ∙ line_log (line_bytes (Bad offset size)) [] refl
-found_logged Policy.Decimal (Found (Lost index scalar)) = line_log (line_bytes (Lost index scalar)) (tagged (map Byte (reference_bytes Reference.Decimal scalar))) (log_bytes-bytes (reference_bytes Reference.Decimal scalar))
-found_logged Policy.Hexadecimal (Found (Lost index scalar)) = line_log (line_bytes (Lost index scalar)) (tagged (map Byte (reference_bytes Reference.Hexadecimal scalar))) (log_bytes-bytes (reference_bytes Reference.Hexadecimal scalar))
-found_logged Policy.Stop (Found (Lost index scalar)) = line_log (line_bytes (Lost index scalar)) [] refl
+under_found : (p : Policy) (r : ConverterResult) → WritesUnder p (found_items (reference_form p) r) (found_reference p r) (found_log r)
+under_found p InputEmpty = under_bytes p []
+under_found p OutputFull = under_bytes p []
+under_found p (Found (Bad offset size)) = under_line p (MalformedAt offset size) [] (line_bytes (Bad offset size)) (written_whole p (MalformedAt offset size ∷ []) (λ stop. refl)) refl
+under_found Policy.Decimal (Found (Lost index scalar)) = under_line Policy.Decimal (LostAt index scalar) (reference_bytes Reference.Decimal scalar) (line_bytes (Lost index scalar)) refl refl
+under_found Policy.Hexadecimal (Found (Lost index scalar)) = under_line Policy.Hexadecimal (LostAt index scalar) (reference_bytes Reference.Hexadecimal scalar) (line_bytes (Lost index scalar)) refl refl
+under_found Policy.Stop (Found (Lost index scalar)) =
+    let line : WritesUnder Policy.Stop (LostAt index scalar ∷ []) [] (line_bytes (Lost index scalar)) = under_line Policy.Stop (LostAt index scalar) [] (line_bytes (Lost index scalar)) refl refl in
+    record { is_output = line.is_output; is_log = line.is_log }
 
 -- ---- before the first turn
 
@@ -109,9 +90,8 @@ begun j c new = record {
   items = [];
   taken = taken_first j (view_in c) new.fresh;
   policy = new.policy;
-  written = new.empty.0 ∙ sym (ap (λ x. output_bytes (tagged x)) (nothing_under j.policy));
-  logged = ap log_of_losses new.empty.1 ∙ sym (ap (λ x. log_bytes (tagged x)) (nothing_under j.policy));
-  stage = subst (λ s. StandsAt s j (view_in c) [] []) (sym new.stage) (λ is. refl);
+  written = let none = under_bytes j.policy [] in record { is_output = new.empty.0 ∙ none.is_output; is_log = ap log_of_losses new.empty.1 ∙ none.is_log };
+  stage = subst (λ s. IsAtStage s j (view_in c) [] []) (sym new.stage) (λ is. refl);
   over = λ is. absurd (cc (sym is ∙ new.fresh.over));
 }
 
@@ -120,24 +100,16 @@ pub handed_in : (j : Job) (before last : Bool) (input rest more out : List ℕ) 
     → HasConverted j before input rest out records c → HasConverted j last (input ++ more) (rest ++ more) out records c
 handed_in j before last input rest more out records c end h = record {
   items = h.items;
-  taken = subst (λ (x : List Item). HasTaken j last (input ++ more) (rest ++ more) x (view_in c)) (append-nil h.items)
-      (taken_on j before last input rest more (rest ++ more) h.items [] (view_in c) (view_in c) end h.taken (record {
-        job = refl;
-        owed = λ r none. refl;
-        verdict = λ r none. ((λ k. k), (λ k. k));
-        source = λ r none. refl;
-        counted = refl;
-        lines = record { bad = omega arith; lost = omega arith };
-        ended = λ is. let e = h.taken.law.ended is in ((end e.0).0, ap (λ x. x ++ more) e.1 ∙ (end e.0).1);
-      }));
+  taken = subst (λ (x : List Item). ConvertedSoFar j last (input ++ more) (rest ++ more) x (view_in c)) (append-nil h.items)
+      (taken_on j before last input rest more (rest ++ more) h.items [] (view_in c) (view_in c) end h.taken
+      (part_none (view_in c) last (rest ++ more) (λ is. let e = h.taken.law.ended is in ((end e.0).0, ap (λ x. x ++ more) e.1 ∙ (end e.0).1))));
   policy = h.policy;
   written = h.written;
-  logged = h.logged;
   stage = stays c.stage h.stage;
   over = λ is. let o = h.over is in record { last_ = (end o.last_).0; none = ap (λ x. x ++ more) o.none ∙ (end o.last_).1; whole = o.whole };
 }
   where
-    stays : (s : Stage) → StandsAt s j (view_in c) input h.items → StandsAt s j (view_in c) (input ++ more) h.items
+    stays : (s : Stage) → IsAtStage s j (view_in c) input h.items → IsAtStage s j (view_in c) (input ++ more) h.items
     stays Open k = k
     stays (Stopped index scalar) k = k
     stays TooLong k = (k.0, record { long = omega (arith, k.1.long, length-append input more); read = k.1.read; all = k.1.all })
@@ -153,40 +125,27 @@ pub handed_out : (j : Job) (last : Bool) (input rest out : List ℕ) (records : 
     → HasConverted j last input rest (out ++ take p'.written dst') (records ++ take p'.losses losses') c'
 handed_out j last input rest out records c c' dst dst' losses losses' p p' hands h = record {
   items = h.items;
-  taken = subst (λ v. HasTaken j last input rest h.items v) view h.taken;
+  taken = subst (λ v. ConvertedSoFar j last input rest h.items v) view h.taken;
   policy = ap (λ (z : Converter). z.policy) hands.rest ∙ h.policy;
-  written = append_assoc out (take p'.written dst') c'.held ∙ ap (λ x. out ++ x) (sym hands.output.is) ∙ sym (append_assoc out (take p.written dst) c.held) ∙ h.written;
-  logged = ap log_of_losses (append_assoc records (take p'.losses losses') (held_losses c') ∙ ap (λ x. records ++ x) (sym hands.lost.is) ∙ sym (append_assoc records (take p.losses losses) (held_losses c))) ∙ h.logged;
-  stage = subst (λ v. StandsAt c'.stage j v input h.items) view (subst (λ s. StandsAt s j (view_in c) input h.items) (sym (ap (λ (z : Converter). z.stage) hands.rest)) h.stage);
+  written = record {
+    is_output = given out (take p.written dst) (take p'.written dst') c.held c'.held hands.output.is ∙ h.written.is_output;
+    is_log = ap log_of_losses (given records (take p.losses losses) (take p'.losses losses') (held_losses c) (held_losses c') hands.lost.is) ∙ h.written.is_log;
+  };
+  stage = subst (λ v. IsAtStage c'.stage j v input h.items) view (subst (λ s. IsAtStage s j (view_in c) input h.items) (sym (ap (λ (z : Converter). z.stage) hands.rest)) h.stage);
   over = λ is. subst (λ v. IsOverWith v last rest) view (h.over (ap (λ v. v.over) view ∙ is));
 }
   where
     view : view_in c ≡ view_in c'
     view = ap (λ (z : Converter). view_in z) (sym hands.rest)
 
+    given : {X : Type 0} (before old new held held' : List X) → old ++ held ≡ new ++ held' → (before ++ new) ++ held' ≡ (before ++ old) ++ held
+    given before old new held held' is = append_assoc before new held' ∙ ap (λ x. before ++ x) (sym is) ∙ sym (append_assoc before old held)
+
 -- ---- a turn
-
-ready_output : (p : Policy) (c : Converter) (given out : List ℕ) (items : List Item) → c.held ≡ [] → (out ++ given) ++ c.held ≡ output_under p items → out ++ given ≡ output_under p items
-ready_output p c given out items none is = sym (append-nil (out ++ given)) ∙ ap (λ x. (out ++ given) ++ x) (sym none) ∙ is
-
-ready_log : (p : Policy) (c : Converter) (records : List Loss) (items : List Item) → held_losses c ≡ [] → log_of_losses (records ++ held_losses c) ≡ log_under p items → log_of_losses records ≡ log_under p items
-ready_log p c records items none is = ap log_of_losses (sym (append-nil records) ∙ ap (λ x. records ++ x) (sym none)) ∙ is
 
 -- the items of a turn
 abbrev turn_items : Policy → List ℕ → ConverterResult → List Item
 turn_items p bytes r = map Byte bytes ++ found_items (reference_form p) r
-
-turn_output : (p : Policy) (items : List Item) (bytes : List ℕ) (r : ConverterResult) → IsSpared p items → output_under p (items ++ turn_items p bytes r) ≡ output_under p items ++ (bytes ++ found_reference p r)
-turn_output p items bytes r spared = output_then p items (turn_items p bytes r) spared
-    ∙ ap (λ x. output_under p items ++ x) (output_then p (map Byte bytes) (found_items (reference_form p) r) (spared_bytes p bytes))
-    ∙ ap (λ x. output_under p items ++ (x ++ output_under p (found_items (reference_form p) r))) (output_under_bytes p bytes)
-    ∙ ap (λ x. output_under p items ++ (bytes ++ x)) (found_output p r)
-
-turn_log : (p : Policy) (items : List Item) (bytes : List ℕ) (r : ConverterResult) → IsSpared p items → log_under p (items ++ turn_items p bytes r) ≡ log_under p items ++ found_log r
-turn_log p items bytes r spared = log_then p items (turn_items p bytes r) spared
-    ∙ ap (λ x. log_under p items ++ x) (log_then p (map Byte bytes) (found_items (reference_form p) r) (spared_bytes p bytes))
-    ∙ ap (λ x. log_under p items ++ (x ++ log_under p (found_items (reference_form p) r))) (log_under_bytes p bytes)
-    ∙ ap (λ x. log_under p items ++ x) (found_logged p r)
 
 -- items that end with bytes
 spared_turn : (p : Policy) (items : List Item) (bytes : List ℕ) → IsSpared p items → IsSpared p (items ++ (map Byte bytes ++ []))
@@ -194,7 +153,7 @@ spared_turn p items bytes spared = spared_append p items (map Byte bytes ++ []) 
 
 -- the stage after what was found
 found_stands : (p : Policy) (line : LogLine) (j : Job) (v : ConverterView) (input : List ℕ) (items : List Item) (bytes : List ℕ) → j.policy ≡ p → IsSpared p items
-    → StandsAt (stage_at p line) j v input (items ++ turn_items p bytes (Found line))
+    → IsAtStage (stage_at p line) j v input (items ++ turn_items p bytes (Found line))
 found_stands p (Bad offset size) j v input items bytes is spared = λ stop.
     omega (arith, spared (sym is ∙ stop), lost_line_count-append items (map Byte bytes ++ (MalformedAt offset size ∷ [])), lost_line_count-append (map Byte bytes) (MalformedAt offset size ∷ []), lost_line_count-bytes bytes)
 found_stands Policy.Decimal (Lost index scalar) j v input items bytes is spared = λ stop. absurd (cc (sym is ∙ stop))
@@ -210,17 +169,17 @@ found_stands Policy.Stop (Lost index scalar) j v input items bytes is spared = r
 -- the stage after a turn
 stands_after : (j : Job) (c c' : Converter) (last : Bool) (input src rest : List ℕ) (items : List Item) (bytes : List ℕ) (r : ConverterResult) → TurnEnds c c' last src rest r
     → c.policy ≡ j.policy → (view_in c).job ≡ j → IsSpared j.policy items → (view_in c).state.counts.read + length src ≡ length input
-    → StandsAt c'.stage j (view_in c') input (items ++ turn_items j.policy bytes r)
+    → IsAtStage c'.stage j (view_in c') input (items ++ turn_items j.policy bytes r)
 stands_after j c c' last input src rest items bytes InputEmpty ends policy job spared counted = elim ends [
-  | inl e ↦ subst (λ s. StandsAt s j (view_in c') input (items ++ turn_items j.policy bytes InputEmpty)) (sym e.0) (spared_turn j.policy items bytes spared)
+  | inl e ↦ subst (λ s. IsAtStage s j (view_in c') input (items ++ turn_items j.policy bytes InputEmpty)) (sym e.0) (spared_turn j.policy items bytes spared)
   | inr e ↦ let limit : (view_in c).job.limit ≡ j.limit = ap (λ (k : Job). k.limit) job in
-      subst (λ s. StandsAt s j (view_in c') input (items ++ turn_items j.policy bytes InputEmpty)) (sym e.stage)
+      subst (λ s. IsAtStage s j (view_in c') input (items ++ turn_items j.policy bytes InputEmpty)) (sym e.stage)
       (spared_turn j.policy items bytes spared, record { long = omega (arith, e.long, limit, counted); read = e.read ∙ limit; all = e.all })
 ]
 stands_after j c c' last input src rest items bytes OutputFull ends policy job spared counted =
-    subst (λ s. StandsAt s j (view_in c') input (items ++ turn_items j.policy bytes OutputFull)) (sym ends.0) (spared_turn j.policy items bytes spared)
+    subst (λ s. IsAtStage s j (view_in c') input (items ++ turn_items j.policy bytes OutputFull)) (sym ends.0) (spared_turn j.policy items bytes spared)
 stands_after j c c' last input src rest items bytes (Found line) ends policy job spared counted =
-    subst (λ s. StandsAt s j (view_in c') input (items ++ turn_items j.policy bytes (Found line))) (sym (ends.0 ∙ ap (λ p. stage_at p line) policy))
+    subst (λ s. IsAtStage s j (view_in c') input (items ++ turn_items j.policy bytes (Found line))) (sym (ends.0 ∙ ap (λ p. stage_at p line) policy))
     (found_stands j.policy line j (view_in c') input items bytes refl spared)
 
 over_after : (c c' : Converter) (last : Bool) (src rest : List ℕ) (r : ConverterResult) → TurnEnds c c' last src rest r → (view_in c').over ≡ true → IsOverWith (view_in c') last rest
@@ -231,27 +190,37 @@ over_after c c' last src rest InputEmpty ends over = elim ends [
 over_after c c' last src rest OutputFull ends over = absurd (cc (sym over ∙ ends.1))
 over_after c c' last src rest (Found line) ends over = absurd (cc (sym over ∙ ends.1))
 
+-- what was written was handed out if nothing is held
+given_all : (p : Policy) (items : List Item) (out : List ℕ) (records : List Loss) (c : Converter) → HoldsNothing c → WritesUnder p items (out ++ c.held) (log_of_losses (records ++ held_losses c))
+    → WritesUnder p items out (log_of_losses records)
+given_all p items out records c empty w = record {
+  is_output = sym (append-nil out) ∙ ap (λ x. out ++ x) (sym empty.0) ∙ w.is_output;
+  is_log = ap log_of_losses (sym (append-nil records) ∙ ap (λ x. records ++ x) (sym empty.1)) ∙ w.is_log;
+}
+
 -- a turn goes on with what was converted before it
-pub turned_on : (j : Job) (last : Bool) (input src rest out : List ℕ) (records : List Loss) (c c' : Converter) (dst dst' : List ℕ) (at to : ℕ) (r : ConverterResult) → IsReady c
-    → Turns c c' last src rest dst dst' at to r → HasConverted j last input src (out ++ take at dst) records c → HasConverted j last input rest (out ++ take to dst') records c'
+pub turned_on : (j : Job) (last : Bool) (input src rest out : List ℕ) (records : List Loss) (c c' : Converter) (dst dst' : List ℕ) (at to : ℕ) (r : ConverterResult) → CanTurn c
+    → MakesTurn c c' last src rest dst dst' at to r → HasConverted j last input src (out ++ take at dst) records c → HasConverted j last input rest (out ++ take to dst') records c'
 turned_on j last input src rest out records c c' dst dst' at to r ready t h =
-    let p : Policy = j.policy in
     let job : (view_in c).job ≡ j = h.taken.law.job ∙ h.taken.fresh.job in
-    let spared : IsSpared j.policy h.items = subst (λ s. StandsAt s j (view_in c) input h.items) ready.stage h.stage in
+    let spared : IsSpared j.policy h.items = subst (λ s. IsAtStage s j (view_in c) input h.items) ready.stage h.stage in
     let law : ConvertsPart (view_in c) (view_in c') last src rest (turn_items j.policy t.bytes r) =
     subst (λ (k : Job). ConvertsPart (view_in c) (view_in c') last src rest (turn_items k.policy t.bytes r)) job t.law in
-    let all : HasTaken j last (input ++ []) rest (h.items ++ turn_items j.policy t.bytes r) (view_in c') =
+    let before : WritesUnder j.policy h.items (out ++ take at dst) (log_of_losses records) = given_all j.policy h.items (out ++ take at dst) records c ready.empty h.written in
+    let turn = under_then j.policy h.items (turn_items j.policy t.bytes r) (out ++ take at dst) (t.bytes ++ found_reference j.policy r) (log_of_losses records) (found_log r) spared before
+    (under_then j.policy (map Byte t.bytes) (found_items (reference_form j.policy) r) t.bytes (found_reference j.policy r) [] (found_log r) (spared_bytes j.policy t.bytes) (under_bytes j.policy t.bytes) (under_found j.policy r)) in
+    let all : ConvertedSoFar j last (input ++ []) rest (h.items ++ turn_items j.policy t.bytes r) (view_in c') =
     taken_on j last last input src [] rest h.items (turn_items j.policy t.bytes r) (view_in c) (view_in c') (λ is. (is, refl)) h.taken
     (subst (λ (x : List ℕ). ConvertsPart (view_in c) (view_in c') last x rest (turn_items j.policy t.bytes r)) (sym (append-nil src)) law) in
     record {
       items = h.items ++ turn_items j.policy t.bytes r;
-      taken = subst (λ (x : List ℕ). HasTaken j last x rest (h.items ++ turn_items j.policy t.bytes r) (view_in c')) (append-nil input) all;
+      taken = subst (λ (x : List ℕ). ConvertedSoFar j last x rest (h.items ++ turn_items j.policy t.bytes r) (view_in c')) (append-nil input) all;
       policy = t.policy ∙ h.policy;
-      written = append_assoc out (take to dst') c'.held ∙ ap (λ x. out ++ x) t.written ∙ sym (append_assoc out (take at dst) (t.bytes ++ found_reference c.policy r))
-          ∙ ap (λ x. (out ++ take at dst) ++ (t.bytes ++ found_reference x r)) h.policy
-          ∙ ap (λ x. x ++ (t.bytes ++ found_reference j.policy r)) (ready_output j.policy c (take at dst) out h.items ready.empty.0 h.written) ∙ sym (turn_output j.policy h.items t.bytes r spared);
-      logged = log_of_more records (held_losses c') ∙ ap (λ x. log_of_losses records ++ x) t.logged ∙ ap (λ x. x ++ found_log r) (ready_log j.policy c records h.items ready.empty.1 h.logged)
-          ∙ sym (turn_log j.policy h.items t.bytes r spared);
+      written = record {
+        is_output = append_assoc out (take to dst') c'.held ∙ ap (λ x. out ++ x) (t.written ∙ ap (λ x. take at dst ++ (t.bytes ++ found_reference x r)) h.policy)
+            ∙ sym (append_assoc out (take at dst) (t.bytes ++ found_reference j.policy r)) ∙ turn.is_output;
+        is_log = log_of_more records (held_losses c') ∙ ap (λ x. log_of_losses records ++ x) t.logged ∙ turn.is_log;
+      };
       stage = stands_after j c c' last input src rest h.items t.bytes r t.ends h.policy job spared (omega (arith, h.taken.law.counted, h.taken.fresh.read));
       over = over_after c c' last src rest r t.ends;
     }
@@ -272,34 +241,34 @@ under_front Policy.Stop s t = cut_front s t
 
 pub first_part : (j : Job) (last : Bool) (input rest out : List ℕ) (records : List Loss) (c : Converter) → HasConverted j last input rest out records c → IsFirstPartOf j last input out records
 first_part j last input rest out records c h = record {
-  first_bytes = λ r none. let more = under_front j.policy h.items (owes (view_in c) (rest ++ r)) in (
-    c.held ++ output_bytes (tagged more.0),
-    ap (output_under j.policy) (owed_on j last input rest h.items (view_in c) h.taken r none) ∙ ap (λ x. output_bytes (tagged x)) more.1 ∙ output_of_both (written_under j.policy h.items) more.0
-        ∙ ap (λ x. x ++ output_bytes (tagged more.0)) (sym h.written) ∙ append_assoc out c.held (output_bytes (tagged more.0)),
+  first_bytes = λ r none. let m = more r none in (
+    c.held ++ output_bytes (tagged m.0),
+    ap output_bytes m.1 ∙ output_bytes-append (tagged (written_under j.policy h.items)) (tagged m.0) ∙ ap (λ x. x ++ output_bytes (tagged m.0)) (sym h.written.is_output)
+        ∙ append_assoc out c.held (output_bytes (tagged m.0)),
   );
-  first_records = λ r none. let more = under_front j.policy h.items (owes (view_in c) (rest ++ r)) in (
-    log_of_losses (held_losses c) ++ log_bytes (tagged more.0),
-    ap (log_under j.policy) (owed_on j last input rest h.items (view_in c) h.taken r none) ∙ ap (λ x. log_bytes (tagged x)) more.1 ∙ log_of_both (written_under j.policy h.items) more.0
-        ∙ ap (λ x. x ++ log_bytes (tagged more.0)) (sym h.logged ∙ log_of_more records (held_losses c)) ∙ append_assoc (log_of_losses records) (log_of_losses (held_losses c)) (log_bytes (tagged more.0)),
+  first_records = λ r none. let m = more r none in (
+    log_of_losses (held_losses c) ++ log_bytes (tagged m.0),
+    ap log_bytes m.1 ∙ log_bytes-append (tagged (written_under j.policy h.items)) (tagged m.0) ∙ ap (λ x. x ++ log_bytes (tagged m.0)) (sym h.written.is_log ∙ log_of_more records (held_losses c))
+        ∙ append_assoc (log_of_losses records) (log_of_losses (held_losses c)) (log_bytes (tagged m.0)),
   );
 }
+  where
+    more : (r : List ℕ) → (last ≡ true → r ≡ []) → (items : List Item) × (tagged (trace j (input ++ r)) ≡ tagged (written_under j.policy h.items) ++ tagged items)
+    more r none = let front = under_front j.policy h.items (owes (view_in c) (rest ++ r)) in (
+      front.0,
+      ap (λ x. tagged (written_under j.policy x)) (owed_on j last input rest h.items (view_in c) h.taken r none) ∙ ap tagged front.1 ∙ tagged-append (written_under j.policy h.items) front.0,
+    )
 
 -- ---- the end
 
-not_done : (status : ℕ) → 1 < status → status ≢ 12 → ¬ (IsDone status)
-not_done status big other d = elim d [
-  | inl v ↦ elim v [ inl e ↦ omega (arith, e, big) | inr e ↦ omega (arith, e, big) ]
-  | inr e ↦ other e
-]
-
 -- of a status by which nothing was converted nothing is said
-nothing_said : (j : Job) (x y : List ℕ) (records : List Loss) (report : Report) (status : ℕ) → ¬ (IsDone status) → ConvertsInMemory j x y records report status
-nothing_said j x y records report status not = record {
-  made = λ d. absurd (not d);
-  counts = λ v. absurd (not (inl v));
-  faithful = λ e. absurd (not (inl (inl e)));
-  lossy = λ e. absurd (not (inl (inr e)));
-  stopped = λ e. absurd (not (inr e));
+nothing_said : (j : Job) (x y : List ℕ) (records : List Loss) (report : Report) (status : ℕ) → 1 < status → status ≢ 12 → ConvertsInMemory j x y records report status
+nothing_said j x y records report status big other = record {
+  made = λ d. absurd (elim d [ inl v ↦ elim v [ inl e ↦ omega (arith, e, big) | inr e ↦ omega (arith, e, big) ] | inr e ↦ other e ]);
+  counts = λ v. absurd (elim v [ inl e ↦ omega (arith, e, big) | inr e ↦ omega (arith, e, big) ]);
+  faithful = λ e. absurd (omega (arith, e, big));
+  lossy = λ e. absurd (omega (arith, e, big));
+  stopped = λ e. absurd (other e);
 }
 
 told_ok : (b : Bool) (status : ℕ) → (b ≡ false → status ≡ 1) → status ≡ 0 → b ≡ true
@@ -314,10 +283,10 @@ never_stopped true status ok lossy is = omega (arith, ok refl, is)
 never_stopped false status ok lossy is = omega (arith, lossy refl, is)
 
 -- all was converted
-all_told : (j : Job) (x y : List ℕ) (records : List Loss) (p : RunReport) (report : Report) (status : ℕ) → y ≡ output_of j x → log_of_losses records ≡ log_of j x → IsReportButCalls j x p
+all_told : (j : Job) (x y : List ℕ) (records : List Loss) (p : RunReport) (report : Report) (status : ℕ) → IsMadeOf j x y records → IsReportButCalls j x p
     → IsToldReport p report status → ConvertsInMemory j x y records report status
-all_told j x y records p report status output logged r t = record {
-  made = λ d. record { is_output = output; is_log = logged };
+all_told j x y records p report status made r t = record {
+  made = λ d. made;
   counts = λ v. record { read = t.read ∙ r.read; bad = t.bad ∙ r.bad; lost = t.lost ∙ r.lost; no_character = t.no_character };
   faithful = λ ok. r.faithful.0 (told_ok p.faithful status t.lossy ok);
   lossy = λ lossy f. told_lossy p.faithful status t.faithful lossy (r.faithful.1 f);
@@ -337,9 +306,9 @@ stop_written p before ref more index scalar is first = ap (λ q. written_under q
 
 -- the policy stopped it
 stop_told : FirstLaw → (j : Job) (last : Bool) (x rest y : List ℕ) (records : List Loss) (v : ConverterView) (items : List Item) (index scalar : ℕ) (report : Report) (status : ℕ)
-    → HasTaken j last x rest items v → StopsAt j.policy index scalar items → y ≡ output_under j.policy items → log_of_losses records ≡ log_under j.policy items
+    → ConvertedSoFar j last x rest items v → EndsAtLoss j.policy index scalar items → WritesUnder j.policy items y (log_of_losses records)
     → IsToldStop index scalar report status → ConvertsInMemory j x y records report status
-stop_told law j last x rest y records v items index scalar report status taken stops output logged told =
+stop_told law j last x rest y records v items index scalar report status taken stops w told =
     let ref : List Item = map Byte (reference_bytes (reference_form j.policy) scalar) in
     let own : written_under j.policy items ≡ stops.before ++ (LostAt index scalar ∷ []) =
     ap (written_under j.policy) (stops.is ∙ sym (append-nil (stops.before ++ (LostAt index scalar ∷ ref)))) ∙ stop_written j.policy stops.before ref [] index scalar stops.policy stops.first in
@@ -347,7 +316,7 @@ stop_told law j last x rest y records v items index scalar report status taken s
     ap (λ z. written_under j.policy (whole_trace j z)) (sym (append-nil x)) ∙ ap (written_under j.policy) (owed_on j last x rest items v taken [] (λ _. refl))
     ∙ ap (λ z. written_under j.policy (z ++ owes v (rest ++ []))) stops.is ∙ stop_written j.policy stops.before ref (owes v (rest ++ [])) index scalar stops.policy stops.first in
     record {
-      made = λ d. record { is_output = output ∙ ap (λ z. output_bytes (tagged z)) (own ∙ sym all); is_log = logged ∙ ap (λ z. log_bytes (tagged z)) (own ∙ sym all) };
+      made = λ d. record { is_output = w.is_output ∙ ap (λ z. output_bytes (tagged z)) (own ∙ sym all); is_log = w.is_log ∙ ap (λ z. log_bytes (tagged z)) (own ∙ sym all) };
       counts = λ v. absurd (elim v [ inl e ↦ omega (arith, e, told.stopped) | inr e ↦ omega (arith, e, told.stopped) ]);
       faithful = λ e. absurd (omega (arith, e, told.stopped));
       lossy = λ e. absurd (omega (arith, e, told.stopped));
@@ -370,21 +339,23 @@ over_or_not false = inr refl
 
 -- what is told of a conversion that was handed out, by its stage
 stage_told : FirstLaw → (s : Stage) (j : Job) (last : Bool) (x rest y : List ℕ) (records : List Loss) (v : ConverterView) (items : List Item) (report : Report) (status : ℕ)
-    → HasTaken j last x rest items v → y ≡ output_under j.policy items → log_of_losses records ≡ log_under j.policy items → StandsAt s j v x items
+    → ConvertedSoFar j last x rest items v → WritesUnder j.policy items y (log_of_losses records) → IsAtStage s j v x items
     → (v.over ≡ true → IsOverWith v last rest) → TellsStage s v report status → ConvertsInMemory j x y records report status
-stage_told law Open j last x rest y records v items report status taken output logged stands over tells = elim (over_or_not v.over) [
+stage_told law Open j last x rest y records v items report status taken w stands over tells = elim (over_or_not v.over) [
   | inl is ↦
       let o : IsOverWith v last rest = over is in
-      let end : HasTaken j true x [] items v = subst (λ b. HasTaken j b x [] items v) o.last_ (subst (λ (z : List ℕ). HasTaken j last x z items v) o.none taken) in
+      let end : ConvertedSoFar j true x [] items v = subst (λ b. ConvertedSoFar j b x [] items v) o.last_ (subst (λ (z : List ℕ). ConvertedSoFar j last x z items v) o.none taken) in
       let all : items ≡ whole_trace j x = taken_whole j x items v end o.whole in
       let done = tells.done is in
-      all_told j x y records done.0 report status (output ∙ ap (output_under j.policy) all) (logged ∙ ap (log_under j.policy) all) (taken_report j x items v done.0 end o.whole done.1) done.2
-  | inr is ↦ nothing_said j x y records report status (not_done status (omega (arith, (tells.open_ is).1)) (λ e. omega (arith, e, (tells.open_ is).1)))
+      all_told j x y records done.0 report status
+      (record { is_output = w.is_output ∙ ap (λ z. output_bytes (tagged (written_under j.policy z))) all; is_log = w.is_log ∙ ap (λ z. log_bytes (tagged (written_under j.policy z))) all })
+      (taken_report j x items v done.0 end o.whole done.1) done.2
+  | inr is ↦ nothing_said j x y records report status (omega (arith, (tells.open_ is).1)) (λ e. omega (arith, e, (tells.open_ is).1))
 ]
-stage_told law (Stopped index scalar) j last x rest y records v items report status taken output logged stands over tells =
-    stop_told law j last x rest y records v items index scalar report status taken stands output logged tells
-stage_told law TooLong j last x rest y records v items report status taken output logged stands over tells =
-    nothing_said j x y records report status (not_done status (omega (arith, tells.1)) (λ e. omega (arith, e, tells.1)))
+stage_told law (Stopped index scalar) j last x rest y records v items report status taken w stands over tells =
+    stop_told law j last x rest y records v items index scalar report status taken stands w tells
+stage_told law TooLong j last x rest y records v items report status taken w stands over tells =
+    nothing_said j x y records report status (omega (arith, tells.1)) (λ e. omega (arith, e, tells.1))
 
 nil_or_not : {X : Type 0} (xs : List X) → (xs ≡ []) ⊎ (xs ≢ [])
 nil_or_not [] = inl refl
@@ -401,9 +372,8 @@ pub told_so_far : FirstLaw → (j : Job) (last : Bool) (x rest y : List ℕ) (re
     → TellsStatus c report status → ConvertsInMemory j x y records report status
 told_so_far law j last x rest y records c report status h tells = elim (nothing_held c) [
   | inl empty ↦ stage_told law c.stage j last x rest y records (view_in c) h.items report status h.taken
-      (sym (append-nil y) ∙ ap (λ z. y ++ z) (sym empty.0) ∙ h.written)
-      (ap log_of_losses (sym (append-nil records) ∙ ap (λ z. records ++ z) (sym empty.1)) ∙ h.logged) h.stage h.over (tells.empty empty)
-  | inr held ↦ nothing_said j x y records report status (not_done status (omega (arith, (tells.held held).1)) (λ e. omega (arith, e, (tells.held held).1)))
+      (given_all j.policy h.items y records c empty h.written) h.stage h.over (tells.empty empty)
+  | inr held ↦ nothing_said j x y records report status (omega (arith, (tells.held held).1)) (λ e. omega (arith, e, (tells.held held).1))
 ]
 
 -- ---- a call of a converter
@@ -424,10 +394,6 @@ pub record RunsTo (c0 c : Converter) (last : Bool) (src dst0 dst : List ℕ) (lo
 
 view_out : (c c' : Converter) (dst dst' : List ℕ) (losses losses' : List Loss) (p p' : ConverterProgress) → HandsOut c c' dst dst' losses losses' p p' → view_in c' ≡ view_in c
 view_out c c' dst dst' losses losses' p p' hands = ap (λ (z : Converter). view_in z) hands.rest
-
-length_none : {X : Type 0} (xs : List X) → length xs ≡ 0 → xs ≡ []
-length_none [] none = refl
-length_none (x ∷ xs) none = absurd (omega (arith, none))
 
 -- all that is held finds room if there is enough
 all_given : {X : Type 0} (held held' old new : List X) (to : ℕ) → FillsRoom held held' old new 0 to → length held ≤ length new → held' ≡ []
@@ -483,8 +449,8 @@ nothing_more held held' old new at to f none = length_none held' (omega (arith, 
 
 -- a turn, and what it leaves is handed out
 pub record Iterates (c m c' : Converter) (last : Bool) (src dst dst1 dst' : List ℕ) (losses losses' : List Loss) (read to : ℕ) (r : ConverterResult) (p p' : ConverterProgress) : Type 0 where
-  pub ready : IsReady c
-  pub turns : Turns c m last (drop p.read src) (drop read (drop p.read src)) dst dst1 p.written to r
+  pub ready : CanTurn c
+  pub turns : MakesTurn c m last (drop p.read src) (drop read (drop p.read src)) dst dst1 p.written to r
   pub within : read ≤ length (drop p.read src)
   pub hands : HandsOut m c' dst1 dst' losses losses' (record p { read = p.read + read; written = to }) p'
 
@@ -560,12 +526,12 @@ all_converted c0 c m c' last src dst0 dst dst1 dst' losses0 losses losses' read 
     other same = cc
 
 -- a turn over a slice of the rest, and what it leaves is handed out
-pub iterates : (c m c' : Converter) (last : Bool) (src rest dst dst1 dst' : List ℕ) (losses losses' : List Loss) (read to : ℕ) (r : ConverterResult) (p p' : ConverterProgress) → rest ≡ drop p.read src → IsReady c
-    → Turns c m last rest (drop read rest) dst dst1 p.written to r → read ≤ length rest → HandsOut m c' dst1 dst' losses losses' (record p { read = p.read + read; written = to }) p'
+pub iterates : (c m c' : Converter) (last : Bool) (src rest dst dst1 dst' : List ℕ) (losses losses' : List Loss) (read to : ℕ) (r : ConverterResult) (p p' : ConverterProgress) → rest ≡ drop p.read src → CanTurn c
+    → MakesTurn c m last rest (drop read rest) dst dst1 p.written to r → read ≤ length rest → HandsOut m c' dst1 dst' losses losses' (record p { read = p.read + read; written = to }) p'
     → Iterates c m c' last src dst dst1 dst' losses losses' read to r p p'
 iterates c m c' last src rest dst dst1 dst' losses losses' read to r p p' is ready turns within hands = record {
   ready = ready;
-  turns = subst (λ (x : List ℕ). Turns c m last x (drop read x) dst dst1 p.written to r) is turns;
+  turns = subst (λ (x : List ℕ). MakesTurn c m last x (drop read x) dst dst1 p.written to r) is turns;
   within = subst (λ (x : List ℕ). read ≤ length x) is within;
   hands = hands;
 }
@@ -580,7 +546,6 @@ told_as j last input rest out records c finished h = record {
   taken = h.taken;
   policy = h.policy;
   written = h.written;
-  logged = h.logged;
   stage = h.stage;
   over = h.over;
 }

@@ -5,12 +5,13 @@ use Rattle.encoding_mem.specs.Items.{Byte, Item}
 use Rattle.encoding_mem.specs.declared.reference.Reference.{Reference}
 use Rattle.recode_log.specs.declared.line.LogLine.{LogLine}
 use Rattle.recode_log.specs.declared.line.LogLine.TheVariants.{Bad, Lost}
-use Rattle.recode.specs.Converter.{AllIsConverted, ConverterView, ConvertsPart, WillKeep, found_items, owes}
+use Rattle.recode.specs.Converter.{AllIsConverted, ConverterView, ConvertsPart, found_items, owes}
 use Rattle.recode.specs.Policy.{reference_form}
 use Rattle.recode.specs.calls.ConverterView.{converter_view}
 use Rattle.recode.specs.declared.converter.ConverterResult.{ConverterResult}
 use Rattle.recode.specs.declared.converter.ConverterResult.TheVariants.{Found, InputEmpty, OutputFull}
-use Rattle.jillapun_c.specs.ConverterTurns.{ConvertsInto, IsReady, PassesLimit, TakesEnd, TurnEnds, Turns, found_log, found_reference, line_reference, stage_at}
+use Rattle.recode.specs.laws.Calls.{part_none, part_then}
+use Rattle.jillapun_c.specs.ConverterTurns.{ConvertsInto, CanTurn, PassesLimit, TakesEnd, TurnEnds, MakesTurn, found_log, found_reference, line_reference, stage_at}
 use Rattle.jillapun_c.specs.Converters.{HoldsNothing, held_losses, view_in}
 use Rattle.jillapun_c.specs.Losses.{log_of_losses}
 use Rattle.jillapun_c.specs.declared.converter.Converter.{Converter}
@@ -19,16 +20,8 @@ use Rattle.jillapun_c.specs.declared.converter.Stage.TheVariants.{TooLong}
 -- a call for a first part of some bytes, which was not the last, is one for all of them
 and_more : (v v' : ConverterView) (last : Bool) (bytes rest more : List ℕ) (items : List Item) → ConvertsPart v v' false bytes rest items
     → ConvertsPart v v' last (bytes ++ more) (rest ++ more) items
-and_more v v' last bytes rest more items p = record {
-  job = p.job;
-  owed = λ r none. ap (owes v) (append_assoc bytes more r) ∙ p.owed (more ++ r) (λ is. absurd (cc is)) ∙ ap (λ x. items ++ owes v' x) (sym (append_assoc rest more r));
-  verdict = λ r none. subst (λ x. WillKeep v x ↔ WillKeep v' ((rest ++ more) ++ r)) (sym (append_assoc bytes more r))
-      (subst (λ x. WillKeep v (bytes ++ (more ++ r)) ↔ WillKeep v' x) (sym (append_assoc rest more r)) (p.verdict (more ++ r) (λ is. absurd (cc is))));
-  source = λ r none. ap v.state.source (append_assoc bytes more r) ∙ p.source (more ++ r) (λ is. absurd (cc is)) ∙ ap v'.state.source (sym (append_assoc rest more r));
-  counted = omega (arith, p.counted, length-append bytes more, length-append rest more);
-  lines = p.lines;
-  ended = λ is. absurd (cc (p.ended is).0);
-}
+and_more v v' last bytes rest more items p = subst (λ (x : List Item). ConvertsPart v v' last (bytes ++ more) (rest ++ more) x) (append-nil items)
+    (part_then v v' v' false last bytes rest more (rest ++ more) items [] (λ is. absurd (cc is)) p (part_none v' last (rest ++ more) (λ is. absurd (cc (p.ended is).0))))
 
 -- the rest of a first part of some bytes, and what comes after that part, is their rest
 part_rest : (src : List ℕ) (count read : ℕ) → read ≤ length (take count src) → drop read (take count src) ++ drop count src ≡ drop read src
@@ -47,7 +40,7 @@ whole_law v v' last a false src count read items within whole part p =
     subst (λ x. ConvertsPart v v' last x (drop read src) items) (take-append-drop count src)
     (subst (λ x. ConvertsPart v v' last (take count src ++ drop count src) x items) (part_rest src count read within) more)
 
-length_none : {X : Type 0} (xs : List X) → length xs ≡ 0 → xs ≡ []
+pub length_none : {X : Type 0} (xs : List X) → length xs ≡ 0 → xs ≡ []
 length_none [] none = refl
 length_none (x ∷ xs) none = absurd (omega (arith, none))
 
@@ -67,7 +60,7 @@ turn_of : (c m c' : Converter) (last : Bool) (src rest dst dst' bytes more : Lis
     → ConvertsPart (view_in c) (view_in m) last src rest (map Byte bytes ++ found_items (reference_form (view_in c).job.policy) result)
     → take to dst' ++ m.held ≡ take at dst ++ bytes → at ≤ to → to ≤ length dst' → drop to dst' ≡ drop to dst → m.policy ≡ c.policy
     → c'.stream ≡ m.stream → c'.policy ≡ m.policy → c'.held ≡ m.held ++ more → more ≡ found_reference c.policy result → log_of_losses (held_losses c') ≡ found_log result
-    → TurnEnds c c' last src rest result → ((result ≡ InputEmpty) × HoldsNothing c') ⊎ (0 < length bytes + length (found_items (reference_form (view_in c).job.policy) result)) → Turns c c' last src rest dst dst' at to result
+    → TurnEnds c c' last src rest result → ((result ≡ InputEmpty) × HoldsNothing c') ⊎ (0 < length bytes + length (found_items (reference_form (view_in c).job.policy) result)) → MakesTurn c c' last src rest dst dst' at to result
 turn_of c m c' last src rest dst dst' bytes more at to result law written from fits behind policy stream same held reference logged ends some = record {
   bytes = bytes;
   law = subst (λ s. ConvertsPart (view_in c) (converter_view s) last src rest (map Byte bytes ++ found_items (reference_form (view_in c).job.policy) result)) (sym stream) law;
@@ -87,7 +80,7 @@ turn_of c m c' last src rest dst dst' bytes more at to result law written from f
 
 -- the call that a turn makes, for what the limit allows of some bytes
 pub record Calls (c m : Converter) (last a all : Bool) (src : List ℕ) (count read : ℕ) (dst dst' : List ℕ) (at to : ℕ) (result : ConverterResult) : Type 0 where
-  pub ready : IsReady c
+  pub ready : CanTurn c
   pub within : read ≤ length (take count src)
   pub most : count < length src → (view_in c).state.counts.read + count ≡ (view_in c).job.limit
   pub whole : all ≡ true → (count ≡ length src) × (a ≡ last)
@@ -100,7 +93,7 @@ law_of : (c m : Converter) (last a all : Bool) (src : List ℕ) (count read : �
 law_of c m last a all src count read dst dst' at to result k =
     whole_law (view_in c) (view_in m) last a all src count read _ k.within k.whole (λ is. (k.part is).1) k.into.law
 
-no_record : (c m : Converter) → IsReady c → m ≡ record c { stream = m.stream; held = m.held } → log_of_losses (held_losses m) ≡ []
+no_record : (c m : Converter) → CanTurn c → m ≡ record c { stream = m.stream; held = m.held } → log_of_losses (held_losses m) ≡ []
 no_record c m ready same = ap (λ (z : Converter). log_of_losses (held_losses z)) same ∙ ap log_of_losses ready.empty.1
 
 -- all that was handed in is converted
@@ -146,7 +139,7 @@ found_some ref (Lost index scalar) = omega arith
 
 -- a turn: the call, and what is done about how it ended
 pub turned : (c m c' : Converter) (last a all : Bool) (src : List ℕ) (count read : ℕ) (dst dst' : List ℕ) (at to : ℕ) (result : ConverterResult)
-    → Calls c m last a all src count read dst dst' at to result → TakesEnd m c' result all → Turns c c' last src (drop read src) dst dst' at to result
+    → Calls c m last a all src count read dst dst' at to result → TakesEnd m c' result all → MakesTurn c c' last src (drop read src) dst dst' at to result
 turned c m c' last a true src count read dst dst' at to InputEmpty k takes =
     turn_of c m c' last src (drop read src) dst dst' k.into.bytes [] at to InputEmpty (law_of c m last a true src count read dst dst' at to InputEmpty k) k.into.written k.into.from k.into.fits k.into.behind
     (ap (λ (z : Converter). z.policy) k.into.same) (ap (λ (z : Converter). z.stream) takes) (ap (λ (z : Converter). z.policy) takes) (ap (λ (z : Converter). z.held) takes ∙ sym (append-nil m.held)) refl

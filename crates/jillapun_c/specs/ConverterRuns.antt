@@ -3,7 +3,7 @@ use Rattle.std.specs.Prelude.{◌≡◌, ◌⊎◌, ◌<◌, ℕ, Bool, true, fa
 use Rattle.encoding_mem.specs.Items.{Item}
 use Rattle.encoding_tables.specs.IndexLists.{IndexLists}
 use Rattle.recode_log.specs.declared.line.LogLine.TheVariants.{Lost}
-use Rattle.recode.specs.Converter.{AllIsConverted, ConverterView, HasTaken, IsWhole, found_items}
+use Rattle.recode.specs.Converter.{AllIsConverted, ConverterView, ConvertedSoFar, IsWhole, found_items}
 use Rattle.recode.specs.Job.{log_of, output_of}
 use Rattle.recode.specs.Policy.{reference_form, written_under}
 use Rattle.recode.specs.TaggedByte.{IsPrefix, log_bytes, output_bytes, tagged}
@@ -26,23 +26,23 @@ use Rattle.jillapun_c.specs.declared.report.Report.{Report}
 use Rattle.jillapun_c.specs.declared.status.TheConstants.{IN_USE, NO_MEMORY, OK}
 
 -- the input is longer than the limit, and all that the limit allows is converted
-pub record IsTooLong (j : Job) (v : ConverterView) (input : List ℕ) : Type 0 where
+pub record ExceedsLimit (j : Job) (v : ConverterView) (input : List ℕ) : Type 0 where
   pub long : j.limit < length input
   pub read : v.state.counts.read ≡ j.limit
   pub all : AllIsConverted v [] false
 
 -- the policy stops, and these items end with the first character that is lost
-pub record StopsAt (p : Policy) (index scalar : ℕ) (items : List Item) : Type 0 where
+pub record EndsAtLoss (p : Policy) (index scalar : ℕ) (items : List Item) : Type 0 where
   pub policy : p ≡ Policy.Stop
   pub before : List Item
   pub first : lost_line_count before ≡ 0
   pub is : items ≡ before ++ found_items (reference_form p) (Found (Lost index scalar))
 
 -- what a stage says of all that was handed in and of the items of it that were converted
-abbrev pub StandsAt : Stage → Job → ConverterView → (input : List ℕ) → List Item → Type 0
-StandsAt Open j v input items = IsSpared j.policy items
-StandsAt (Stopped index scalar) j v input items = StopsAt j.policy index scalar items
-StandsAt TooLong j v input items = IsSpared j.policy items × IsTooLong j v input
+abbrev pub IsAtStage : Stage → Job → ConverterView → (input : List ℕ) → List Item → Type 0
+IsAtStage Open j v input items = IsSpared j.policy items
+IsAtStage (Stopped index scalar) j v input items = EndsAtLoss j.policy index scalar items
+IsAtStage TooLong j v input items = IsSpared j.policy items × ExceedsLimit j v input
 
 -- a conversion that is over was handed its end, has read all, and owes nothing
 pub record IsOverWith (v : ConverterView) (last : Bool) (rest : List ℕ) : Type 0 where
@@ -50,16 +50,20 @@ pub record IsOverWith (v : ConverterView) (last : Bool) (rest : List ℕ) : Type
   pub none : rest ≡ []
   pub whole : IsWhole v
 
+-- an output and a log are what a policy writes of some items
+pub record WritesUnder (p : Policy) (items : List Item) (output log : List ℕ) : Type 0 where
+  pub is_output : output ≡ output_bytes (tagged (written_under p items))
+  pub is_log : log ≡ log_bytes (tagged (written_under p items))
+
 -- The calls of a converter, from a new one of a job on, were handed this input, of which the rest is not read. They handed
 -- out this output and these records: with what the converter still holds, that is what its policy writes of the items that
 -- were converted.
 pub record HasConverted (j : Job) (last : Bool) (input rest output : List ℕ) (losses : List Loss) (c : Converter) : Type 0 where
   pub items : List Item
-  pub taken : HasTaken j last input rest items (view_in c)
+  pub taken : ConvertedSoFar j last input rest items (view_in c)
   pub policy : c.policy ≡ j.policy
-  pub written : output ++ c.held ≡ output_bytes (tagged (written_under j.policy items))
-  pub logged : log_of_losses (losses ++ held_losses c) ≡ log_bytes (tagged (written_under j.policy items))
-  pub stage : StandsAt c.stage j (view_in c) input items
+  pub written : WritesUnder j.policy items (output ++ c.held) (log_of_losses (losses ++ held_losses c))
+  pub stage : IsAtStage c.stage j (view_in c) input items
   pub over : (view_in c).over ≡ true → IsOverWith (view_in c) last rest
 
 -- a converter went on from some bytes to the rest of them, and handed out these bytes and records

@@ -18,7 +18,7 @@ use Rattle.jillapun_c.specs.declared.converter.Stage.{Stage}
 use Rattle.jillapun_c.specs.declared.converter.Stage.TheVariants.{Open, Stopped, TooLong}
 
 -- a converter can make a turn: all that it made was handed out, and its conversion goes on
-pub record IsReady (c : Converter) : Type 0 where
+pub record CanTurn (c : Converter) : Type 0 where
   pub empty : HoldsNothing c
   pub stage : c.stage ≡ Open
   pub over : (view_in c).over ≡ false
@@ -95,7 +95,7 @@ TurnEnds c c' last src rest (Found line) = (c'.stage ≡ stage_at c.policy line)
 
 -- A turn: of these bytes the rest is left. What was written stands in a room from a place on or waits for room, and so
 -- does the record of what was found. Less is owed then, unless all is converted and nothing waits.
-pub record Turns (c c' : Converter) (last : Bool) (src rest dst dst' : List ℕ) (at to : ℕ) (result : ConverterResult) : Type 0 where
+pub record MakesTurn (c c' : Converter) (last : Bool) (src rest dst dst' : List ℕ) (at to : ℕ) (result : ConverterResult) : Type 0 where
   pub bytes : List ℕ
   pub law : ConvertsPart (view_in c) (view_in c') last src rest (map Byte bytes ++ found_items (reference_form (view_in c).job.policy) result)
   pub written : take to dst' ++ c'.held ≡ take at dst ++ (bytes ++ found_reference c.policy result)

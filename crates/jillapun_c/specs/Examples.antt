@@ -1,6 +1,7 @@
 -- The numbers and the words of the definitions, worked.
 use Rattle.std.specs.Prelude.{◌≡◌, true, false, None, Some, [], ◌∷◌, codes, refl}
 use lib.Utf8.{encode}
+use Rattle.std.specs.Fmt.{digits}
 use Rattle.std.specs.Str.{chars, is_utf8}
 use Rattle.std.specs.Str.Lossy.{utf8_valid_len}
 use Rattle.encoding_index.specs.declared.fault.IndexFaultKind.TheVariants as fault
@@ -9,12 +10,16 @@ use Rattle.encoding_index.specs.IndexText.{memory_fault}
 use Rattle.encoding_tables.specs.declared.table_fault.TableFault.TheVariants as table
 use Rattle.encoding_front.specs.declared.encoding.Encoding.{Encoding}
 use Rattle.encoding_front.specs.declared.mark.Mark.{Mark}
+use Rattle.recode_log.specs.declared.line.LogLine.TheVariants.{Bad, Lost}
+use Rattle.recode.specs.declared.converter.ConverterResult.TheVariants.{Found, OutputFull}
 use Rattle.recode.specs.declared.job.Policy.{Policy}
 use Rattle.jillapun_c.specs.Asked.{policy_at}
+use Rattle.jillapun_c.specs.ConverterTurns.{found_log, line_reference, stage_at}
 use Rattle.jillapun_c.specs.EncodingNumbers.{encoding_at, mark_at, needed_file}
 use Rattle.jillapun_c.specs.IndexFiles.{told_of}
 use Rattle.jillapun_c.specs.Room.{rest_cleared}
 use Rattle.jillapun_c.specs.TextParts.{text_part, told_outcome}
+use Rattle.jillapun_c.specs.declared.converter.Stage.TheVariants.{Open, Stopped}
 use Rattle.jillapun_c.specs.declared.index_files.FileFault.TheVariants as told
 use Rattle.jillapun_c.specs.declared.converter.progress.TheConstants.ConverterProgress as converter_
 use Rattle.jillapun_c.specs.declared.encoder_progress.TheConstants.EncoderProgress as encoder_
@@ -130,3 +135,35 @@ two_are_cleared = refl
 
 pub three_are_cleared : rest_cleared (0x80 ∷ 0x80 ∷ 0x80 ∷ 0x80 ∷ []) ≡ 0 ∷ 0 ∷ 0 ∷ 0x80 ∷ []
 three_are_cleared = refl
+
+-- what a policy writes for what was found: a reference for a lost character, unless it stops; and what it comes to
+pub lost_in_decimal : line_reference Policy.Decimal (Lost 2 256) ≡ codes "&#256;"
+unfolding digits
+lost_in_decimal = refl
+
+pub lost_in_hexadecimal : line_reference Policy.Hexadecimal (Lost 2 256) ≡ codes "&#x100;"
+unfolding digits
+lost_in_hexadecimal = refl
+
+pub lost_at_a_stop : line_reference Policy.Stop (Lost 2 256) ≡ []
+lost_at_a_stop = refl
+
+pub malformed_has_no_reference : line_reference Policy.Decimal (Bad 4 1) ≡ []
+malformed_has_no_reference = refl
+
+pub stops_at_lost : stage_at Policy.Stop (Lost 2 256) ≡ Stopped 2 256
+stops_at_lost = refl
+
+pub goes_on_at_malformed : stage_at Policy.Stop (Bad 4 1) ≡ Open
+goes_on_at_malformed = refl
+
+pub goes_on_at_lost : stage_at Policy.Hexadecimal (Lost 2 256) ≡ Open
+goes_on_at_lost = refl
+
+-- the log of what a call found
+pub log_of_malformed : found_log (Found (Bad 4 1)) ≡ codes "bad 4 1\n"
+unfolding digits
+log_of_malformed = refl
+
+pub log_of_nothing : found_log OutputFull ≡ []
+log_of_nothing = refl

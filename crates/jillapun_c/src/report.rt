@@ -40,7 +40,8 @@ impl Report {
     };
 }
 
-/// The status of a conversion that the policy stopped at this character, and what is reported of it.
+/// The status of a conversion that the policy stopped at this character, and what is reported of
+/// it.
 pub(crate) fn told_stop(index: u64, scalar: char) -> (u8, Report)
     ensures { IsToldStop index scalar result.1 result.0 }
 {

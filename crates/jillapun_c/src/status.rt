@@ -15,8 +15,7 @@ pub const NOT_READY: u8 = 3;
 /// The text of an index has a fault, or that index was loaded already; the fault says in which
 /// line, or 0 if in none alone. Nothing was kept.
 pub const BAD_INDEX: u8 = 4;
-/// Memory was refused. Nothing was kept, and the call can be made again. A conversion by steps has
-/// ended.
+/// Memory was refused. Nothing was kept, and the call can be made again.
 pub const NO_MEMORY: u8 = 5;
 /// The handle holds nothing: it is zeroed, or was freed. Nothing was done.
 pub const CLOSED: u8 = 6;

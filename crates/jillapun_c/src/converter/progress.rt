@@ -10,8 +10,8 @@ pub struct ConverterProgress {
     pub written: usize,
     /// How many records were written to `losses`.
     pub losses: usize,
-    /// Whether room is wanted: bytes or records are left that did not fit. The next call hands them
-    /// out, and reads nothing.
+    /// Whether room is wanted: bytes or a record are left that did not fit. The next call hands
+    /// them out first.
     pub wants_room: bool,
 }
 

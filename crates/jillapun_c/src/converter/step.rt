@@ -21,7 +21,7 @@ use std::alloc::Global;
 
 impl Converter {
     // What a call is to read: what it was handed, and after the end nothing but the end.
-    fn to_read<'s>(&self, src: &'s [u8], last: bool) -> (&'s [u8], bool)
+    fn readable<'s>(&self, src: &'s [u8], last: bool) -> (&'s [u8], bool)
         ensures ended { (view_in self.now).ended ≡ true
             → (result.0.now ≡ []) × (result.1 ≡ true) }
         ensures open { (view_in self.now).ended ≡ false
@@ -148,7 +148,7 @@ fn convert_step(
     if converter.is_finished {
         return FINISHED;
     }
-    let (src, last) = converter.to_read(src, last);
+    let (src, last) = converter.readable(src, last);
     *progress = converter.run(src, last, dst, losses);
     let (status, counts) = converter.tell();
     converter.is_finished = status != GOES_ON;

@@ -3,8 +3,8 @@
 ghost use Rattle.std.specs.Prelude.{◌≡◌, ◌↔◌, ◌≤◌, ◌<◌, ◌+◌, [], IsTrue, drop, length, take, true};
 ghost use Rattle.recode.specs.Converter.{owes};
 ghost use Rattle.jillapun_c.specs.ConverterRuns.{Carries};
-ghost use Rattle.jillapun_c.specs.ConverterTurns.{ConvertsInto, IsReady, TakesFound, TakesEnd};
-ghost use Rattle.jillapun_c.specs.ConverterTurns.{Turns};
+ghost use Rattle.jillapun_c.specs.ConverterTurns.{ConvertsInto, CanTurn, TakesFound, TakesEnd};
+ghost use Rattle.jillapun_c.specs.ConverterTurns.{MakesTurn};
 ghost use Rattle.jillapun_c.specs.Converters.{ConvertsAll, view_in};
 ghost use Rattle.jillapun_c.specs.Room.{IsFilled};
 ghost use Rattle.jillapun_c.specs.declared.converter.Stage.TheVariants.{Open};
@@ -18,7 +18,7 @@ use recode::{ConverterResult, LogLine};
 impl Converter {
     // Whether a turn can be made: all that was made was handed out, and the conversion goes on.
     fn is_ready(&self) -> bool
-        ensures { IsTrue result ↔ IsReady self.now }
+        ensures { IsTrue result ↔ CanTurn self.now }
     {
         self.holds_nothing() && matches!(self.stage, Stage::Open) && !self.stream.is_over()
     }
@@ -44,7 +44,7 @@ impl Converter {
         at: usize,
     ) -> (ConverterResult, usize, usize)
         requires at { at ≤ length dst.old }
-        requires ready { IsReady self.old }
+        requires ready { CanTurn self.old }
         requires ended { (view_in self.old).ended ≡ true → (src.now ≡ []) × (last ≡ true) }
         requires limit { (view_in self.old).state.counts.read + length src.now
             ≤ (view_in self.old).job.limit }
@@ -110,9 +110,9 @@ impl Converter {
         at: usize,
     ) -> (ConverterResult, usize, usize)
         requires at { at ≤ length dst.old }
-        requires ready { IsReady self.old }
+        requires ready { CanTurn self.old }
         requires ended { (view_in self.old).ended ≡ true → (src.now ≡ []) × (last ≡ true) }
-        ensures turns { Turns self.old self.new last src.now (drop result.1 src.now)
+        ensures turns { MakesTurn self.old self.new last src.now (drop result.1 src.now)
             dst.old dst.new at result.2 result.0 }
         ensures within { result.1 ≤ length src.now }
     {

@@ -1,7 +1,5 @@
-use Rattle.std.proofs.Common.{◌≡◌, ◌∙◌, ◌++◌, List, [], ℕ, drop, false, subst, sym, take, true}
+use Rattle.std.proofs.Common.{[], false, true}
 use Rattle.std.proofs.lemmas.List.{take_rest}
-use Rattle.jillapun_c.specs.ConverterRuns.{HasConverted}
-use Rattle.jillapun_c.specs.declared.losses.Loss.{Loss}
 use Rattle.jillapun_c.proofs.ConverterRunLemmas.{handed_in, told_so_far}
 use Rattle.jillapun_c.proofs.in_memory.run_in_memory.Goals as goal
 

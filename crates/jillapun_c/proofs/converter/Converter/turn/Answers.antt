@@ -1,4 +1,4 @@
-use Rattle.std.proofs.Common.{◌∙◌, arith, rules, sym}
+use Rattle.std.proofs.Common.{◌∙◌, arith, sym}
 use Rattle.std.proofs.lemmas.Bool.Decides.{nat_tests}
 use Rattle.jillapun_c.proofs.ConverterTurnLemmas.{turned}
 use Rattle.jillapun_c.proofs.converter.Converter.turn.Goals as goal

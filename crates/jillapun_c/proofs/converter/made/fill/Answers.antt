@@ -1,4 +1,4 @@
-use Rattle.std.proofs.Common.{arith, ◌∙◌}
+use Rattle.std.proofs.Common.{arith}
 use Rattle.jillapun_c.proofs.RoomLemmas.{fills}
 use Rattle.jillapun_c.proofs.converter.made.fill.Goals as goal
 

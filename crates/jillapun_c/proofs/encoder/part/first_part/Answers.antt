@@ -1,4 +1,4 @@
-use Rattle.std.proofs.Common.{◌≡◌, ◌*◌, ◌<◌, ◌==◌, ℕ, Bool, true, false, List, length, inl, inr, refl, sym, ◌∙◌, arith}
+use Rattle.std.proofs.Common.{◌≡◌, ◌*◌, ◌<◌, ◌==◌, ℕ, Bool, true, false, length, inl, inr, refl, sym, ◌∙◌, arith}
 use Rattle.std.proofs.lemmas.Bool.{cases_lt, eqb-true, eq-eqb}
 use Rattle.jillapun_c.proofs.TextPartLemmas.{begins_malformed, nothing_to_take, part_for_room}
 use Rattle.jillapun_c.proofs.encoder.part.first_part.Goals as goal

@@ -1,4 +1,4 @@
-use Rattle.std.proofs.Common.{◌≡◌, ◌*◌, ℕ, ap, sym, ◌∙◌, arith, false, length, subst, Some}
+use Rattle.std.proofs.Common.{◌≡◌, ◌*◌, ap, sym, ◌∙◌, arith, false, length, subst, Some}
 use Rattle.encoding_mem.specs.Conversions.{text_prefix}
 use Rattle.jillapun_c.specs.Coders.{encoder_in}
 use Rattle.jillapun_c.specs.EncoderCalls.{EncodesAll}

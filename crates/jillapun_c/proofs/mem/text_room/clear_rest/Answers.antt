@@ -1,4 +1,4 @@
-use Rattle.std.proofs.Common.{sym, ◌∙◌, ap}
+use Rattle.std.proofs.Common.{◌∙◌, ap}
 use Rattle.jillapun_c.specs.Room.{rest_cleared}
 use Rattle.jillapun_c.proofs.TextRoomLemmas.{put_cleared, put_fits, put_prefix, text_is_put}
 use Rattle.jillapun_c.proofs.mem.text_room.clear_rest.Goals as goal
