@@ -15,9 +15,12 @@ use recode::Job;
 use recode::laws::stops_at_first_loss;
 use std::alloc::{AllocError, Global};
 
-// How many bytes and how many records a step has room for.
-const STEP_SIZE: usize = 4096;
+// How many bytes a step has room for, at least and at most.
+const LEAST_ROOM: usize = 64;
 
+const MOST_ROOM: usize = 16384;
+
+// How many records a step has room for.
 const STEP_LOSSES: usize = 16;
 
 // What a conversion made.
@@ -29,9 +32,15 @@ struct Made {
     losses: Vec<Loss>,
 }
 
-// Converts in memory of its own, step by step.
-fn run_in_memory(alloc: Global, job: Job<'static>, src: &[u8]) -> Result<Made, AllocError>
-    requires { IsValidJob job }
+// Converts step by step, through a room that is lent, into memory of its own.
+fn run_in_room(
+    alloc: Global,
+    job: Job<'static>,
+    src: &[u8],
+    room: &mut [u8],
+) -> Result<Made, AllocError>
+    requires job { IsValidJob job }
+    requires room { 32 ≤ length room.old }
     ensures { IfOk result (λ made. ConvertsInMemory job.entry src.now made.output.items
         made.losses.items made.report made.status) }
 {
@@ -39,11 +48,10 @@ fn run_in_memory(alloc: Global, job: Job<'static>, src: &[u8]) -> Result<Made, A
     let mut converter = Converter::new(job);
     let mut output = Vec::new(alloc);
     let mut losses = Vec::new(alloc);
-    let mut room = [0; STEP_SIZE];
     let mut records = [Loss::NONE; STEP_LOSSES];
     let mut rest = src;
     'steps: loop {
-        let progress = converter.run(rest, true, &mut room, &mut records);
+        let progress = converter.run(rest, true, room, &mut records);
         output.extend_from_slice(&room[..progress.written])?;
         losses.extend_from_slice(&records[..progress.losses])?;
         rest = &rest[progress.read..];
@@ -58,6 +66,17 @@ fn run_in_memory(alloc: Global, job: Job<'static>, src: &[u8]) -> Result<Made, A
         output,
         losses,
     })
+}
+
+// Converts in memory of its own, through a room as large as the input, within bounds.
+fn run_in_memory(alloc: Global, job: Job<'static>, src: &[u8]) -> Result<Made, AllocError>
+    requires { IsValidJob job }
+    ensures { IfOk result (λ made. ConvertsInMemory job.entry src.now made.output.items
+        made.losses.items made.report made.status) }
+{
+    let size = src.len().max(LEAST_ROOM).min(MOST_ROOM);
+    let mut room = vec![in alloc; 0; size]?;
+    run_in_room(alloc, job, src, &mut room)
 }
 
 // Puts what was made at the start of the caller's memory, if there is room for it, and reports how

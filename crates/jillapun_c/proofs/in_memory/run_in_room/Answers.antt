@@ -1,7 +1,7 @@
 use Rattle.std.proofs.Common.{[], false, true}
 use Rattle.std.proofs.lemmas.List.{take_rest}
 use Rattle.jillapun_c.proofs.ConverterRunLemmas.{handed_in, told_so_far}
-use Rattle.jillapun_c.proofs.in_memory.run_in_memory.Goals as goal
+use Rattle.jillapun_c.proofs.in_memory.run_in_room.Goals as goal
 
 pub steps-init : goal.steps-init
 steps-init c = rw (c.new-output.ensures.items, c.new-losses.ensures.items)
