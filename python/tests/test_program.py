@@ -317,7 +317,13 @@ class Streams(Programs):
     def in_the_middle(self, number: int) -> Tuple[int, bytes]:
         """The status of the program that a signal meets while it waits to tell more, and what it leaves to standard
         error."""
-        pipes = {"stdout": subprocess.PIPE, "stderr": subprocess.PIPE}
+
+        def heed() -> None:
+            # What starts the tests may ignore them, as nohup does, and so would the program.
+            for ignored in (signal.SIGINT, signal.SIGTERM, signal.SIGHUP):
+                signal.signal(ignored, signal.SIG_DFL)
+
+        pipes = {"stdout": subprocess.PIPE, "stderr": subprocess.PIPE, "preexec_fn": heed}
         with subprocess.Popen([*COMMAND, "--lossy", self.path], env=ENVIRONMENT, **pipes) as process:
             end = time.monotonic() + PATIENCE
             while len(os.listdir(self.folder)) < 2 and time.monotonic() < end:
