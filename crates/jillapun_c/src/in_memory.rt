@@ -46,7 +46,7 @@ fn run_in_room(
 {
     stops_at_first_loss();
     let mut converter = Converter::new(job);
-    let mut output = Vec::with_capacity(alloc, src.len())?;
+    let mut output = Vec::new(alloc);
     let mut losses = Vec::new(alloc);
     let mut records = [Loss::NONE; STEP_LOSSES];
     let mut rest = src;

@@ -4,7 +4,7 @@ use Rattle.jillapun_c.proofs.ConverterRunLemmas.{handed_in, told_so_far}
 use Rattle.jillapun_c.proofs.in_memory.run_in_room.Goals as goal
 
 pub steps-init : goal.steps-init
-steps-init c = rw (c.in_ok-output.ensures.items, c.new-losses.ensures.items)
+steps-init c = rw (c.new-output.ensures.items, c.new-losses.ensures.items)
     (handed_in c.args.job false true [] [] c.args.src.now [] [] c.new-converter.result (λ is. absurd (cc is)) c.new-converter.ensures.so_far)
 
 pub steps-preserved : goal.steps-preserved
