@@ -1,10 +1,10 @@
 -- Two writes of neighbouring parts are one write of both. How long a line can be, and what stays after a part that
 -- is written. What is read of a row that has been written: its two numbers, on either side of the first space.
-use Rattle.std.proofs.Common.{◌≡◌, ◌≤◌, arith, length-drop, ℕ, ◌+◌, ◌-◌, List, ◌++◌, length, take, drop, Option, ap, sym, ◌∙◌, subst, ◌<◌, ◌^◌, length-append, false, [], ◌∷◌, get_or, codes, Some, add-one, drop-cons, append_assoc, position, ◌==◌}
+use Rattle.std.proofs.Common.{◌≡◌, ◌≤◌, arith, length-drop, ℕ, ◌+◌, ◌-◌, List, ◌++◌, length, take, drop, Option, ap, sym, ◌∙◌, subst, ◌<◌, ◌^◌, length-append, false, [], ◌∷◌, get_or, codes, Some, add-one, drop-cons, append_assoc, append-nil, None, position, ◌==◌}
 use Rattle.std.proofs.Math.Seq.{take-add, get_or-append_seam, take-append_seam, drop-append-add}
 use Rattle.std.proofs.lemmas.List.{take_rest, drop-drop, append_cancel_left, append_cancel_right, take-append-drop}
 use Rattle.std.proofs.KnownBytes.{Appends-trans}
-use Rattle.std.specs.Io.KnownBytes.{Appends}
+use Rattle.std.specs.Io.KnownBytes.{Appends, Keeps}
 use Rattle.std.proofs.lemmas.Fmt.{length-decimal-le, digits_decimal}
 use Rattle.std.specs.Fmt.{decimal}
 use Rattle.recode_log.specs.Line.{row_bytes, two_numbers}
@@ -23,6 +23,36 @@ appends_more a b c i n xs p q =
     let same : take i xs ++ take n (take (length xs - i) (drop i xs)) ≡ take (i + n) xs =
     ap (λ l. take i xs ++ take n l) (take_rest xs i) ∙ sym (take-add i n xs) in
     subst (Appends a c) same (Appends-trans a b c _ _ p q)
+
+-- and so it is with what was passed
+pub passed_more : (a b c : List ℕ) (i n : ℕ) (xs : List ℕ) → b ≡ a ++ take i xs
+    → c ≡ b ++ take n (take (length xs - i) (drop i xs)) → c ≡ a ++ take (i + n) xs
+passed_more a b c i n xs p q = appends_more (Some a) (Some b) (Some c) i n xs p q
+
+-- what was written stays after a write that takes none, and after one that fails
+pub appends_none : (a b c : Option (List ℕ)) (n : ℕ) (buf xs : List ℕ) → n ≤ 0 → Appends a b xs → Appends b c (take n buf) → Appends a c xs
+appends_none a b c n buf xs none p q =
+    let zero : n ≡ 0 = omega (arith, none) in
+    subst (Appends a c) (ap (λ k. xs ++ take k buf) zero ∙ append-nil xs) (Appends-trans a b c xs (take n buf) p q)
+
+pub appends_kept : (a b c : Option (List ℕ)) (xs : List ℕ) → Appends a b xs → Keeps b c → Appends a c xs
+appends_kept None b c xs p q = tt
+appends_kept (Some x) None c xs p q = absurd p
+appends_kept (Some x) (Some y) None xs p q = absurd q
+appends_kept (Some x) (Some y) (Some z) xs p q = q ∙ p
+
+pub passed_none : (a b c : List ℕ) (n : ℕ) (buf xs : List ℕ) → n ≤ 0 → b ≡ a ++ xs → c ≡ b ++ take n buf → c ≡ a ++ xs
+passed_none a b c n buf xs none p q = appends_none (Some a) (Some b) (Some c) n buf xs none p q
+
+-- no bytes of a buffer
+pub none_of : (n : ℕ) (buf : List ℕ) → n ≤ 0 → take n buf ≡ []
+none_of n buf none =
+    let zero : n ≡ 0 = omega (arith, none) in
+    ap (λ k. take k buf) zero
+
+-- a write of what is left has room for some
+pub some_left : (i : ℕ) (xs : List ℕ) → i < length xs → 0 < length (take (length xs - i) (drop i xs))
+some_left i xs within = omega (arith, ap length (take_rest xs i), length-drop i xs)
 
 pub taken_within : (i n : ℕ) (xs : List ℕ) → i ≤ length xs → n ≤ length (take (length xs - i) (drop i xs)) → i + n ≤ length xs
 taken_within i n xs h p =

@@ -1,14 +1,24 @@
 -- What a clause reads of a `Counted`, and what is left of a message.
 use Rattle.std.specs.Prelude.{◌≡◌, ◌⊎◌, ℕ, ◌+◌, ◌<◌, List, length, take}
+use Rattle.std.specs.List.{concat}
+use Rattle.recode_log.specs.Call.{Call, passed_by}
 use Rattle.recode_log.specs.declared.counted.Counted.{Counted}
 
 -- the reader or the writer that a `Counted` wraps
 abbrev pub inner_of : {T : Type 0} → Counted T → T
-inner_of c = c.inner
+inner_of c = c.recorded.inner
 
 -- how many calls of the reader or the writer that a `Counted` wraps have failed
 abbrev pub failures_of : {T : Type 0} → Counted T → ℕ
 failures_of c = c.failures
+
+-- the history of the reader or the writer that a `Counted` wraps: its calls, in their order
+abbrev pub history_of : {T : Type 0} → Counted T → List Call
+history_of c = c.recorded.history.calls
+
+-- all the bytes that a reader gave, or a writer took
+abbrev pub passed_of : {T : Type 0} → Counted T → List ℕ
+passed_of c = concat (passed_by (history_of c))
 
 -- the first `told` bytes of a message were told: all of it and no call failed, or not all and one did
 abbrev pub IsTold : (before after : ℕ) (message : List ℕ) (told : ℕ) → Type 0

@@ -1,3 +1,6 @@
+pub mod Call
 pub mod Counted
 pub mod Line
+pub mod calls
 pub mod examples
+pub mod laws

@@ -1,9 +1,10 @@
 //! Writes all of some bytes, or as much of a message as a writer takes.
 
-ghost use Rattle.std.specs.Prelude.{◌≡◌, ℕ, ◌+◌, ◌-◌, ◌^◌, ◌<◌, ◌≤◌, [], take, length};
+ghost use Rattle.std.specs.Prelude.{◌≡◌, ℕ, ◌+◌, ◌-◌, ◌^◌, ◌<◌, ◌≤◌, [], ◌++◌, take, length};
 ghost use Rattle.std.specs.Prelude.{IsOk, OnOk, OnErr, IfErr};
 ghost use Rattle.std.specs.Io.KnownBytes.{Appends};
-ghost use Rattle.recode_log.specs.Counted.{IsTold, inner_of, failures_of};
+ghost use Rattle.recode_log.specs.Call.{EndsInFailedWrite};
+ghost use Rattle.recode_log.specs.Counted.{IsTold, inner_of, failures_of, history_of, passed_of};
 
 use crate::counted::Counted;
 use std::io::Write;
@@ -11,17 +12,21 @@ use std::io::Write;
 /// Writes all of the bytes, in as many calls as the writer needs, and none for no bytes.
 ///
 /// Returns `fault` at the first call that fails, an interrupted one too. The writer then took
-/// exactly a prefix of the bytes, and not all of them. The condition, that fewer than 2^64 - 1
-/// calls of the writer have failed, is tested by `Counted::failures`.
+/// exactly a prefix of the bytes, and not all of them, and that call is the last of its history.
+/// The condition, that fewer than 2^64 - 1 calls of the writer have failed, is tested by
+/// `Counted::failures`.
 pub fn deliver<W: Write, F: Drop>(writer: &mut Counted<W>, bytes: &[u8], fault: F) -> Result<(), F>
     requires { failures_of writer.old < 2 ^ 64 - 1 }
     ensures ok { OnOk result (
         Appends (W.contents (inner_of writer.old)) (W.contents (inner_of writer.new)) bytes.now
-        × (failures_of writer.new ≡ failures_of writer.old)) }
+        × (failures_of writer.new ≡ failures_of writer.old)
+        × (passed_of writer.new ≡ passed_of writer.old ++ bytes.now)) }
     ensures err { OnErr result ((n : ℕ) × (n < length bytes.now)
         × Appends (W.contents (inner_of writer.old)) (W.contents (inner_of writer.new))
         (take n bytes.now)
-        × (failures_of writer.new ≡ failures_of writer.old + 1)) }
+        × (failures_of writer.new ≡ failures_of writer.old + 1)
+        × (passed_of writer.new ≡ passed_of writer.old ++ take n bytes.now)) }
+    ensures failed { OnErr result (EndsInFailedWrite (history_of writer.new)) }
     ensures fault { IfErr result (λ f. f ≡ fault) }
     ensures empty { bytes.now ≡ [] → IsOk result × (writer.new ≡ writer.old) }
 {
@@ -43,7 +48,8 @@ pub fn tell<W: Write>(writer: &mut Counted<W>, message: &[u8])
     ensures { (n : ℕ)
         × IsTold (failures_of writer.old) (failures_of writer.new) message.now n
         × Appends (W.contents (inner_of writer.old)) (W.contents (inner_of writer.new))
-        (take n message.now) }
+        (take n message.now)
+        × (passed_of writer.new ≡ passed_of writer.old ++ take n message.now) }
 {
     match deliver(writer, message, ()) {
         Ok(()) => {}

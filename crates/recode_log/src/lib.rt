@@ -1,6 +1,6 @@
-//! What stands at the edge of a conversion: readers and writers whose failed calls are counted
-//! (`Counted`), bytes that are written, all of them or a prefix (`deliver::deliver`), messages
-//! (`deliver::tell`), and the lines of the log (`LogLine`).
+//! What stands at the edge of a conversion: readers and writers with their histories, whose failed
+//! calls are counted (`Counted`), bytes that are written, all of them or a prefix
+//! (`deliver::deliver`), messages (`deliver::tell`), and the lines of the log (`LogLine`).
 //!
 //! # Use
 //!
@@ -22,8 +22,10 @@
 
 pub mod counted;
 pub mod deliver;
+mod history;
 pub mod laws;
 pub mod line;
+mod recorded;
 
 pub use counted::Counted;
 pub use line::{GREATEST_OFFSET, LogLine};

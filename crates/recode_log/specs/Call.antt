@@ -1,0 +1,47 @@
+-- What the calls of a reader or a writer did: the history of a device.
+use Rattle.std.specs.Prelude.{◌≡◌, ℕ, ◌<◌, List, [], ◌∷◌, ◌++◌, Bool, true, false, IsTrue, Result, Ok, Err, length, take}
+
+-- One call of a device: a read or a write that passed the first bytes of its buffer, or that failed, each with the
+-- length of the buffer, or a flush, and whether it failed.
+pub data Call : Type 0 where
+  Passed : (room : ℕ) (bytes : List ℕ) → Call
+  Failed : (room : ℕ) → Call
+  Flush : (failed : Bool) → Call
+
+-- the read or the write with this buffer and this answer
+abbrev pub call_of : {E : Type 0} → Result ℕ E → List ℕ → Call
+call_of (Ok n) buf = Passed (length buf) (take n buf)
+call_of (Err e) buf = Failed (length buf)
+
+-- the flush with this answer
+abbrev pub flush_of : {T E : Type 0} → Result T E → Call
+flush_of (Ok done) = Flush false
+flush_of (Err e) = Flush true
+
+-- one call was made, a read or a write with this buffer, and this is what it answered
+abbrev pub CallsOnce : {E : Type 0} → (before after : List Call) → Result ℕ E → List ℕ → Type 0
+CallsOnce before after r buf = after ≡ before ++ (call_of r buf ∷ [])
+
+-- one call was made, a flush, and this is what it answered
+abbrev pub FlushesOnce : {T E : Type 0} → (before after : List Call) → Result T E → Type 0
+FlushesOnce before after r = after ≡ before ++ (flush_of r ∷ [])
+
+-- the bytes of each read or write of a history that did not fail, in their order
+abbrev pub passed_by : List Call → List (List ℕ)
+passed_by [] = []
+passed_by (Passed room bytes ∷ calls) = bytes ∷ passed_by calls
+passed_by (Failed room ∷ calls) = passed_by calls
+passed_by (Flush failed ∷ calls) = passed_by calls
+
+-- a write or a flush failed: it returned an error, or it was a write of some bytes that took none
+abbrev pub IsFailedWrite : Call → Type 0
+IsFailedWrite (Passed room bytes) = (0 < room) × (bytes ≡ [])
+IsFailedWrite (Failed room) = Unit {0}
+IsFailedWrite (Flush failed) = IsTrue failed
+
+-- the last call of the history of a writer failed
+pub record EndsInFailedWrite (calls : List Call) : Type 0 where
+  pub earlier : List Call
+  pub last : Call
+  pub ends : calls ≡ earlier ++ (last ∷ [])
+  pub failed : IsFailedWrite last

@@ -1,0 +1,2 @@
+-- What the layers of this crate keep for one another.
+pub mod CallCode

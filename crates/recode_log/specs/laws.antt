@@ -1,0 +1,2 @@
+-- Theorems about the definitions of `specs/`, for the crates above.
+pub mod Calls
