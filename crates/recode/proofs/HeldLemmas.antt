@@ -161,25 +161,25 @@ none_held n buffer e = ap (λ k. take k buffer) e
 
 -- The line that is held, all of it or a part.
 module _ {T : Type 0} (r : Result T Fault) (o l l' : Option (List ℕ)) (line : Option MalformedLine) (held bytes : List ℕ) (failures failures' : ℕ) (is : bytes ≡ held_line_bytes line) where
-  pub line_whole : OnOk r (Appends l l' bytes × (failures' ≡ failures)) → OnOk r (Passes (record { written = record { output = o; log = l }; line = line; bytes = held }) (record { written = record { output = o; log = l' }; line = None; bytes = held }) [])
-  line_whole k = on_ok r k (λ q. delivers_line o l l' line held (subst (Appends l l') is q.0))
+  pub line_whole : (X : Type 0) → OnOk r (Appends l l' bytes × (failures' ≡ failures) × X) → OnOk r (Passes (record { written = record { output = o; log = l }; line = line; bytes = held }) (record { written = record { output = o; log = l' }; line = None; bytes = held }) [])
+  line_whole X k = on_ok r k (λ q. delivers_line o l l' line held (subst (Appends l l') is q.0))
 
-  pub line_part : (p : Policy) → IfErr r (λ (g : Fault). g ≡ Log) → OnErr r ((n : ℕ) × (n < length bytes) × Appends l l' (take n bytes) × (failures' ≡ failures + 1))
+  pub line_part : (Y : ℕ → Type 0) (p : Policy) → IfErr r (λ (g : Fault). g ≡ Log) → OnErr r ((n : ℕ) × (n < length bytes) × Appends l l' (take n bytes) × (failures' ≡ failures + 1) × Y n)
       → IfErr r (λ (g : Fault). (to_write : List Item) → WritesPrefix (record { output = o; log = l }) (record { output = o; log = l' }) p g ((line_items line ++ map Byte held) ++ to_write))
-  line_part p is_log k = on_err r is_log k (λ g same q to_write.
+  line_part Y p is_log k = on_err r is_log k (λ g same q to_write.
       let e : (line_items line ++ map Byte held) ++ to_write ≡ line_items line ++ (map Byte held ++ to_write) = append_assoc (line_items line) (map Byte held) to_write in
       let spared : lost_line_count (line_items line) ≡ 0 = ap lost_line_count (sym (append-nil (line_items line))) ∙ line_spared line [] in
       under_lines o l l' p g bytes q.0 (line_items line) _ (written_under p (map Byte held ++ to_write)) same (held_line_is line ∙ ap (map Line) (sym is)) (ap (written_under p) e ∙ written_spared p (line_items line) _ (λ stops. spared)) q.2)
 
 -- A line after the line that is held, both of them or a part: no bytes are held.
 module _ {T : Type 0} (r : Result T Fault) (o l l' : Option (List ℕ)) (held : Option MalformedLine) (bytes lines : List ℕ) (line : LogLine) (failures failures' : ℕ) (none : bytes ≡ []) (is : lines ≡ held_line_bytes held ++ line_bytes line) where
-  pub lines_whole : OnOk r (Appends l l' lines × (failures' ≡ failures))
+  pub lines_whole : (X : Type 0) → OnOk r (Appends l l' lines × (failures' ≡ failures) × X)
       → OnOk r (Passes (record { written = record { output = o; log = l }; line = held; bytes = bytes }) (record { written = record { output = o; log = l' }; line = None; bytes = bytes }) (item_of line ∷ []))
-  lines_whole k = on_ok r k (λ q. writes_lines o l l' held bytes lines line none is q.0)
+  lines_whole X k = on_ok r k (λ q. writes_lines o l l' held bytes lines line none is q.0)
 
-  pub lines_part : (p : Policy) → IfErr r (λ (g : Fault). g ≡ Log) → OnErr r ((n : ℕ) × (n < length lines) × Appends l l' (take n lines) × (failures' ≡ failures + 1))
+  pub lines_part : (Y : ℕ → Type 0) (p : Policy) → IfErr r (λ (g : Fault). g ≡ Log) → OnErr r ((n : ℕ) × (n < length lines) × Appends l l' (take n lines) × (failures' ≡ failures + 1) × Y n)
       → IfErr r (λ (g : Fault). (more : List Item) → WritesPrefix (record { output = o; log = l }) (record { output = o; log = l' }) p g ((line_items held ++ map Byte bytes) ++ (item_of line ∷ more)))
-  lines_part p is_log k = on_err r is_log k (λ g same q more.
+  lines_part Y p is_log k = on_err r is_log k (λ g same q more.
       let first = written_first p (item_of line) more in
       let e : (line_items held ++ map Byte bytes) ++ (item_of line ∷ more) ≡ line_items held ++ (item_of line ∷ more) = ap (λ x. (line_items held ++ map Byte x) ++ (item_of line ∷ more)) none ∙ ap (λ x. x ++ (item_of line ∷ more)) (append-nil (line_items held)) in
       let spared : lost_line_count (line_items held) ≡ 0 = ap lost_line_count (sym (append-nil (line_items held))) ∙ line_spared held [] in
@@ -188,13 +188,13 @@ module _ {T : Type 0} (r : Result T Fault) (o l l' : Option (List ℕ)) (held : 
 
 -- Bytes, all of them or a part: nothing is held.
 module _ {T : Type 0} (r : Result T Fault) (o o' l : Option (List ℕ)) (line : Option MalformedLine) (held bytes passed : List ℕ) (failures failures' : ℕ) (no_line : line ≡ None) (none : held ≡ []) (is : bytes ≡ passed) where
-  pub delivers_whole : OnOk r (Appends o o' bytes × (failures' ≡ failures))
+  pub delivers_whole : (X : Type 0) → OnOk r (Appends o o' bytes × (failures' ≡ failures) × X)
       → OnOk r (PassesBytes (record { written = record { output = o; log = l }; line = line; bytes = held }) (record { written = record { output = o'; log = l }; line = line; bytes = held }) passed)
-  delivers_whole k = on_ok r k (λ q. delivers_more o o' l line held held passed no_line none none (subst (Appends o o') is q.0))
+  delivers_whole X k = on_ok r k (λ q. delivers_more o o' l line held held passed no_line none none (subst (Appends o o') is q.0))
 
-  pub delivers_part : (p : Policy) → IfErr r (λ (g : Fault). g ≡ Write) → OnErr r ((n : ℕ) × (n < length bytes) × Appends o o' (take n bytes) × (failures' ≡ failures + 1))
+  pub delivers_part : (Y : ℕ → Type 0) (p : Policy) → IfErr r (λ (g : Fault). g ≡ Write) → OnErr r ((n : ℕ) × (n < length bytes) × Appends o o' (take n bytes) × (failures' ≡ failures + 1) × Y n)
       → IfErr r (λ (g : Fault). (more : List Item) → WritesPrefix (record { output = o; log = l }) (record { output = o'; log = l }) p g ((line_items line ++ map Byte held) ++ (map Byte passed ++ more)))
-  delivers_part p is_write k = on_err r is_write k (λ g same q more.
+  delivers_part Y p is_write k = on_err r is_write k (λ g same q more.
       let e : (line_items line ++ map Byte held) ++ (map Byte passed ++ more) ≡ map Byte passed ++ more = ap (λ x. (line_items x ++ map Byte held) ++ (map Byte passed ++ more)) no_line ∙ ap (λ x. map Byte x ++ (map Byte passed ++ more)) none in
       under_bytes o o' l p g passed q.0 _ more same (subst (λ x. Appends o o' (take q.0 x)) is q.2) e)
 

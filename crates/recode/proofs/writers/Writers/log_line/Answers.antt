@@ -14,7 +14,7 @@ returns-clause-hands g c =
     let line = c.deliver_bytes.new.self.line in
     let is = c.put_all-end.ensures.prefix ∙ ap (λ x. x ++ take c.write_into-len.result c.write_into-len.new.dst) c.put_held_line-start.ensures.bytes ∙ ap (λ x. held_line_bytes line ++ x) c.write_into-len.ensures.line in
     hands_after e.hands (record {
-      ok = lines_whole _ _ _ _ line _ _ c.args.line _ _ none is c.deliver.ensures.ok;
-      err = lines_part _ _ _ _ line _ _ c.args.line _ _ none is _ c.deliver.ensures.fault c.deliver.ensures.err;
+      ok = lines_whole _ _ _ _ line _ _ c.args.line _ _ none is _ c.deliver.ensures.ok;
+      err = lines_part _ _ _ _ line _ _ c.args.line _ _ none is _ _ c.deliver.ensures.fault c.deliver.ensures.err;
       failures = search rules;
     })

@@ -16,8 +16,8 @@ returns-in_ok-deliver_held g c =
     let is = c.write_reference-len.ensures.reference in
     record {
       hands = hands_after e.hands (record {
-        ok = delivers_whole _ _ _ _ _ held _ _ _ _ e.none.line none is c.deliver.ensures.ok;
-        err = delivers_part _ _ _ _ _ held _ _ _ _ e.none.line none is _ c.deliver.ensures.fault c.deliver.ensures.err;
+        ok = delivers_whole _ _ _ _ _ held _ _ _ _ e.none.line none is _ c.deliver.ensures.ok;
+        err = delivers_part _ _ _ _ _ held _ _ _ _ e.none.line none is _ _ c.deliver.ensures.fault c.deliver.ensures.err;
         failures = search rules;
       });
     }
