@@ -1,5 +1,5 @@
 -- Buffers and writers that are lent and given back.
-use Rattle.std.proofs.Common.{◌≡◌, ◌∙◌, ℕ, List, Option, None, ap, arith, refl, sym, take, true≢false}
+use Rattle.std.proofs.Common.{◌≡◌, ◌∙◌, ℕ, Option, None, ap, arith, refl, sym, take, true≢false}
 use Rattle.recode.specs.calls.Buffers.{AreEnough, KeepSizes, KeepsRoom, HoldsAnyCharacter, capacity, is_wide}
 use Rattle.recode.specs.calls.Lent.{AreLent, KeepsLent}
 use Rattle.recode.specs.calls.Writers.{AreReady, AreTheSame, HoldNothing, written_by, writers_view}
@@ -57,7 +57,7 @@ pub same_on : {W L : Type 0} {a b c : Writers W L} → AreTheSame a b → AreThe
 same_on p q = record { output = q.output ∙ p.output; buffer = q.buffer ∙ p.buffer; room = q.room ∙ p.room; within = q.within; line = q.line; log = q.log ∙ p.log; policy = q.policy ∙ p.policy }
 
 -- writers for which nothing is held
-pub view_none : {W L : Type 0} (contents : W → Option (List ℕ)) (logged : L → Option (List ℕ)) (a : Writers W L) → HoldNothing a → writers_view contents logged a ≡ holding_none (written_by contents logged a)
-view_none contents logged a h =
-    ap (λ (line : Option MalformedLine). record { written = written_by contents logged a; line = line; bytes = take a.held a.buffer.now }) h.line
-    ∙ ap (λ (n : ℕ). record { written = written_by contents logged a; line = None; bytes = take n a.buffer.now }) h.bytes
+pub view_none : {W L : Type 0} (a : Writers W L) → HoldNothing a → writers_view a ≡ holding_none (written_by a)
+view_none a h =
+    ap (λ (line : Option MalformedLine). record { written = written_by a; line = line; bytes = take a.held a.buffer.now }) h.line
+    ∙ ap (λ (n : ℕ). record { written = written_by a; line = None; bytes = take n a.buffer.now }) h.bytes

@@ -3,12 +3,11 @@ use Rattle.std.proofs.Common.{◌≡◌, ◌≤◌, ◌<◌, ◌+◌, ◌-◌, �
 use Rattle.std.proofs.lemmas.List.{map-append}
 use Rattle.std.proofs.lemmas.Slice.{take-put_mid_below}
 use borrow.Rule.Slice.PartMut.{put_mid}
-use Rattle.std.specs.Io.KnownBytes.{Appends}
 use Rattle.encoding_mem.specs.Items.{Item, Byte, LostAt}
 use Rattle.recode_log.specs.Line.{line_bytes}
 use Rattle.recode_log.specs.declared.line.LogLine.{LogLine}
 use Rattle.recode_log.specs.declared.line.LogLine.TheVariants.{Bad, Lost}
-use Rattle.recode.specs.Devices.{Written}
+use Rattle.recode.specs.Devices.{Grew, Written}
 use Rattle.recode.specs.Policy.{written_under}
 use Rattle.recode.specs.TaggedByte.{Line, Wrote, tagged, tagged_item}
 use Rattle.recode.specs.WrittenItems.{IsSpared, WritesPrefix, lost_line_count}
@@ -76,7 +75,7 @@ held_line_is None = refl
 held_line_is (Some line) = append-nil (tagged_item (item_of (log_line_of line))) ∙ line_is (log_line_of line)
 
 -- the line that is held is written
-pub delivers_line : (o l l' : Option (List ℕ)) (line : Option MalformedLine) (bytes : List ℕ) → Appends l l' (held_line_bytes line)
+pub delivers_line : (o l l' : List ℕ) (line : Option MalformedLine) (bytes : List ℕ) → Grew l l' (held_line_bytes line)
     → Passes (record { written = record { output = o; log = l }; line = line; bytes = bytes }) (record { written = record { output = o; log = l' }; line = None; bytes = bytes }) []
 delivers_line o l l' line bytes told = record {
   delivered = line_items line;
@@ -85,7 +84,7 @@ delivers_line o l l' line bytes told = record {
 }
 
 -- then the bytes
-pub delivers : (o o' l : Option (List ℕ)) (held held' : List ℕ) → Appends o o' held → held' ≡ []
+pub delivers : (o o' l : List ℕ) (held held' : List ℕ) → Grew o o' held → held' ≡ []
     → Passes (record { written = record { output = o; log = l }; line = None; bytes = held }) (record { written = record { output = o'; log = l }; line = None; bytes = held' }) []
 delivers o o' l held held' h none = record { delivered = map Byte held; wrote = wrote_bytes o o' l held h; in_order = ap (λ x. map Byte held ++ map Byte x) (sym none) }
 
@@ -108,7 +107,7 @@ holds_behind w line n m buffer room within =
     (take-add n m after ∙ ap (λ k. take n after ++ take m (drop k after)) at ∙ ap (λ x. x ++ take m (drop ((n + m) - m) after)) (take-put_mid_below n (length buffer - n) buffer room n (omega arith) within))
 
 -- bytes that were not held are written, if nothing is held
-pub delivers_more : (o o' l : Option (List ℕ)) (line : Option MalformedLine) (held held' bytes : List ℕ) → line ≡ None → held ≡ [] → held' ≡ [] → Appends o o' bytes
+pub delivers_more : (o o' l : List ℕ) (line : Option MalformedLine) (held held' bytes : List ℕ) → line ≡ None → held ≡ [] → held' ≡ [] → Grew o o' bytes
     → PassesBytes (record { written = record { output = o; log = l }; line = line; bytes = held }) (record { written = record { output = o'; log = l }; line = line; bytes = held' }) bytes
 delivers_more o o' l line held held' bytes no_line none none' h = record {
   delivered = map Byte bytes;
@@ -136,7 +135,7 @@ two_lines_are held line lines e =
     ∙ ap (λ x. map Line (held_line_bytes held) ++ x) (append-nil (tagged_item (item_of line)) ∙ line_is line)
     ∙ sym (map-append Line (held_line_bytes held) (line_bytes line)) ∙ ap (map Line) (sym e)
 
-writes_lines : (o l l' : Option (List ℕ)) (held : Option MalformedLine) (bytes lines : List ℕ) (line : LogLine) → bytes ≡ [] → lines ≡ held_line_bytes held ++ line_bytes line → Appends l l' lines
+writes_lines : (o l l' : List ℕ) (held : Option MalformedLine) (bytes lines : List ℕ) (line : LogLine) → bytes ≡ [] → lines ≡ held_line_bytes held ++ line_bytes line → Grew l l' lines
     → Passes (record { written = record { output = o; log = l }; line = held; bytes = bytes }) (record { written = record { output = o; log = l' }; line = None; bytes = bytes }) (item_of line ∷ [])
 writes_lines o l l' held bytes lines line none is told = record {
   delivered = line_items held ++ (item_of line ∷ []);
@@ -160,43 +159,43 @@ pub none_held : (n : ℕ) (buffer : List ℕ) → n ≡ 0 → take n buffer ≡ 
 none_held n buffer e = ap (λ k. take k buffer) e
 
 -- The line that is held, all of it or a part.
-module _ {T : Type 0} (r : Result T Fault) (o l l' : Option (List ℕ)) (line : Option MalformedLine) (held bytes : List ℕ) (failures failures' : ℕ) (is : bytes ≡ held_line_bytes line) where
-  pub line_whole : (X : Type 0) → OnOk r (Appends l l' bytes × (failures' ≡ failures) × X) → OnOk r (Passes (record { written = record { output = o; log = l }; line = line; bytes = held }) (record { written = record { output = o; log = l' }; line = None; bytes = held }) [])
-  line_whole X k = on_ok r k (λ q. delivers_line o l l' line held (subst (Appends l l') is q.0))
+module _ {T : Type 0} (r : Result T Fault) (o l l' : List ℕ) (line : Option MalformedLine) (held bytes : List ℕ) (failures failures' : ℕ) (is : bytes ≡ held_line_bytes line) where
+  pub line_whole : (X : Type 0) → OnOk r (X × (failures' ≡ failures) × Grew l l' bytes) → OnOk r (Passes (record { written = record { output = o; log = l }; line = line; bytes = held }) (record { written = record { output = o; log = l' }; line = None; bytes = held }) [])
+  line_whole X k = on_ok r k (λ q. delivers_line o l l' line held (subst (Grew l l') is q.2))
 
-  pub line_part : (Y : ℕ → Type 0) (p : Policy) → IfErr r (λ (g : Fault). g ≡ Log) → OnErr r ((n : ℕ) × (n < length bytes) × Appends l l' (take n bytes) × (failures' ≡ failures + 1) × Y n)
+  pub line_part : (Y : ℕ → Type 0) (p : Policy) → IfErr r (λ (g : Fault). g ≡ Log) → OnErr r ((n : ℕ) × (n < length bytes) × Y n × (failures' ≡ failures + 1) × Grew l l' (take n bytes))
       → IfErr r (λ (g : Fault). (to_write : List Item) → WritesPrefix (record { output = o; log = l }) (record { output = o; log = l' }) p g ((line_items line ++ map Byte held) ++ to_write))
   line_part Y p is_log k = on_err r is_log k (λ g same q to_write.
       let e : (line_items line ++ map Byte held) ++ to_write ≡ line_items line ++ (map Byte held ++ to_write) = append_assoc (line_items line) (map Byte held) to_write in
       let spared : lost_line_count (line_items line) ≡ 0 = ap lost_line_count (sym (append-nil (line_items line))) ∙ line_spared line [] in
-      under_lines o l l' p g bytes q.0 (line_items line) _ (written_under p (map Byte held ++ to_write)) same (held_line_is line ∙ ap (map Line) (sym is)) (ap (written_under p) e ∙ written_spared p (line_items line) _ (λ stops. spared)) q.2)
+      under_lines o l l' p g bytes q.0 (line_items line) _ (written_under p (map Byte held ++ to_write)) same (held_line_is line ∙ ap (map Line) (sym is)) (ap (written_under p) e ∙ written_spared p (line_items line) _ (λ stops. spared)) q.4)
 
 -- A line after the line that is held, both of them or a part: no bytes are held.
-module _ {T : Type 0} (r : Result T Fault) (o l l' : Option (List ℕ)) (held : Option MalformedLine) (bytes lines : List ℕ) (line : LogLine) (failures failures' : ℕ) (none : bytes ≡ []) (is : lines ≡ held_line_bytes held ++ line_bytes line) where
-  pub lines_whole : (X : Type 0) → OnOk r (Appends l l' lines × (failures' ≡ failures) × X)
+module _ {T : Type 0} (r : Result T Fault) (o l l' : List ℕ) (held : Option MalformedLine) (bytes lines : List ℕ) (line : LogLine) (failures failures' : ℕ) (none : bytes ≡ []) (is : lines ≡ held_line_bytes held ++ line_bytes line) where
+  pub lines_whole : (X : Type 0) → OnOk r (X × (failures' ≡ failures) × Grew l l' lines)
       → OnOk r (Passes (record { written = record { output = o; log = l }; line = held; bytes = bytes }) (record { written = record { output = o; log = l' }; line = None; bytes = bytes }) (item_of line ∷ []))
-  lines_whole X k = on_ok r k (λ q. writes_lines o l l' held bytes lines line none is q.0)
+  lines_whole X k = on_ok r k (λ q. writes_lines o l l' held bytes lines line none is q.2)
 
-  pub lines_part : (Y : ℕ → Type 0) (p : Policy) → IfErr r (λ (g : Fault). g ≡ Log) → OnErr r ((n : ℕ) × (n < length lines) × Appends l l' (take n lines) × (failures' ≡ failures + 1) × Y n)
+  pub lines_part : (Y : ℕ → Type 0) (p : Policy) → IfErr r (λ (g : Fault). g ≡ Log) → OnErr r ((n : ℕ) × (n < length lines) × Y n × (failures' ≡ failures + 1) × Grew l l' (take n lines))
       → IfErr r (λ (g : Fault). (more : List Item) → WritesPrefix (record { output = o; log = l }) (record { output = o; log = l' }) p g ((line_items held ++ map Byte bytes) ++ (item_of line ∷ more)))
   lines_part Y p is_log k = on_err r is_log k (λ g same q more.
       let first = written_first p (item_of line) more in
       let e : (line_items held ++ map Byte bytes) ++ (item_of line ∷ more) ≡ line_items held ++ (item_of line ∷ more) = ap (λ x. (line_items held ++ map Byte x) ++ (item_of line ∷ more)) none ∙ ap (λ x. x ++ (item_of line ∷ more)) (append-nil (line_items held)) in
       let spared : lost_line_count (line_items held) ≡ 0 = ap lost_line_count (sym (append-nil (line_items held))) ∙ line_spared held [] in
       under_lines o l l' p g lines q.0 (line_items held ++ (item_of line ∷ [])) _ first.0 same (two_lines_are held line lines is)
-      (ap (written_under p) e ∙ written_spared p (line_items held) _ (λ stops. spared) ∙ ap (λ x. line_items held ++ x) first.1 ∙ sym (append_assoc (line_items held) (item_of line ∷ []) first.0)) q.2)
+      (ap (written_under p) e ∙ written_spared p (line_items held) _ (λ stops. spared) ∙ ap (λ x. line_items held ++ x) first.1 ∙ sym (append_assoc (line_items held) (item_of line ∷ []) first.0)) q.4)
 
 -- Bytes, all of them or a part: nothing is held.
-module _ {T : Type 0} (r : Result T Fault) (o o' l : Option (List ℕ)) (line : Option MalformedLine) (held bytes passed : List ℕ) (failures failures' : ℕ) (no_line : line ≡ None) (none : held ≡ []) (is : bytes ≡ passed) where
-  pub delivers_whole : (X : Type 0) → OnOk r (Appends o o' bytes × (failures' ≡ failures) × X)
+module _ {T : Type 0} (r : Result T Fault) (o o' l : List ℕ) (line : Option MalformedLine) (held bytes passed : List ℕ) (failures failures' : ℕ) (no_line : line ≡ None) (none : held ≡ []) (is : bytes ≡ passed) where
+  pub delivers_whole : (X : Type 0) → OnOk r (X × (failures' ≡ failures) × Grew o o' bytes)
       → OnOk r (PassesBytes (record { written = record { output = o; log = l }; line = line; bytes = held }) (record { written = record { output = o'; log = l }; line = line; bytes = held }) passed)
-  delivers_whole X k = on_ok r k (λ q. delivers_more o o' l line held held passed no_line none none (subst (Appends o o') is q.0))
+  delivers_whole X k = on_ok r k (λ q. delivers_more o o' l line held held passed no_line none none (subst (Grew o o') is q.2))
 
-  pub delivers_part : (Y : ℕ → Type 0) (p : Policy) → IfErr r (λ (g : Fault). g ≡ Write) → OnErr r ((n : ℕ) × (n < length bytes) × Appends o o' (take n bytes) × (failures' ≡ failures + 1) × Y n)
+  pub delivers_part : (Y : ℕ → Type 0) (p : Policy) → IfErr r (λ (g : Fault). g ≡ Write) → OnErr r ((n : ℕ) × (n < length bytes) × Y n × (failures' ≡ failures + 1) × Grew o o' (take n bytes))
       → IfErr r (λ (g : Fault). (more : List Item) → WritesPrefix (record { output = o; log = l }) (record { output = o'; log = l }) p g ((line_items line ++ map Byte held) ++ (map Byte passed ++ more)))
   delivers_part Y p is_write k = on_err r is_write k (λ g same q more.
       let e : (line_items line ++ map Byte held) ++ (map Byte passed ++ more) ≡ map Byte passed ++ more = ap (λ x. (line_items x ++ map Byte held) ++ (map Byte passed ++ more)) no_line ∙ ap (λ x. map Byte x ++ (map Byte passed ++ more)) none in
-      under_bytes o o' l p g passed q.0 _ more same (subst (λ x. Appends o o' (take q.0 x)) is q.2) e)
+      under_bytes o o' l p g passed q.0 _ more same (subst (λ x. Grew o o' (take q.0 x)) is q.4) e)
 
 -- a policy that stops, after the line of the character
 stops_at : (w w' : WritersView) (p : Policy) (i c : ℕ) (b : List Item) → p ≡ Policy.Stop → Passes w w' (LostAt i c ∷ []) → held_items w' ≡ [] → LeavesPrefix w w' p (Unmappable i c) (LostAt i c ∷ b)

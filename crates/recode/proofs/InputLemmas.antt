@@ -1,7 +1,7 @@
 -- Laws over whole inputs.
-use Rattle.std.proofs.Common.{◌≡◌, ℕ, ◌<◌, ◌↔◌, List, [], ◌++◌, length, sym, ◌∙◌, ap, subst, arith, append_assoc, append-nil, encode_utf8_all, Bool, true, Option, None, Some, length-append}
-use Rattle.std.specs.Io.KnownBytes.{Consumes, IsAtEnd}
+use Rattle.std.proofs.Common.{◌≡◌, ℕ, ◌<◌, ◌↔◌, List, [], ◌++◌, length, sym, ◌∙◌, ap, subst, arith, append_assoc, append-nil, encode_utf8_all, true, length-append}
 use Rattle.std.specs.Str.{chars, IsUtf8}
+use Rattle.std.proofs.lemmas.List.{append_cancel_left}
 use Rattle.std.proofs.lemmas.Str.{encodes-chars}
 use Rattle.encoding_mem.specs.Piece.{text, AreWellFormed}
 use Rattle.encoding_mem.specs.Coding.{AllMapped, output}
@@ -16,11 +16,11 @@ use Rattle.encoding_mem.specs.Utf8.{first_piece_utf8, pieces_utf8}
 use Rattle.encoding_mem.specs.laws.Utf8.{pieces_utf8-text}
 use Rattle.encoding_mem.specs.laws.Pieces.{pieces_by-nil}
 use Rattle.recode.specs.Policy.{reference_form}
-use Rattle.recode.specs.TaggedByte.{IsPrefix, tagged}
+use Rattle.recode.specs.TaggedByte.{tagged}
 use Rattle.recode.specs.Job.{IsValidJob, Faithful, input_pieces, input_text, target_of, output_of, log_of, trace}
 use Rattle.recode.specs.Session.{Completes, Fails, IsConverted}
 use Rattle.recode.specs.Step.{WrotePrefix}
-use Rattle.recode.specs.Devices.{Devices}
+use Rattle.recode.specs.Devices.{Devices, IsOf}
 use Rattle.recode.specs.declared.job.Fault.{Fault}
 use Rattle.recode.specs.declared.job.Job.{Job}
 use Rattle.recode.specs.declared.job.Report.{Report}
@@ -54,29 +54,22 @@ kept_log j x kept from to u =
     let well_formed_text : AreWellFormed (input_pieces j x) = subst AreWellFormed (sym (text_is j x kept from u)) (text_pieces-well_formed (chars x)) in
     quiet_where_kept j x well_formed_text (in_utf8 j x to)
 
--- A reader whose contract says its bytes.
-pub known_completes : (x : List ℕ) (s t : Devices) (j : Job) (p : Report) → s.input ≡ Some x → Completes s t j p → IsConverted s.written t.written j x p
-known_completes x s t j p is k =
-    subst (λ y. IsConverted s.written t.written j y p) (whole_input x t.input k.input (subst (λ y. Consumes y t.input k.input) is k.consumed) k.end) k.converted
-  where
-    whole_input : (x : List ℕ) (after : Option (List ℕ)) (input : List ℕ) → Consumes (Some x) after input → IsAtEnd after → input ≡ x
-    whole_input x None input consumed end = absurd consumed
-    whole_input x (Some y) input consumed end = sym (consumed ∙ ap (λ t. input ++ t) end ∙ append-nil input)
+-- A reader whose bytes are known.
+pub known_completes : (x : List ℕ) (s t : Devices) (j : Job) (p : Report) → IsOf s.reads t.reads x → Completes s t j p → IsConverted s.written t.written j x p
+known_completes x s t j p is k = subst (λ y. IsConverted s.written t.written j y p) (is.whole k.input k.given) k.converted
 
-pub known_fails : (x : List ℕ) (s t : Devices) (j : Job) (f : Fault) → s.input ≡ Some x → Fails s t j f → WrotePrefix s.written t.written j.policy f (trace j x)
-known_fails x s t j f is k = prefix_of x t.input k.read.input k.read.refused k.read.ended (subst (λ y. Consumes y t.input (k.read.input ++ k.read.refused)) is k.read.consumed) k.read.end k.read.none (λ r h. (k.prefix r h, k.stopped r h))
-  where
-    prefix_of : (x : List ℕ) (after : Option (List ℕ)) (input refused : List ℕ) (ended : Bool) → Consumes (Some x) after (input ++ refused) → (ended ≡ true → IsAtEnd after) → (ended ≡ true → refused ≡ [])
-        → ((r : List ℕ) → (ended ≡ true → r ≡ []) → IsPrefix k.taken (tagged (trace j (input ++ r))) × IsStop j.policy f k.taken (trace j (input ++ r))) → WrotePrefix s.written t.written j.policy f (trace j x)
-    prefix_of x None input refused ended consumed end none prefixes = absurd consumed
-    prefix_of x (Some y) input refused ended consumed end none prefixes =
-        let whole : x ≡ input ++ (refused ++ y) = consumed ∙ append_assoc input refused y in
-        let left = prefixes (refused ++ y) (λ h. ap (λ t. t ++ y) (none h) ∙ end h) in
-        record { taken = k.taken; wrote = k.wrote; prefix = (left.0.0, ap (λ t. tagged (trace j t)) whole ∙ left.0.1); stopped = subst (λ t. IsStop j.policy f k.taken (trace j t)) (sym whole) left.1 }
+pub known_fails : (x : List ℕ) (s t : Devices) (j : Job) (f : Fault) → IsOf s.reads t.reads x → Fails s t j f → WrotePrefix s.written t.written j.policy f (trace j x)
+known_fails x s t j f is k =
+    let input : List ℕ = k.read.input in
+    let refused : List ℕ = k.read.refused in
+    let front = is.front (input ++ refused) k.read.given in
+    let more : List ℕ = refused ++ front.0 in
+    let all : x ≡ input ++ more = front.1 ∙ append_assoc input refused front.0 in
+    let none : k.read.ended ≡ true → more ≡ [] = λ h. append_cancel_left input more [] (sym all ∙ sym (is.whole input (k.read.end h)) ∙ sym (append-nil input)) in
+    let prefix = k.prefix more none in
+    record { taken = k.taken; wrote = k.wrote; prefix = (prefix.0, ap (λ t. tagged (trace j t)) all ∙ prefix.1); stopped = subst (λ t. IsStop j.policy f k.taken (trace j t)) (sym all) (k.stopped more none) }
 
-pub known_too_long : (x : List ℕ) (s t : Devices) (j : Job) → s.input ≡ Some x → Fails s t j Fault.TooLong → j.limit < length x
-known_too_long x s t j is k = past x t.input (k.read.input ++ k.read.refused) (subst (λ y. Consumes y t.input (k.read.input ++ k.read.refused)) is k.read.consumed) k.limited
-  where
-    past : (x : List ℕ) (after : Option (List ℕ)) (bytes : List ℕ) → Consumes (Some x) after bytes → j.limit < length bytes → j.limit < length x
-    past x None bytes consumed limited = absurd consumed
-    past x (Some y) bytes consumed limited = omega (arith, ap length consumed, length-append bytes y, limited)
+pub known_too_long : (x : List ℕ) (s t : Devices) (j : Job) → IsOf s.reads t.reads x → Fails s t j Fault.TooLong → j.limit < length x
+known_too_long x s t j is k =
+    let front = is.front (k.read.input ++ k.read.refused) k.read.given in
+    omega (arith, ap length front.1, length-append (k.read.input ++ k.read.refused) front.0, k.limited)

@@ -1,8 +1,7 @@
 -- What was taken while the input goes on, and what that says of the output and the log.
-use Rattle.std.proofs.Common.{◌≡◌, ◌⊎◌, ℕ, suc, ◌+◌, ◌-◌, ◌≤◌, ◌<◌, Bool, true, false, List, [], ◌∷◌, ◌++◌, length, Some, refl, sym, ◌∙◌, ap, subst, arith, append_assoc, length-append, add-zero, inl, inr}
-use Rattle.std.specs.Io.KnownBytes.{Appends, Consumes}
+use Rattle.std.proofs.Common.{◌≡◌, ◌⊎◌, ℕ, suc, ◌+◌, ◌-◌, ◌≤◌, ◌<◌, Bool, true, false, List, [], ◌∷◌, ◌++◌, length, Some, refl, sym, ◌∙◌, ap, subst, arith, append_assoc, append-nil, length-append, add-zero, inl, inr}
 use Rattle.std.specs.List.{flat_map}
-use Rattle.std.proofs.KnownBytes.{Appends-kept, Appends-nil, Appends-trans, Consumes-nil, Consumes-trans}
+use Rattle.recode.proofs.GrowLemmas.{Gave-nil, Gave-trans, Grew-kept, Grew-nil, Grew-trans}
 use Rattle.std.proofs.lemmas.Bool.{false≢true}
 use Rattle.std.proofs.lemmas.Grind.{flat_map-append}
 use Rattle.std.proofs.lemmas.List.{append_cancel_right}
@@ -23,9 +22,9 @@ use Rattle.recode.specs.Job.{input_pieces, log_lines, lost_log_lines, target_of}
 use Rattle.recode.specs.calls.Chunk.{ConvertsChunk}
 use Rattle.recode.specs.Latency.{HasReached, WroteDecided}
 use Rattle.recode.specs.Policy.{reference_form}
-use Rattle.recode.specs.State.{State}
-use Rattle.recode.specs.Step.{Advances, HasRun, IsNearlyDecided, StepsOn}
-use Rattle.recode.specs.Devices.{Devices, KeepsWritten, Written}
+use Rattle.recode.specs.State.{State, to_write}
+use Rattle.recode.specs.Step.{Advances, Finishes, HasRun, IsNearlyDecided, StepsOn}
+use Rattle.recode.specs.Devices.{Devices, Gave, GaveAll, Grew, KeepsWritten, Written}
 use Rattle.recode.specs.TaggedByte.{IsPrefix, log_bytes, tagged, output_bytes}
 use Rattle.recode.specs.calls.TraceToWrite.{AreSound, trace_to_write}
 use Rattle.recode.specs.Session.{IsNewSession, View}
@@ -33,6 +32,7 @@ use Rattle.recode.specs.declared.counts.Counts.{Counts}
 use Rattle.recode.specs.declared.job.Job.{Job}
 use Rattle.recode.specs.declared.job.Policy.{Policy}
 use Rattle.recode.specs.laws.Items.{log_bytes-append, tagged-append, output_bytes-append}
+use Rattle.recode.proofs.VerdictLemmas.{both_ways}
 use Rattle.recode.proofs.TraceLemmas.{log_bytes-trace, output_bytes-trace, whole_from-append}
 
 pub advances_start : (d : List ℕ → List Piece) (e : Coding) (s : EscapeState) (c : Counts) → Advances d d e s s c c
@@ -106,7 +106,7 @@ taken_sizes : (d d1 : DecoderState) (chunk : List ℕ) (taken : List Piece) → 
 taken_sizes d d1 chunk taken is = omega (arith, d.whole (chunk ++ []), d1.whole [], ap sizes is, sizes-append taken (d1.pieces []), length-append {A = ℕ} chunk [])
 
 -- the clause of a step that goes on
-pub steps_on : (before after : Devices) (limit : ℕ) (s s1 : State) (chunk : List ℕ) (last : Bool) → Consumes before.input after.input chunk → 0 < length chunk → s1.counts.read ≤ limit → AreSound s.decoder.pending s.counts
+pub steps_on : (before after : Devices) (limit : ℕ) (s s1 : State) (chunk : List ℕ) (last : Bool) → Gave before.reads after.reads chunk → 0 < length chunk → s1.counts.read ≤ limit → AreSound s.decoder.pending s.counts
     → last ≡ false → ConvertsChunk before.written after.written s s1 chunk last → StepsOn before after limit s s1
 steps_on before after limit s s1 chunk last read_in some within sound goes_on k =
     let pays = k.pays in
@@ -125,7 +125,7 @@ steps_on before after limit s s1 chunk last read_in some within sound goes_on k 
     let none : (r : List ℕ) → last ≡ true → r ≡ [] = λ r h. absurd (false≢true (sym goes_on ∙ h)) in
     record {
       chunk = chunk;
-      consumed = read_in;
+      given = read_in;
       counted = k.counted;
       grows = omega (arith, k.counted, some);
       within = within;
@@ -134,12 +134,31 @@ steps_on before after limit s s1 chunk last read_in some within sound goes_on k 
       source = λ r. k.source r (none r);
       pays = record { written_items = pays.written_items; wrote = pays.wrote; counted = pays.counted; spared = pays.spared; equals = λ r h. pays.equals r (none r) };
       advances = p;
-      output = subst (Appends before.written.output after.written.output) (paid_output (reference_form s.policy) e s.set s1.set offset i offset1 i1 p.taken qs pays.written_items p.set offset_is p.index is) pays.wrote.output;
-      logged = subst (Appends before.written.log after.written.log) (paid_lines (reference_form s.policy) e s.set s1.set offset i offset1 i1 p.taken qs pays.written_items p.set offset_is p.index is) pays.wrote.lined;
+      output = subst (Grew before.written.output after.written.output) (paid_output (reference_form s.policy) e s.set s1.set offset i offset1 i1 p.taken qs pays.written_items p.set offset_is p.index is) pays.wrote.output;
+      logged = subst (Grew before.written.log after.written.log) (paid_lines (reference_form s.policy) e s.set s1.set offset i offset1 i1 p.taken qs pays.written_items p.set offset_is p.index is) pays.wrote.lined;
       settled = k.done.settled;
       verdict = λ r. k.verdict r (none r);
       calls = λ r. k.calls r (none r);
       least = k.least;
+    }
+
+-- the clause of a step that finishes: it read none
+pub finishes : (before after : Devices) (limit : ℕ) (s s1 : State) (chunk : List ℕ) (last : Bool) → GaveAll before.reads after.reads chunk → chunk ≡ [] → s1.counts.read ≤ limit
+    → last ≡ true → ConvertsChunk before.written after.written s s1 chunk last → Finishes before after limit s s1
+finishes before after limit s s1 chunk last given none within ends k =
+    let pays = k.pays in
+    let whole : chunk ++ [] ≡ chunk = append-nil chunk in
+    record {
+      chunk = chunk;
+      given = given;
+      counted = omega (arith, k.counted);
+      within = within;
+      pays = record { written_items = pays.written_items; wrote = pays.wrote; counted = pays.counted; spared = pays.spared; equals = ap (to_write s) (sym whole) ∙ pays.equals [] (λ h. refl) ∙ ap (λ l. pays.written_items ++ l) (k.done.end ends) };
+      source = ap s.source (sym whole) ∙ k.source [] (λ h. refl);
+      verdict = both_ways (rw whole at (k.verdict [] (λ h. refl))) (k.done.told ends);
+      calls = omega (arith, rw (whole, k.done.end ends) at (k.calls [] (λ h. refl)));
+      least = λ under. omega (arith, k.least under, ap length none);
+      sound = k.sound;
     }
 
 -- A session that has read nothing, and one that steps on.
@@ -148,13 +167,13 @@ stands_first t j v b = record {
   coding = b.coding;
   policy = b.policy;
   read = b.read;
-  consumed = Consumes-nil t.input;
+  given = Gave-nil t.reads;
   pieces = λ y. sym (b.pieces y);
   passed = omega (arith, b.pending);
   set = b.set;
   index = b.index;
-  output = Appends-nil t.written.output;
-  logged = Appends-nil t.written.log;
+  output = Grew-nil t.written.output;
+  logged = Grew-nil t.written.log;
 }
 
 pub stands_on : (t t1 t2 : Devices) (j : Job) (limit : ℕ) (s s1 : State) (x : List ℕ) (ps : List Piece)
@@ -167,26 +186,26 @@ stands_on t t1 t2 j limit s s1 x ps k p =
     let coded : s.coding ≡ e = k.coding in
     let offset : s.counts.read - s.decoder.pending ≡ 0 + sizes ps = omega (arith, k.read, k.passed) in
     let index : s.counts.index ≡ 0 + length (text ps) = omega (arith, k.index) in
-    let more : Appends t1.written.output t2.written.output (open_from (reference_form j.policy) e (last_set e Ascii (text ps)) (text taken)) =
-    subst (λ (q : EscapeState). Appends t1.written.output t2.written.output (open_from (reference_form j.policy) e q (text taken))) k.set
-    (subst (λ (q : Coding). Appends t1.written.output t2.written.output (open_from (reference_form j.policy) q s.set (text taken))) coded
-    (subst (λ (f : Policy). Appends t1.written.output t2.written.output (open_from (reference_form f) s.coding s.set (text taken))) k.policy p.output)) in
-    let lined : Appends t1.written.log t2.written.log (flat_map line_bytes (log_lines e (s.counts.read - s.decoder.pending) s.counts.index taken)) =
-    subst (λ (q : Coding). Appends t1.written.log t2.written.log (flat_map line_bytes (log_lines q (s.counts.read - s.decoder.pending) s.counts.index taken))) coded p.logged in
+    let more : Grew t1.written.output t2.written.output (open_from (reference_form j.policy) e (last_set e Ascii (text ps)) (text taken)) =
+    subst (λ (q : EscapeState). Grew t1.written.output t2.written.output (open_from (reference_form j.policy) e q (text taken))) k.set
+    (subst (λ (q : Coding). Grew t1.written.output t2.written.output (open_from (reference_form j.policy) q s.set (text taken))) coded
+    (subst (λ (f : Policy). Grew t1.written.output t2.written.output (open_from (reference_form f) s.coding s.set (text taken))) k.policy p.output)) in
+    let lined : Grew t1.written.log t2.written.log (flat_map line_bytes (log_lines e (s.counts.read - s.decoder.pending) s.counts.index taken)) =
+    subst (λ (q : Coding). Grew t1.written.log t2.written.log (flat_map line_bytes (log_lines q (s.counts.read - s.decoder.pending) s.counts.index taken))) coded p.logged in
     record {
       coding = p.target ∙ coded;
       policy = p.policy ∙ k.policy;
       read = omega (arith, k.read, p.counted, length-append x chunk);
-      consumed = Consumes-trans t.input t1.input t2.input x chunk k.consumed p.consumed;
+      given = Gave-trans t.reads t1.reads t2.reads x chunk k.given p.given;
       pieces = λ y. ap (input_pieces j) (append_assoc x chunk y) ∙ k.pieces (chunk ++ y) ∙ ap (λ q. ps ++ q) (p.advances.rest y) ∙ sym (append_assoc ps taken (s1.decoder.pieces y));
       passed = omega (arith, k.passed, taken_sizes s.decoder s1.decoder chunk taken (p.advances.rest []), sizes-append ps taken, length-append x chunk);
       set = p.advances.set ∙ ap (λ (q : Coding). last_set q s.set (text taken)) coded ∙ ap (λ (q : EscapeState). last_set e q (text taken)) k.set
           ∙ sym (last_set-append e Ascii (text ps) (text taken)) ∙ ap (last_set e Ascii) (sym joined);
       index = omega (arith, k.index, p.advances.index, ap length joined, length-append (text ps) (text taken));
-      output = subst (Appends t.written.output t2.written.output) (sym (open_from-append _ e Ascii (text ps) (text taken)) ∙ ap (open_from (reference_form j.policy) e Ascii) (sym joined))
-          (Appends-trans t.written.output t1.written.output t2.written.output _ _ k.output more);
-      logged = subst (Appends t.written.log t2.written.log) (sym (line_bytes-append e 0 0 (s.counts.read - s.decoder.pending) s.counts.index ps taken offset index))
-          (Appends-trans t.written.log t1.written.log t2.written.log _ _ k.logged lined);
+      output = subst (Grew t.written.output t2.written.output) (sym (open_from-append _ e Ascii (text ps) (text taken)) ∙ ap (open_from (reference_form j.policy) e Ascii) (sym joined))
+          (Grew-trans t.written.output t1.written.output t2.written.output _ _ k.output more);
+      logged = subst (Grew t.written.log t2.written.log) (sym (line_bytes-append e 0 0 (s.counts.read - s.decoder.pending) s.counts.index ps taken offset index))
+          (Grew-trans t.written.log t1.written.log t2.written.log _ _ k.logged lined);
     }
 
 -- Of two prefixes of one list one is a prefix of the other.
@@ -287,13 +306,13 @@ stands_run a b j v s n p =
       coding = p.target ∙ n.coding;
       policy = p.policy ∙ n.policy;
       read = read;
-      consumed = p.consumed;
+      given = p.given;
       pieces = λ r. sym (n.pieces (p.chunk ++ r)) ∙ p.advances.rest r;
       passed = passed;
       set = set_is;
       index = omega (arith, index_is);
-      output = subst (Appends a.written.output b.written.output) (paid_output (reference_form j.policy) e Ascii s.set 0 0 offset s.counts.index taken qs p.pays.written_items set_is offset_is index_is is) p.pays.wrote.output;
-      logged = subst (Appends a.written.log b.written.log) (paid_lines (reference_form j.policy) e Ascii s.set 0 0 offset s.counts.index taken qs p.pays.written_items set_is offset_is index_is is) p.pays.wrote.lined;
+      output = subst (Grew a.written.output b.written.output) (paid_output (reference_form j.policy) e Ascii s.set 0 0 offset s.counts.index taken qs p.pays.written_items set_is offset_is index_is is) p.pays.wrote.output;
+      logged = subst (Grew a.written.log b.written.log) (paid_lines (reference_form j.policy) e Ascii s.set 0 0 offset s.counts.index taken qs p.pays.written_items set_is offset_is index_is is) p.pays.wrote.lined;
     }
 
 -- All that the bytes read decide was written, and stays so if nothing is written after.
@@ -303,6 +322,6 @@ wrote_decided a b after j s x ps k settled kept = record {
   decided = decided a b j s x ps k;
   longest = λ qs h. longest a b j s x ps qs k settled h;
   soon = λ y qs more is early. soon a b j s x y ps qs more k settled is early;
-  output = Appends-kept a.written.output b.written.output after.output _ k.output kept.output;
-  logged = Appends-kept a.written.log b.written.log after.log _ k.logged kept.log;
+  output = Grew-kept a.written.output b.written.output after.output _ k.output kept.output;
+  logged = Grew-kept a.written.log b.written.log after.log _ k.logged kept.log;
 }

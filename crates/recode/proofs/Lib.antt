@@ -1,5 +1,7 @@
 pub mod PolicyLemmas
 pub mod TraceLemmas
+pub mod GrowLemmas
+pub mod TellLemmas
 pub mod HeldLemmas
 pub mod HandsLemmas
 pub mod CompareLemmas
@@ -13,6 +15,7 @@ pub mod StopLemmas
 pub mod LossLemmas
 pub mod StepLemmas
 pub mod RunLemmas
+pub mod ToldLemmas
 pub mod InputLemmas
 pub mod PieceLemmas
 pub mod OutputLemmas

@@ -1,7 +1,6 @@
 -- What is written, beside what another job writes.
-use Rattle.std.proofs.Common.{◌≡◌, ℕ, ◌<◌, ◌↔◌, inl, inr, Bool, true, false, IsTrue, IsFalse, List, [], Option, Some, refl, sym, ◌∙◌, ap, subst, arith, encode_utf8_all, true≢false}
+use Rattle.std.proofs.Common.{◌≡◌, ℕ, ◌<◌, ◌↔◌, inl, inr, Bool, true, false, IsTrue, IsFalse, List, [], ◌++◌, refl, sym, ◌∙◌, ap, subst, arith, encode_utf8_all, true≢false}
 use Rattle.std.specs.Str.{chars}
-use Rattle.std.specs.Io.KnownBytes.{Appends}
 use Rattle.std.proofs.lemmas.Bool.{cases_lt, false≢true}
 use Rattle.std.proofs.lemmas.Str.{chars-encodes}
 use Rattle.encoding_mem.specs.declared.reference.Reference.TheVariants.{Decimal}
@@ -22,7 +21,7 @@ use Rattle.recode.specs.Job.{IsValidJob, Faithful, input_pieces, input_text, out
 use Rattle.recode.specs.WrittenItems.{lost_line_count}
 use Rattle.recode.specs.ReadBackJobs.{back, in_utf8}
 use Rattle.recode.specs.Runs.{IsWholeOutput}
-use Rattle.recode.specs.Devices.{Written}
+use Rattle.recode.specs.Devices.{Grew, Written}
 use Rattle.recode.specs.Session.{IsReport, IsConverted}
 use Rattle.recode.specs.declared.job.Job.{Job}
 use Rattle.recode.specs.declared.job.Report.{Report}
@@ -56,8 +55,8 @@ runs_read_back j x bytes again direct w w' v v' u u' p q r told k a l b m c =
     ∙ reads_back j x (a.report.faithful.0 told)
     ∙ sym (bytes_are u.output u'.output direct (output_of (in_utf8 j) x) m.begun m.all c.whole.output)
   where
-    bytes_are : (before after : Option (List ℕ)) (bytes added : List ℕ) → before ≡ Some [] → after ≡ Some bytes → Appends before after added → bytes ≡ added
-    bytes_are before after bytes added none all grew = let grown : Appends (Some []) (Some bytes) added = rw (none, all) at grew in grown
+    bytes_are : (before after bytes added : List ℕ) → before ≡ [] → after ≡ bytes → Grew before after added → bytes ≡ added
+    bytes_are before after bytes added none all grew = sym all ∙ grew ∙ ap (λ l. l ++ added) none
 
 -- UTF-8 loses no character.
 pub none_lost_in_utf8 : (j : Job) (x : List ℕ) → IsUtf8Encoding (output_encoding_of j.to) → lost_count (target_of j) (input_text j x) ≡ 0
@@ -81,8 +80,8 @@ same_whole j x decoded bytes v decimal is written =
     ∙ sym (output_where_spared j x (λ stops. absurd (cc (sym decimal ∙ stops))))
 
 pub same_run : (j : Job) (x decoded bytes : List ℕ) (w w' : Written) (p : Report) → IsValidJob j → j.policy ≡ Policy.Decimal → decoded ≡ encode_utf8_all (marked_text j.tables.now j.mark j.from x) → bytes ≡ output Decimal (coding_of j.tables.now j.to) (chars decoded)
-    → IsConverted w w' j x p → Appends w.output w'.output bytes
-same_run j x decoded bytes w w' p v decimal is written k = subst (Appends w.output w'.output) (sym (same_whole j x decoded bytes v decimal is written)) k.whole.output
+    → IsConverted w w' j x p → Grew w.output w'.output bytes
+same_run j x decoded bytes w w' p v decimal is written k = subst (Grew w.output w'.output) (sym (same_whole j x decoded bytes v decimal is written)) k.whole.output
 
 -- a count, and a flag that says whether it is none
 none_where_false : (b : Bool) (n : ℕ) → IsTrue b ↔ (0 < n) → IsFalse b → n ≡ 0

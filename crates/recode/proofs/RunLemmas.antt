@@ -96,8 +96,7 @@ completes before after j v u p valid b f t =
     (f.pays.counted.bad ∙ ap (λ t. v.state.counts.bad + bad_line_count t) written_items) (f.pays.counted.lost ∙ ap (λ t. v.state.counts.lost + lost_line_count t) written_items) f.verdict valid within f.calls f.least f.sound in
     record {
       input = x;
-      consumed = f.consumed;
-      end = f.end;
+      given = f.given;
       converted = record {
         whole = record {
           within = within;

@@ -86,38 +86,38 @@ module _ {W L : Type 0} {contents : W → Option (List ℕ)} {logged : L → Opt
   -- a writer may fail after it: what was taken is a prefix of what was owed at the start
   pub pumps_owed : {T : Type 0} {w1 w2 : Writers W L} {c1 : Standing} {y : List ℕ} {items : List Item} {m l : ℕ} {r : Result T Fault} → (owes : List ℕ → List Item) → Pumps contents logged w0 w1 c0 c1 last x y m l → HandsOn contents logged w1 w2 items r
       → c0.answer ≡ None → c0.text ≡ [] → HoldNothing w0 → ((r : List ℕ) → (last ≡ true → r ≡ []) → owed c1 (y ++ r) ≡ items ++ owes r)
-      → IfErr r (λ (f : Fault). WritesPrefixFor (written_by contents logged w0) (written_by contents logged w2) w0.policy f last (λ r. to_write c0.state (x ++ r)))
+      → IfErr r (λ (f : Fault). WritesPrefixFor (written_by w0) (written_by w2) w0.policy f last (λ r. to_write c0.state (x ++ r)))
   pumps_owed {T} {w1} {w2} {c1} {y} {items} {m} {l} {r} owes h k none empty nothing owed_is = err_map r (hands_then h.spared h.hands k).err (λ f q.
-      let left : LeavesPrefixFor (writers_view contents logged w0) (writers_view contents logged w2) w0.policy f last (λ r. owed c0 (x ++ r)) =
-      left_for_of (writers_view contents logged w0) (writers_view contents logged w2) w0.policy f last ((h.items ++ items) ++ []) (λ r. owed c0 (x ++ r)) (q [])
+      let left : LeavesPrefixFor (writers_view w0) (writers_view w2) w0.policy f last (λ r. owed c0 (x ++ r)) =
+      left_for_of (writers_view w0) (writers_view w2) w0.policy f last ((h.items ++ items) ++ []) (λ r. owed c0 (x ++ r)) (q [])
       (λ r end. (owes r, h.turns.owes r end ∙ ap (λ t. h.items ++ t) (owed_is r end) ∙ sym (append_assoc h.items items (owes r)) ∙ ap (λ t. t ++ owes r) (sym (append-nil (h.items ++ items))))) in
-      let from : WritesPrefixFor (written_by contents logged w0) (written_by contents logged w2) w0.policy f last (λ r. owed c0 (x ++ r)) =
-      subst (λ (v : WritersView). LeavesPrefixFor v (writers_view contents logged w2) w0.policy f last (λ r. owed c0 (x ++ r))) (view_none contents logged w0 nothing) left in
+      let from : WritesPrefixFor (written_by w0) (written_by w2) w0.policy f last (λ r. owed c0 (x ++ r)) =
+      subst (λ (v : WritersView). LeavesPrefixFor v (writers_view w2) w0.policy f last (λ r. owed c0 (x ++ r))) (view_none w0 nothing) left in
       record { taken = from.taken; wrote = from.wrote; left = λ r end. subst (λ t. IsLeft w0.policy f from.taken t) (owed_first c0 (x ++ r) none empty) (from.left r end) })
 
   pub pumps_under : {T : Type 0} {w1 w2 : Writers W L} {c1 c2 : Standing} {y z : List ℕ} {items : List Item} {m l m' l' : ℕ} {r : Result T Fault} → Pumps contents logged w0 w1 c0 c1 last x y m l → HandsOn contents logged w1 w2 (items ++ []) r
       → TakesTurns c1 c2 last y z items m' l' → c0.answer ≡ None → c0.text ≡ [] → HoldNothing w0
-      → IfErr r (λ (f : Fault). WritesPrefixFor (written_by contents logged w0) (written_by contents logged w2) w0.policy f last (λ r. to_write c0.state (x ++ r)))
+      → IfErr r (λ (f : Fault). WritesPrefixFor (written_by w0) (written_by w2) w0.policy f last (λ r. to_write c0.state (x ++ r)))
   pumps_under {T} {w1} {w2} {c1} {c2} {y} {z} {items} h k t none empty nothing =
       pumps_owed (λ r. owed c2 (z ++ r)) h k none empty nothing (λ r end. t.owes r end ∙ ap (λ q. q ++ owed c2 (z ++ r)) (sym (append-nil items)))
 
   -- or while what is held is delivered
   pub pumps_stuck : {T : Type 0} {w1 w2 : Writers W L} {c1 : Standing} {y : List ℕ} {m l : ℕ} {r : Result T Fault} → Pumps contents logged w0 w1 c0 c1 last x y m l → HandsOn contents logged w1 w2 [] r → c0.answer ≡ None → c0.text ≡ [] → HoldNothing w0
-      → IfErr r (λ (f : Fault). WritesPrefixFor (written_by contents logged w0) (written_by contents logged w2) w0.policy f last (λ r. to_write c0.state (x ++ r)))
+      → IfErr r (λ (f : Fault). WritesPrefixFor (written_by w0) (written_by w2) w0.policy f last (λ r. to_write c0.state (x ++ r)))
   pumps_stuck {T} {w1} {w2} {c1} {y} h k none empty nothing = pumps_owed (λ r. owed c1 (y ++ r)) h k none empty nothing (λ r end. refl)
 
   -- all of a chunk was converted, and what is held is delivered
   pub pumps_done : {T : Type 0} {w1 w2 : Writers W L} {c1 : Standing} {r : Result T Fault} → c0.answer ≡ None → c0.text ≡ [] → c1.answer ≡ None → c1.text ≡ [] → c0.state.policy ≡ w0.policy → HoldNothing w0 → IsDoneWith c1.state last
-      → Pumps contents logged w0 w1 c0 c1 last x [] 3 2 → HandsOn contents logged w1 w2 [] r → OnOk r (HoldNothing w2) → OnOk r (ConvertsChunk (written_by contents logged w0) (written_by contents logged w2) c0.state c1.state x last)
+      → Pumps contents logged w0 w1 c0 c1 last x [] 3 2 → HandsOn contents logged w1 w2 [] r → OnOk r (HoldNothing w2) → OnOk r (ConvertsChunk (written_by w0) (written_by w2) c0.state c1.state x last)
   pumps_done {r = Err f} none empty none' empty' is nothing done h k after = tt
   pumps_done {T} {w1} {w2} {c1} {r = Ok u} none empty none' empty' is nothing done h k after =
       let t : TakesTurns (nothing_waits c0.state) (nothing_waits c1.state) last x [] h.items 3 2 =
       subst (λ (a : Standing). TakesTurns a (nothing_waits c1.state) last x [] h.items 3 2) (as_nothing_waits c0 none empty)
       (subst (λ (a : Standing). TakesTurns c0 a last x [] h.items 3 2) (as_nothing_waits c1 none' empty') h.turns) in
-      let passes : Passes (writers_view contents logged w0) (writers_view contents logged w2) (h.items ++ []) = (hands_then h.spared h.hands k).ok in
+      let passes : Passes (writers_view w0) (writers_view w2) (h.items ++ []) = (hands_then h.spared h.hands k).ok in
       let all : h.items ≡ passes.delivered =
-      sym (append-nil h.items) ∙ ap (λ (v : WritersView). held_items v ++ (h.items ++ [])) (sym (view_none contents logged w0 nothing)) ∙ passes.in_order
-      ∙ ap (λ (v : WritersView). passes.delivered ++ held_items v) (view_none contents logged w2 after) ∙ append-nil passes.delivered in
+      sym (append-nil h.items) ∙ ap (λ (v : WritersView). held_items v ++ (h.items ++ [])) (sym (view_none w0 nothing)) ∙ passes.in_order
+      ∙ ap (λ (v : WritersView). passes.delivered ++ held_items v) (view_none w2 after) ∙ append-nil passes.delivered in
       record {
         counted = omega (arith, t.counted);
         target = t.target;
@@ -126,7 +126,7 @@ module _ {W L : Type 0} {contents : W → Option (List ℕ)} {logged : L → Opt
         source = t.source;
         pays = record {
           written_items = h.items;
-          wrote = subst (λ items. Wrote (written_by contents logged w0) (written_by contents logged w2) (tagged items)) (sym all) passes.wrote;
+          wrote = subst (λ items. Wrote (written_by w0) (written_by w2) (tagged items)) (sym all) passes.wrote;
           counted = t.lines;
           spared = λ stops. h.spared (sym is ∙ stops);
           equals = λ r end. sym (owed_none c0.state (x ++ r)) ∙ t.owes r end ∙ ap (λ q. h.items ++ q) (owed_none c1.state r);

@@ -1,10 +1,9 @@
 -- How a step's parts make its clauses. What is left if a conversion failed.
-use Rattle.std.proofs.Common.{Err, Ok, ◌⊎◌, ◌≡◌, ℕ, ◌+◌, ◌≤◌, ◌<◌, add-zero, arith, length-append, append_assoc, List, [], ◌++◌, length, Option, None, Some, Bool, true, false, refl, sym, ap, ◌∙◌, subst, append-nil, take, inl, inr}
-use Rattle.std.specs.Io.KnownBytes.{Consumes, Keeps, IsAtEnd, Appends}
-use Rattle.std.proofs.KnownBytes.{Consumes-nil, Consumes-kept, Consumes-trans, Appends-kept, Appends-trans, Keeps-refl}
+use Rattle.std.proofs.Common.{Err, Ok, ◌⊎◌, ◌≡◌, ℕ, ◌+◌, ◌≤◌, ◌<◌, add-zero, arith, length-append, append_assoc, List, [], ◌++◌, length, Bool, true, false, refl, sym, ap, ◌∙◌, subst, append-nil, take, inl, inr}
+use Rattle.recode.proofs.GrowLemmas.{Gave-kept, Gave-nil, Gave-trans, GaveAll-after, GaveAll-is, Grew-kept, Grew-trans}
 use Rattle.encoding_mem.specs.Items.{Item}
 use Rattle.recode.specs.State.{State, to_write}
-use Rattle.recode.specs.Devices.{CountsFault, Devices, Failures, KeepsWritten, Written}
+use Rattle.recode.specs.Devices.{CountsFault, Devices, Failures, Gave, GaveAll, Grew, KeepsWritten, Written}
 use Rattle.recode.specs.TaggedByte.{Wrote, tagged, TaggedByte, output_bytes, log_bytes}
 use Rattle.recode.specs.Policy.{written_under}
 use Rattle.recode.specs.WrittenItems.{IsLeft, IsSpared, IsStop, WritesPrefixFor}
@@ -28,22 +27,22 @@ nothing_under : (w : Written) (p : Policy) (f : Fault) (last : Bool) (to_write :
 nothing_under w p f last to_write stop = record { taken = []; wrote = Wrote-nil w; left = λ r h. record { prefix = (tagged (written_under p (to_write r)), refl); stopped = stop (written_under p (to_write r)) } }
 
 keeps_all : (w : Written) → KeepsWritten w w
-keeps_all w = record { output = Keeps-refl w.output; log = Keeps-refl w.log }
+keeps_all w = record { output = refl; log = refl }
 
-pub stops_unread : (a b : Option (List ℕ)) (w : Written) (n m : Failures) (limit : ℕ) (s : State) → Keeps a b → s.counts.read ≤ limit
-    → Stops (record { input = a; written = w; failures = n }) (record { input = b; written = w; failures = m }) limit s Read
+pub stops_unread : (a b : List (List ℕ)) (w : Written) (n m : Failures) (limit : ℕ) (s : State) → b ≡ a → s.counts.read ≤ limit
+    → Stops (record { reads = a; written = w; failures = n }) (record { reads = b; written = w; failures = m }) limit s Read
 stops_unread a b w n m limit s p within = record {
-  read = record { input = []; refused = []; ended = false; consumed = Consumes-kept a a b [] (Consumes-nil a) p; end = λ h. cc; none = λ h. cc; spared = λ h. refl };
+  read = record { input = []; refused = []; ended = false; given = Gave-kept a b p; end = λ h. cc; none = λ h. cc; spared = λ h. refl };
   within = omega (arith, within);
   limited = omega (arith, within);
   pays = nothing_under w s.policy Read false (to_write s) (λ t. tt);
   untouched = λ h. (refl, keeps_all w);
 }
 
-pub stops_refused : (a b : Option (List ℕ)) (w : Written) (n m : Failures) (limit : ℕ) (s : State) (chunk : List ℕ) → Consumes a b chunk → s.counts.read ≤ limit → limit < s.counts.read + length chunk
-    → Stops (record { input = a; written = w; failures = n }) (record { input = b; written = w; failures = m }) limit s TooLong
+pub stops_refused : (a b : List (List ℕ)) (w : Written) (n m : Failures) (limit : ℕ) (s : State) (chunk : List ℕ) → Gave a b chunk → s.counts.read ≤ limit → limit < s.counts.read + length chunk
+    → Stops (record { reads = a; written = w; failures = n }) (record { reads = b; written = w; failures = m }) limit s TooLong
 stops_refused a b w n m limit s chunk p within past = record {
-  read = record { input = []; refused = chunk; ended = false; consumed = p; end = λ h. cc; none = λ h. cc; spared = λ h. absurd (h refl) };
+  read = record { input = []; refused = chunk; ended = false; given = p; end = λ h. cc; none = λ h. cc; spared = λ h. absurd (h refl) };
   within = omega (arith, within);
   limited = past;
   pays = nothing_under w s.policy TooLong false (to_write s) (λ t. tt);
@@ -72,10 +71,10 @@ is_writing T Log h = tt
 is_writing T TooLong h = absurd (omega arith)
 is_writing T (Unmappable i c) h = tt
 
-pub stops_under : (before after : Devices) (limit : ℕ) (last : Bool) (s : State) (chunk : List ℕ) (f : Fault) → Consumes before.input after.input chunk → (last ≡ true → IsAtEnd after.input)
+pub stops_under : (before after : Devices) (limit : ℕ) (last : Bool) (s : State) (chunk : List ℕ) (f : Fault) → Gave before.reads after.reads chunk → (last ≡ true → GaveAll before.reads after.reads chunk)
     → IsWriting f → s.counts.read + length chunk ≤ limit → WritesPrefixFor before.written after.written s.policy f last (λ r. to_write s (chunk ++ r)) → Stops before after limit s f
 stops_under before after limit last s chunk f p e writing within q = record {
-  read = record { input = chunk; refused = []; ended = last; consumed = subst (Consumes before.input after.input) (sym (append-nil chunk)) p; end = e; none = λ h. refl; spared = λ h. refl };
+  read = record { input = chunk; refused = []; ended = last; given = subst (Gave before.reads after.reads) (sym (append-nil chunk)) p; end = e; none = λ h. refl; spared = λ h. refl };
   within = within;
   limited = within_limit _ limit f writing (omega (arith, within, ap length (append-nil chunk)));
   pays = q;
@@ -87,7 +86,7 @@ stops_under before after limit last s chunk f p e writing within q = record {
 
 -- What a run has done that a fault ended.
 pub record HasStopped (before after : Devices) (limit : ℕ) (s : State) (fault : Fault) : Type 0 where
-  pub read : WasRead before.input after.input fault
+  pub read : WasRead before.reads after.reads fault
   pub within : s.counts.read + length read.input ≤ limit
   pub limited : PassesLimitIfTooLong (s.counts.read + length (read.input ++ read.refused)) limit fault
   pub pays : WritesPrefixFor before.written after.written s.policy fault read.ended (λ r. to_write s (read.input ++ r))
@@ -104,7 +103,7 @@ left_as p q f taken to_write e h = subst (λ (k : Policy). IsLeft k f taken to_w
 pub goes_on_start : (a : Devices) (limit : ℕ) (s : State) → s.counts.read ≤ limit → IsNearlyDecided s.decoder → HasRun a a limit s s
 goes_on_start a limit s within settled = record {
   chunk = [];
-  consumed = Consumes-nil a.input;
+  given = Gave-nil a.reads;
   counted = sym (add-zero s.counts.read);
   within = within;
   target = refl;
@@ -126,7 +125,7 @@ in_parts s s1 chunk more p = record { taken = p.taken; rest = λ r. ap s.decoder
 pub goes_on_more : (a b c : Devices) (limit : ℕ) (s s1 s2 : State) → HasRun a b limit s s1 → StepsOn b c limit s1 s2 → HasRun a c limit s s2
 goes_on_more a b c limit s s1 s2 p q = record {
   chunk = p.chunk ++ q.chunk;
-  consumed = Consumes-trans a.input b.input c.input p.chunk q.chunk p.consumed q.consumed;
+  given = Gave-trans a.reads b.reads c.reads p.chunk q.chunk p.given q.given;
   counted = omega (arith, p.counted, q.counted, length-append p.chunk q.chunk);
   within = q.within;
   target = q.target ∙ p.target;
@@ -153,8 +152,7 @@ goes_on_more a b c limit s s1 s2 p q = record {
 pub goes_on_finish : (a b c : Devices) (limit : ℕ) (s s1 s2 : State) → HasRun a b limit s s1 → Finishes b c limit s1 s2 → Finishes a c limit s s2
 goes_on_finish a b c limit s s1 s2 p q = record {
   chunk = p.chunk ++ q.chunk;
-  consumed = Consumes-trans a.input b.input c.input p.chunk q.chunk p.consumed q.consumed;
-  end = q.end;
+  given = GaveAll-after a.reads b.reads c.reads p.chunk q.chunk p.given q.given;
   counted = omega (arith, p.counted, q.counted, length-append p.chunk q.chunk);
   within = q.within;
   pays = record {
@@ -182,8 +180,8 @@ goes_on_stop a b c limit s s1 f p q = record {
     input = p.chunk ++ q.read.input;
     refused = q.read.refused;
     ended = q.read.ended;
-    consumed = subst (Consumes a.input c.input) (sym (append_assoc p.chunk q.read.input q.read.refused)) (Consumes-trans a.input b.input c.input p.chunk (q.read.input ++ q.read.refused) p.consumed q.read.consumed);
-    end = q.read.end;
+    given = subst (Gave a.reads c.reads) (sym (append_assoc p.chunk q.read.input q.read.refused)) (Gave-trans a.reads b.reads c.reads p.chunk (q.read.input ++ q.read.refused) p.given q.read.given);
+    end = λ h. GaveAll-after a.reads b.reads c.reads p.chunk q.read.input p.given (q.read.end h);
     none = q.read.none;
     spared = q.read.spared;
   };
@@ -251,14 +249,14 @@ flush_stop writes writes' logs logs' p taken written TooLong h = tt
 flush_stop writes writes' logs logs' p taken written (Unmappable i c) h = absurd h
 
 -- the log with its message, after what was written and flushed
-module _ (before after : Devices) (flushed : Written) (log : Option (List ℕ)) (m : Failures) (untold : ℕ) (j : Job) (kept : KeepsWritten after.written flushed) where
-  told_log : (taken : List TaggedByte) (message : List ℕ) → Wrote before.written after.written taken → Appends flushed.log log message → Appends before.written.log log (log_bytes taken ++ message)
+module _ (before after : Devices) (flushed : Written) (log : List ℕ) (m : Failures) (untold : ℕ) (j : Job) (kept : KeepsWritten after.written flushed) where
+  told_log : (taken : List TaggedByte) (message : List ℕ) → Wrote before.written after.written taken → Grew flushed.log log message → Grew before.written.log log (log_bytes taken ++ message)
   told_log taken message wrote told =
-      Appends-trans before.written.log flushed.log log (log_bytes taken) message (Appends-kept before.written.log after.written.log flushed.log (log_bytes taken) wrote.lined kept.log) told
+      Grew-trans before.written.log flushed.log log (log_bytes taken) message (Grew-kept before.written.log after.written.log flushed.log (log_bytes taken) wrote.lined kept.log) told
 
   -- by a run that failed
-  pub run_broke : (f : Fault) → Fails before after j f → (k : ℕ) × IsTold untold m.log (message_of f) k × Appends flushed.log log (take k (message_of f))
-      → CountsFlushes before.failures (record m { log = untold }) f → Breaks before (record { input = after.input; written = record { output = flushed.output; log = log }; failures = m }) j
+  pub run_broke : (f : Fault) → Fails before after j f → (k : ℕ) × IsTold untold m.log (message_of f) k × Grew flushed.log log (take k (message_of f))
+      → CountsFlushes before.failures (record m { log = untold }) f → Breaks before (record { reads = after.reads; written = record { output = flushed.output; log = log }; failures = m }) j
   run_broke f k told counted = record {
     read = k.read;
     within = k.within;
@@ -269,21 +267,21 @@ module _ (before after : Devices) (flushed : Written) (log : Option (List ℕ)) 
     counted = counted;
     told = told.0;
     whole = told.1;
-    output = Appends-kept before.written.output after.written.output flushed.output (output_bytes k.taken) k.wrote.output kept.output;
+    output = Grew-kept before.written.output after.written.output flushed.output (output_bytes k.taken) k.wrote.output kept.output;
     logged = told_log k.taken (take told.0 (message_of f)) k.wrote told.2;
     prefix = k.prefix;
     stopped = k.stopped;
   }
 
   -- by a flush that failed
-  pub flush_broke : (p : Report) (g : Fault) → Completes before after j p → (k : ℕ) × IsTold untold m.log (message_of g) k × Appends flushed.log log (take k (message_of g))
+  pub flush_broke : (p : Report) (g : Fault) → Completes before after j p → (k : ℕ) × IsTold untold m.log (message_of g) k × Grew flushed.log log (take k (message_of g))
       → CountsFlushes before.failures (record m { log = untold }) g → (writes writes' logs logs' : ℕ) → IsFlushCause writes writes' logs logs' g
-      → Breaks before (record { input = after.input; written = record { output = flushed.output; log = log }; failures = m }) j
+      → Breaks before (record { reads = after.reads; written = record { output = flushed.output; log = log }; failures = m }) j
   flush_broke p g k told counted writes writes' logs logs' cause =
       let w = k.converted.whole in
       let all : List TaggedByte = tagged (trace j k.input) in
       record {
-        read = record { input = k.input; refused = []; ended = true; consumed = subst (Consumes before.input after.input) (sym (append-nil k.input)) k.consumed; end = λ h. k.end; none = λ h. refl; spared = λ h. refl };
+        read = record { input = k.input; refused = []; ended = true; given = subst (Gave before.reads after.reads) (sym (append-nil k.input)) (GaveAll-is before.reads after.reads k.input k.given); end = λ h. k.given; none = λ h. refl; spared = λ h. refl };
         within = w.within;
         limited = flush_within writes writes' logs logs' _ j.limit g cause (rw (append-nil k.input) w.within);
         taken = all;
@@ -292,14 +290,8 @@ module _ (before after : Devices) (flushed : Written) (log : Option (List ℕ)) 
         counted = counted;
         told = told.0;
         whole = told.1;
-        output = Appends-kept before.written.output after.written.output flushed.output (output_bytes all) w.output kept.output;
+        output = Grew-kept before.written.output after.written.output flushed.output (output_bytes all) w.output kept.output;
         logged = told_log all (take told.0 (message_of g)) (record { output = w.output; lined = w.logged }) told.2;
         prefix = λ r h. ([], ap (λ t. tagged (trace j t)) (ap (λ t. k.input ++ t) (h refl) ∙ append-nil k.input) ∙ sym (append-nil all));
         stopped = λ r h. flush_stop writes writes' logs logs' j.policy all (trace j (k.input ++ r)) g cause;
       }
-
--- a reader that gave no byte, and is at its end, was at its end before
-pub ended_before : (old new : Option (List ℕ)) (bs : List ℕ) → Consumes old new bs → bs ≡ [] → IsAtEnd new → IsAtEnd old
-ended_before None new bs consumed none end = tt
-ended_before (Some xs) None bs consumed none end = absurd consumed
-ended_before (Some xs) (Some ys) bs consumed none end = consumed ∙ ap (λ b. b ++ ys) none ∙ end

@@ -1,14 +1,13 @@
 -- How what was written and what is still to be written compose. What the trace of a whole input is made of. If
 -- the log is empty.
-use Rattle.std.proofs.Common.{arith, inl, inr, ◌⊎◌, ◌<◌, ◌+◌, Result, Ok, Err, IfErr, IsErrAnd, Bool, true, false, ◌≡◌, ℕ, List, [], ◌∷◌, ◌++◌, map, take, drop, Option, refl, ap, sym, ◌∙◌, subst, append_assoc, take-append-drop, length}
+use Rattle.std.proofs.Common.{arith, inl, inr, ◌⊎◌, ◌<◌, ◌+◌, Result, Ok, Err, IfErr, IsErrAnd, Bool, true, false, ◌≡◌, ℕ, List, [], ◌∷◌, ◌++◌, map, take, drop, refl, ap, sym, ◌∙◌, subst, append_assoc, take-append-drop, length}
 use Rattle.std.proofs.lemmas.List.{map-append}
-use Rattle.std.proofs.KnownBytes.{Appends-nil, Appends-trans}
-use Rattle.std.specs.Io.KnownBytes.{Appends}
+use Rattle.recode.proofs.GrowLemmas.{Grew-nil, Grew-trans}
 use Rattle.encoding_mem.specs.declared.reference.Reference.{Reference}
 use Rattle.encoding_mem.specs.Items.{Item, Byte, MalformedAt, LostAt, whole_items, closing, item_bytes, open_items, form_items, trace_from}
 use Rattle.recode_log.specs.Line.{line_bytes}
 use Rattle.recode.specs.laws.Items.{output_bytes-append, log_bytes-append, output_bytes-bytes, log_bytes-bytes, output_bytes-lines, log_bytes-lines, tagged-append, lost_line_count-append, written_spared, spared_nil, spared_bytes}
-use Rattle.recode.specs.Devices.{Written}
+use Rattle.recode.specs.Devices.{Grew, Written}
 use Rattle.recode.specs.TaggedByte.{TaggedByte, Line, output_bytes, log_bytes, Wrote, tagged}
 use Rattle.recode.specs.Policy.{up_to_loss, written_under}
 use Rattle.recode.specs.WrittenItems.{WritesPrefix, WritesItemsFor, WritesPrefixFor, IsLeft, IsSpared, IsStop, lost_line_count}
@@ -29,24 +28,24 @@ use Rattle.recode.specs.Job.{form_lines, lost_log_lines, log_lines}
 use Rattle.recode_log.specs.declared.line.LogLine.TheVariants.{Bad, Lost}
 
 pub Wrote-nil : (w : Written) → Wrote w w []
-Wrote-nil w = record { output = Appends-nil w.output; lined = Appends-nil w.log }
+Wrote-nil w = record { output = Grew-nil w.output; lined = Grew-nil w.log }
 
 pub Wrote-trans : (w w' w'' : Written) (s t : List TaggedByte) → Wrote w w' s → Wrote w' w'' t → Wrote w w'' (s ++ t)
 Wrote-trans w w' w'' s t p q = record {
-  output = subst (Appends w.output w''.output) (sym (output_bytes-append s t)) (Appends-trans w.output w'.output w''.output _ _ p.output q.output);
-  lined = subst (Appends w.log w''.log) (sym (log_bytes-append s t)) (Appends-trans w.log w'.log w''.log _ _ p.lined q.lined);
+  output = subst (Grew w.output w''.output) (sym (output_bytes-append s t)) (Grew-trans w.output w'.output w''.output _ _ p.output q.output);
+  lined = subst (Grew w.log w''.log) (sym (log_bytes-append s t)) (Grew-trans w.log w'.log w''.log _ _ p.lined q.lined);
 }
 
-pub wrote_bytes : (w w' l : Option (List ℕ)) (bs : List ℕ) → Appends w w' bs → Wrote (record { output = w; log = l }) (record { output = w'; log = l }) (tagged (map Byte bs))
+pub wrote_bytes : (w w' l : List ℕ) (bs : List ℕ) → Grew w w' bs → Wrote (record { output = w; log = l }) (record { output = w'; log = l }) (tagged (map Byte bs))
 wrote_bytes w w' l bs p = record {
-  output = subst (Appends w w') (sym (output_bytes-bytes bs)) p;
-  lined = subst (Appends l l) (sym (log_bytes-bytes bs)) (Appends-nil l);
+  output = subst (Grew w w') (sym (output_bytes-bytes bs)) p;
+  lined = subst (Grew l l) (sym (log_bytes-bytes bs)) (Grew-nil l);
 }
 
-pub wrote_line : (w l l' : Option (List ℕ)) (bs : List ℕ) → Appends l l' bs → Wrote (record { output = w; log = l }) (record { output = w; log = l' }) (map Line bs)
+pub wrote_line : (w l l' : List ℕ) (bs : List ℕ) → Grew l l' bs → Wrote (record { output = w; log = l }) (record { output = w; log = l' }) (map Line bs)
 wrote_line w l l' bs p = record {
-  output = subst (Appends w w) (sym (output_bytes-lines bs)) (Appends-nil w);
-  lined = subst (Appends l l') (sym (log_bytes-lines bs)) p;
+  output = subst (Grew w w) (sym (output_bytes-lines bs)) (Grew-nil w);
+  lined = subst (Grew l l') (sym (log_bytes-lines bs)) p;
 }
 
 -- what is written of a front is a prefix of what is written of the whole, and is that if it stops
@@ -124,7 +123,7 @@ none_stopped p f taken written (inl is) = subst (λ (g : Fault). IsStop p g take
 none_stopped p f taken written (inr is) = subst (λ (g : Fault). IsStop p g taken written) (sym is) tt
 
 -- n of the bytes
-pub under_bytes : (w w' l : Option (List ℕ)) (p : Policy) (f : Fault) (bs : List ℕ) (n : ℕ) (a b : List Item) → f ≡ Write → Appends w w' (take n bs) → a ≡ map Byte bs ++ b → WritesPrefix (record { output = w; log = l }) (record { output = w'; log = l }) p f a
+pub under_bytes : (w w' l : List ℕ) (p : Policy) (f : Fault) (bs : List ℕ) (n : ℕ) (a b : List Item) → f ≡ Write → Grew w w' (take n bs) → a ≡ map Byte bs ++ b → WritesPrefix (record { output = w; log = l }) (record { output = w'; log = l }) p f a
 under_bytes w w' l p f bs n a b writer h e =
     let more : List Item = map Byte (drop n bs) ++ b in
     let is : a ≡ map Byte (take n bs) ++ more =
@@ -147,7 +146,7 @@ written_first Policy.Stop (MalformedAt o n) b = (up_to_loss b, refl)
 written_first Policy.Stop (LostAt i c) b = ([], refl)
 
 -- lines of which n bytes were taken
-pub under_lines : (w l l' : Option (List ℕ)) (p : Policy) (f : Fault) (lines : List ℕ) (n : ℕ) (items a more : List Item) → f ≡ Log → tagged items ≡ map Line lines → written_under p a ≡ items ++ more → Appends l l' (take n lines)
+pub under_lines : (w l l' : List ℕ) (p : Policy) (f : Fault) (lines : List ℕ) (n : ℕ) (items a more : List Item) → f ≡ Log → tagged items ≡ map Line lines → written_under p a ≡ items ++ more → Grew l l' (take n lines)
     → WritesPrefix (record { output = w; log = l }) (record { output = w; log = l' }) p f a
 under_lines w l l' p f lines n items a more log e begins h = record {
   taken = map Line (take n lines);

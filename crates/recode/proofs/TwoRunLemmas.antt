@@ -1,9 +1,9 @@
 -- What two runs on one input have in common, and when a run ends well.
-use Rattle.std.proofs.Common.{◌≡◌, ℕ, ◌<◌, ◌≤◌, ◌↔◌, ◌⊎◌, inl, inr, Bool, true, false, IsTrue, IsOk, List, [], ◌∷◌, ap, length, Some, Result, Ok, Err, refl, sym, ◌∙◌, arith}
+use Rattle.std.proofs.Common.{◌≡◌, ℕ, ◌<◌, ◌≤◌, ◌↔◌, ◌⊎◌, inl, inr, Bool, true, false, IsTrue, IsOk, List, [], ◌∷◌, ap, length, Result, Ok, Err, refl, sym, ◌∙◌, arith}
 use Rattle.std.proofs.lemmas.Bool.{false≢true}
 use Rattle.encoding_front.specs.declared.encoding.Encoding.{Encoding}
 use Rattle.recode.specs.Job.{RunsThrough, trace}
-use Rattle.recode.specs.Devices.{Devices, Failures, known, Written}
+use Rattle.recode.specs.Devices.{Devices, Failures, IsOf, Written}
 use Rattle.recode.specs.TaggedByte.{tagged}
 use Rattle.recode.specs.Runs.{AgreeButForCalls, IsStopped, RunReturns, WroteTheSame}
 use Rattle.recode.specs.Session.{IsReport, IsConverted, Completes}
@@ -44,7 +44,7 @@ pub same_reports : (j : Job) (x : List ℕ) (w w' v v' : Written) (p q : Report)
 same_reports j x w w' v v' p q a b = same_report j x p q a.report b.report
 
 -- with readers whose contracts say their bytes
-pub same_runs : (j : Job) (x : List ℕ) (s s' t t' : Devices) (p q : Report) → s.input ≡ Some x → t.input ≡ Some x → Completes s s' j p → Completes t t' j q
+pub same_runs : (j : Job) (x : List ℕ) (s s' t t' : Devices) (p q : Report) → IsOf s.reads s'.reads x → IsOf t.reads t'.reads x → Completes s s' j p → Completes t t' j q
     → WroteTheSame s.written s'.written t.written t'.written × AgreeButForCalls p q
 same_runs j x s s' t t' p q is are a b =
     let one = known_completes x s s' j p is a in
@@ -52,8 +52,8 @@ same_runs j x s s' t t' p q is are a b =
     (same_written j x s.written s'.written t.written t'.written p q one another, same_reports j x s.written s'.written t.written t'.written p q one another)
 
 -- with writers whose contracts say theirs
-pub same_bytes : (j : Job) (x w w' v' l l' m' : List ℕ) (p q : Report) → IsConverted (known w l) (known w' l') j x p → IsConverted (known w l) (known v' m') j x q → (w' ≡ v') × (l' ≡ m')
-same_bytes j x w w' v' l l' m' p q a b = (a.whole.output ∙ sym b.whole.output, a.whole.logged ∙ sym b.whole.logged)
+pub same_bytes : (j : Job) (x : List ℕ) (w w' v' : Written) (p q : Report) → IsConverted w w' j x p → IsConverted w v' j x q → (w'.output ≡ v'.output) × (w'.log ≡ v'.log)
+same_bytes j x w w' v' p q a b = (a.whole.output ∙ sym b.whole.output, a.whole.logged ∙ sym b.whole.logged)
 
 -- A run in which no call failed.
 module _ (j : Job) (s s' : Devices) (quiet : s'.failures ≡ s.failures) where
@@ -67,13 +67,13 @@ module _ (j : Job) (s s' : Devices) (quiet : s'.failures ≡ s.failures) where
 
 -- and whose reader's contract says its bytes
 module _ (j : Job) (x : List ℕ) (s s' : Devices) (quiet : s'.failures ≡ s.failures) where
-  through_where_well : (answer : Result Report Fault) → s.input ≡ Some x → RunReturns s s' j answer → IsOk answer → (length x ≤ j.limit) × RunsThrough j x
+  through_where_well : (answer : Result Report Fault) → IsOf s.reads s'.reads x → RunReturns s s' j answer → IsOk answer → (length x ≤ j.limit) × RunsThrough j x
   through_where_well (Ok p) is a h =
       let k = known_completes x s s' j p is a.completes in
       (k.whole.within, k.whole.unstopped)
   through_where_well (Err f) is a h = absurd (false≢true h)
 
-  too_long_where_told : (answer : Result Report Fault) → s.input ≡ Some x → RunReturns s s' j answer → answer ≡ Err TooLong → j.limit < length x
+  too_long_where_told : (answer : Result Report Fault) → IsOf s.reads s'.reads x → RunReturns s s' j answer → answer ≡ Err TooLong → j.limit < length x
   too_long_where_told (Ok p) is a h = absurd (cc)
   too_long_where_told (Err Read) is a h = absurd (omega (arith, a.counts.reader, ap (λ (n : Failures). n.reader) quiet))
   too_long_where_told (Err Write) is a h = absurd (omega (arith, a.counts.writer, ap (λ (n : Failures). n.writer) quiet))
@@ -82,7 +82,7 @@ module _ (j : Job) (x : List ℕ) (s s' : Devices) (quiet : s'.failures ≡ s.fa
   too_long_where_told (Err (Unmappable i c)) is a h = absurd (cc)
 
   -- if the policy stopped it a character was lost
-  lost_where_stopped : (answer : Result Report Fault) → s.input ≡ Some x → RunReturns s s' j answer → IsStopped j.policy answer → ¬ (RunsThrough j x)
+  lost_where_stopped : (answer : Result Report Fault) → IsOf s.reads s'.reads x → RunReturns s s' j answer → IsStopped j.policy answer → ¬ (RunsThrough j x)
   lost_where_stopped (Ok p) is a h through = absurd h
   lost_where_stopped (Err Read) is a h through = absurd h
   lost_where_stopped (Err Write) is a h through = absurd h
@@ -93,7 +93,7 @@ module _ (j : Job) (x : List ℕ) (s s' : Devices) (quiet : s'.failures ≡ s.fa
       let spared = runs_through j x through in
       omega (arith, spared k.policy, ap lost_line_count (sym (trace_where_spared j x spared)), ap lost_line_count k.last, lost_line_count-append k.items (LostAt i c ∷ []))
 
-  pub well_where_through : (answer : Result Report Fault) → s.input ≡ Some x → RunReturns s s' j answer → IsOk answer ↔ ((length x ≤ j.limit) × RunsThrough j x)
+  pub well_where_through : (answer : Result Report Fault) → IsOf s.reads s'.reads x → RunReturns s s' j answer → IsOk answer ↔ ((length x ≤ j.limit) × RunsThrough j x)
   well_where_through answer is a = (
     through_where_well answer is a,
     λ h. elim (well_or_ended j s s' quiet answer a) [
@@ -103,7 +103,7 @@ module _ (j : Job) (x : List ℕ) (s s' : Devices) (quiet : s'.failures ≡ s.fa
     ],
   )
 
-  pub told_where_too_long : (answer : Result Report Fault) → s.input ≡ Some x → RunReturns s s' j answer → RunsThrough j x → (answer ≡ Err TooLong) ↔ (j.limit < length x)
+  pub told_where_too_long : (answer : Result Report Fault) → IsOf s.reads s'.reads x → RunReturns s s' j answer → RunsThrough j x → (answer ≡ Err TooLong) ↔ (j.limit < length x)
   told_where_too_long answer is a through = (
     too_long_where_told answer is a,
     λ h. elim (well_or_ended j s s' quiet answer a) [

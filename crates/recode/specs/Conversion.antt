@@ -1,12 +1,12 @@
 -- What a whole conversion says by its status.
-use Rattle.std.specs.Prelude.{◌≡◌, ℕ, ◌+◌, ◌<◌, ◌≤◌, ◌⊎◌, List, [], ◌++◌, length, take, Err, true, codes}
-use Rattle.std.specs.Io.KnownBytes.{Appends, Consumes, IsAtEnd}
+use Rattle.std.specs.Prelude.{◌≡◌, ℕ, ◌+◌, ◌<◌, ◌≤◌, ◌⊎◌, List, [], ◌∷◌, ◌++◌, length, take, Bool, Err, true, codes}
+use Rattle.recode_log.specs.Call.{Call, Flush}
 use Rattle.recode_log.specs.Counted.{IsTold}
 use Rattle.recode_log.specs.Line.{row_bytes}
 use Rattle.recode.specs.Job.{trace, Faithful}
 use Rattle.recode.specs.Session.{WroteWhole}
 use Rattle.recode.specs.Step.{PassesLimitIfTooLong, WasRead}
-use Rattle.recode.specs.Devices.{Devices, Failures}
+use Rattle.recode.specs.Devices.{Devices, Failures, GaveAll, Grew}
 use Rattle.recode.specs.Fault.{log_failures, reader_failures, writer_failures}
 use Rattle.recode.specs.TaggedByte.{TaggedByte, IsPrefix, tagged, output_bytes, log_bytes}
 use Rattle.recode.specs.WrittenItems.{IsStop}
@@ -19,8 +19,7 @@ use Rattle.recode.specs.declared.job.Report.{Report}
 -- says whether anything was lost.
 pub record Converts (before after : Devices) (j : Job) (status : ℕ) : Type 0 where
   pub input : List ℕ
-  pub consumed : Consumes before.input after.input input
-  pub end : IsAtEnd after.input
+  pub given : GaveAll before.reads after.reads input
   pub whole : WroteWhole before.written after.written j input
   pub known : (status ≡ 0) ⊎ (status ≡ 1)
   pub faithful : status ≡ 0 → Faithful j input
@@ -45,6 +44,12 @@ IsFlushCause writes writes' logs logs' Log = (writes' ≡ writes) × (logs < log
 IsFlushCause writes writes' logs logs' TooLong = ⊥
 IsFlushCause writes writes' logs logs' (Unmappable index scalar) = ⊥
 
+-- the last call of a history was a flush
+pub record EndsInFlush (calls : List Call) : Type 0 where
+  pub earlier : List Call
+  pub failed : Bool
+  pub ends : calls ≡ earlier ++ (Flush failed ∷ [])
+
 -- what is said of a fault
 abbrev pub message_of : Fault → List ℕ
 message_of Read = codes "recode: read fault\n"
@@ -60,7 +65,7 @@ message_of (Unmappable index scalar) = row_bytes (codes "recode: unmappable ") i
 -- that nothing failed but it and flushes. They do not say which of two failed calls came first.
 pub record Breaks (before after : Devices) (j : Job) : Type 0 where
   pub fault : Fault
-  pub read : WasRead before.input after.input fault
+  pub read : WasRead before.reads after.reads fault
   pub within : length read.input ≤ j.limit
   pub limited : PassesLimitIfTooLong (length (read.input ++ read.refused)) j.limit fault
   pub taken : List TaggedByte
@@ -68,7 +73,7 @@ pub record Breaks (before after : Devices) (j : Job) : Type 0 where
   pub counted : CountsFlushes before.failures (record after.failures { log = untold }) fault
   pub told : ℕ
   pub whole : IsTold untold after.failures.log (message_of fault) told
-  pub output : Appends before.written.output after.written.output (output_bytes taken)
-  pub logged : Appends before.written.log after.written.log (log_bytes taken ++ take told (message_of fault))
+  pub output : Grew before.written.output after.written.output (output_bytes taken)
+  pub logged : Grew before.written.log after.written.log (log_bytes taken ++ take told (message_of fault))
   pub prefix : (r : List ℕ) → (read.ended ≡ true → r ≡ []) → IsPrefix taken (tagged (trace j (read.input ++ r)))
   pub stopped : (r : List ℕ) → (read.ended ≡ true → r ≡ []) → IsStop j.policy fault taken (trace j (read.input ++ r))

@@ -1,25 +1,38 @@
--- What the three devices of a conversion have, as far as their contracts say it, and how many of their calls
--- have failed.
-use Rattle.std.specs.Prelude.{◌≡◌, ℕ, ◌+◌, List, Option, Some, Result}
-use Rattle.std.specs.Io.KnownBytes.{Keeps}
-use Rattle.recode_log.specs.Counted.{failures_of, inner_of}
+-- What passed through the three devices of a conversion, and how many of their calls have failed.
+use Rattle.std.specs.Prelude.{◌≡◌, ℕ, ◌+◌, List, [], ◌∷◌, ◌++◌, Result}
+use Rattle.std.specs.List.{concat}
+use Rattle.recode_log.specs.Call.{passed_by}
+use Rattle.recode_log.specs.Counted.{failures_of, history_of, passed_of}
 use Rattle.recode_log.specs.declared.counted.Counted.{Counted}
 use Rattle.recode.specs.Fault.{log_failures, reader_failures, writer_failures}
 use Rattle.recode.specs.declared.job.Fault.{Fault}
 
--- the bytes that the writer and the log have taken so far
+-- the bytes that calls of the writer and of the log have taken so far
 pub record Written : Type 0 where
-  pub output : Option (List ℕ)
-  pub log : Option (List ℕ)
+  pub output : List ℕ
+  pub log : List ℕ
 
--- what was written, of an output and a log whose contracts both say their bytes
-abbrev pub known : (output log : List ℕ) → Written
-known output log = record { output = Some output; log = Some log }
+-- what was taken grew by these bytes
+abbrev pub Grew : (before after bytes : List ℕ) → Type 0
+Grew before after bytes = after ≡ before ++ bytes
 
 -- nothing was written
 pub record KeepsWritten (before after : Written) : Type 0 where
-  pub output : Keeps before.output after.output
-  pub log : Keeps before.log after.log
+  pub output : after.output ≡ before.output
+  pub log : after.log ≡ before.log
+
+-- calls of the reader gave these bytes, in their order
+abbrev pub Gave : (before after : List (List ℕ)) (bytes : List ℕ) → Type 0
+Gave before after bytes = (reads : List (List ℕ)) × (after ≡ before ++ reads) × (concat reads ≡ bytes)
+
+-- calls of the reader gave these bytes, and the last of them gave none: the end
+abbrev pub GaveAll : (before after : List (List ℕ)) (bytes : List ℕ) → Type 0
+GaveAll before after bytes = (reads : List (List ℕ)) × (after ≡ before ++ (reads ++ ([] ∷ []))) × (concat reads ≡ bytes)
+
+-- What calls of the reader gave is of these bytes: they begin with it, and it is all of them if the last call gave none.
+pub record IsOf (before after : List (List ℕ)) (x : List ℕ) : Type 0 where
+  pub front : (bytes : List ℕ) → Gave before after bytes → (rest : List ℕ) × (x ≡ bytes ++ rest)
+  pub whole : (bytes : List ℕ) → GaveAll before after bytes → bytes ≡ x
 
 -- how many calls of a reader, a writer and a log have failed
 pub record Failures : Type 0 where
@@ -27,22 +40,21 @@ pub record Failures : Type 0 where
   pub writer : ℕ
   pub log : ℕ
 
--- the bytes that the reader has still to give, those that were written, and the failed calls
+-- what each call of the reader gave that did not fail, what was written, and the failed calls
 pub record Devices : Type 0 where
-  pub input : Option (List ℕ)
+  pub reads : List (List ℕ)
   pub written : Written
   pub failures : Failures
 
--- the bytes that a writer and a log have taken, as far as the contract of each says it
-abbrev pub written_in : {W L : Type 0} → (W → Option (List ℕ)) → (L → Option (List ℕ)) → Counted W → Counted L → Written
-written_in contents logged writer log = record { output = contents (inner_of writer); log = logged (inner_of log) }
+-- the bytes that calls of a writer and of a log have taken
+abbrev pub written_in : {W L : Type 0} → Counted W → Counted L → Written
+written_in writer log = record { output = passed_of writer; log = passed_of log }
 
--- the bytes of a reader, a writer and a log, as far as the contract of each says them, and how many calls of
--- each have failed
-abbrev pub devices_in : {R W L : Type 0} → (R → Option (List ℕ)) → (W → Option (List ℕ)) → (L → Option (List ℕ)) → Counted R → Counted W → Counted L → Devices
-devices_in remaining contents logged reader writer log = record {
-  input = remaining (inner_of reader);
-  written = written_in contents logged writer log;
+-- what passed through a reader, a writer and a log, and how many calls of each have failed
+abbrev pub devices_in : {R W L : Type 0} → Counted R → Counted W → Counted L → Devices
+devices_in reader writer log = record {
+  reads = passed_by (history_of reader);
+  written = written_in writer log;
   failures = record { reader = failures_of reader; writer = failures_of writer; log = failures_of log };
 }
 

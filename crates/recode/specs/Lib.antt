@@ -4,6 +4,7 @@ pub mod Work
 pub mod Policy
 pub mod Fault
 pub mod Devices
+pub mod Told
 pub mod State
 pub mod Job
 pub mod Step
@@ -13,6 +14,7 @@ pub mod ReadBackJobs
 pub mod Runs
 pub mod Latency
 pub mod Conversion
+pub mod RunsTold
 pub mod Program
 pub mod IndexFaults
 pub mod calls

@@ -7,6 +7,7 @@ use Rattle.encoding_index.specs.Loads.{Loads, text_fault}
 use Rattle.encoding_tables.specs.FileNames.{file_name_of}
 use Rattle.encoding_tables.specs.IndexLists.{IndexLists, has}
 use Rattle.encoding_tables.specs.declared.index_kind.IndexKind.{IndexKind}
+use Rattle.recode_log.specs.Counted.{history_of}
 use Rattle.recode_log.specs.declared.counted.Counted.{Counted}
 use Rattle.recode_words.specs.Request.{AsksFor, HasMeaninglessValue, IsRefusedByClap}
 use Rattle.recode_words.specs.declared.request.Request.{Request}
@@ -14,9 +15,11 @@ use Rattle.recode_words.specs.declared.request.Request.TheVariants.{Run, Help, V
 use Rattle.recode_words.specs.declared.words.MarkWord.{MarkWord}
 use Rattle.recode_words.specs.declared.words.PolicyWord.{PolicyWord}
 use Rattle.recode_words.specs.declared.words.Words.{Words}
-use Rattle.recode.specs.Conversion.{Breaks, Converts}
+use Rattle.recode.specs.Conversion.{Breaks, Converts, EndsInFlush}
 use Rattle.recode.specs.Devices.{Devices, devices_in}
 use Rattle.recode.specs.Job.{IsValidJob}
+use Rattle.recode.specs.RunsTold.{BreaksTold, ConvertsTold}
+use Rattle.recode.specs.Told.{told_in}
 use Rattle.recode.specs.declared.job.Job.{Job}
 use Rattle.recode.specs.declared.job.Policy.{Policy}
 
@@ -106,10 +109,15 @@ pub record IsConversion (before after : Devices) (j : Job) (status : ℕ) : Type
   pub quiet : status ≢ 4 → after.failures ≡ before.failures
   pub broken : status ≡ 4 → Breaks before after j
 
--- the promise of `convert`, of a reader, a writer and a log: whole, or broken off
-abbrev pub IsConversionOn : {R W L : Type 0} → (R → Option (List ℕ)) → (W → Option (List ℕ)) → (L → Option (List ℕ)) → Ports R W L → Ports R W L → Job → ℕ → Type 0
-IsConversionOn remaining contents logged before after j status =
-    IsConversion (devices_in remaining contents logged before.reader before.writer before.log) (devices_in remaining contents logged after.reader after.writer after.log) j status
+-- The promise of `convert`, of a reader, a writer and a log: whole, or broken off, and so of what they tell, if they do.
+-- The last call of the writer was a flush, and that of the log, unless it was told a fault after it.
+pub record IsConversionOn {R W L : Type 0} (remaining : R → Option (List ℕ)) (contents : W → Option (List ℕ)) (logged : L → Option (List ℕ)) (before after : Ports R W L) (j : Job) (status : ℕ) : Type 0 where
+  pub passed : IsConversion (devices_in before.reader before.writer before.log) (devices_in after.reader after.writer after.log) j status
+  pub converts_told : status ≢ 4 → ConvertsTold (devices_in before.reader before.writer before.log) (devices_in after.reader after.writer after.log)
+      (told_in remaining contents logged before.reader before.writer before.log) (told_in remaining contents logged after.reader after.writer after.log) j status
+  pub broken_told : status ≡ 4 → BreaksTold (devices_in before.reader before.writer before.log) (devices_in after.reader after.writer after.log)
+      (told_in remaining contents logged before.reader before.writer before.log) (told_in remaining contents logged after.reader after.writer after.log) j
+  pub flushes : EndsInFlush (history_of after.writer) × (status ≢ 4 → EndsInFlush (history_of after.log))
 
 -- Nothing is read, and nothing is written except to the log.
 pub record IsLeftAlone {R W L : Type 0} (before after : Ports R W L) : Type 0 where

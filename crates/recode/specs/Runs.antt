@@ -1,5 +1,5 @@
 -- What two runs have in common, and what a run returns.
-use Rattle.std.specs.Prelude.{◌≡◌, ℕ, List, [], Some, Result, Ok, Err, IfOk, IfErr}
+use Rattle.std.specs.Prelude.{◌≡◌, ℕ, List, [], Result, Ok, Err, IfOk, IfErr}
 use Rattle.recode.specs.Devices.{CountsFault, Devices, Written}
 use Rattle.recode.specs.TaggedByte.{TaggedByte, Wrote}
 use Rattle.recode.specs.Session.{Completes, Fails}
@@ -21,8 +21,8 @@ AgreeButForCalls p q = q ≡ record p { calls = q.calls }
 
 -- the output was empty, and these bytes are all of it
 pub record IsWholeOutput (before after : Written) (bytes : List ℕ) : Type 0 where
-  pub begun : before.output ≡ Some []
-  pub all : after.output ≡ Some bytes
+  pub begun : before.output ≡ []
+  pub all : after.output ≡ bytes
 
 -- the policy is one that stops, and stopped the run
 abbrev pub IsStopped : Policy → Result Report Fault → Type 0

@@ -1,13 +1,12 @@
 -- A session as its callers know it, and what a run of it says.
 use Rattle.std.specs.Prelude.{◌≡◌, ℕ, ◌≤◌, ◌⊎◌, ◌↔◌, IsTrue, List, [], ◌++◌, length, true, Result, Ok, Err}
-use Rattle.std.specs.Io.KnownBytes.{Appends, Consumes, IsAtEnd}
 use Rattle.encoding_mem.specs.Piece.{Piece, malformed_count}
 use Rattle.encoding_mem.specs.Coding.{lost_count}
 use Rattle.encoding_mem.specs.declared.form.EscapeState.TheVariants.{Ascii}
 use Rattle.recode.specs.Job.{trace, whole_trace, target_of, output_of, log_of, source_in, input_pieces, input_text, Faithful, RunsThrough}
 use Rattle.recode.specs.Latency.{WroteDecided}
 use Rattle.recode.specs.State.{State, WillBeFaithful, to_write}
-use Rattle.recode.specs.Devices.{Devices, Written}
+use Rattle.recode.specs.Devices.{Devices, GaveAll, Grew, Written}
 use Rattle.recode.specs.TaggedByte.{TaggedByte, Wrote, IsPrefix, tagged, output_bytes, log_bytes}
 use Rattle.recode.specs.Step.{PassesLimitIfTooLong, WasRead}
 use Rattle.recode.specs.Work.{fewest_calls, most_calls}
@@ -90,8 +89,8 @@ pub record IsReport (j : Job) (x : List ℕ) (p : Report) : Type 0 where
 pub record WroteWhole (before after : Written) (j : Job) (x : List ℕ) : Type 0 where
   pub within : length x ≤ j.limit
   pub unstopped : RunsThrough j x
-  pub output : Appends before.output after.output (output_of j x)
-  pub logged : Appends before.log after.log (log_of j x)
+  pub output : Grew before.output after.output (output_of j x)
+  pub logged : Grew before.log after.log (log_of j x)
 
 -- all of an input was converted and written, and the report is that on it
 pub record IsConverted (before after : Written) (j : Job) (x : List ℕ) (p : Report) : Type 0 where
@@ -101,8 +100,7 @@ pub record IsConverted (before after : Written) (j : Job) (x : List ℕ) (p : Re
 -- A run that came to its end: the input was read to its end, converted and reported.
 pub record Completes (before after : Devices) (j : Job) (p : Report) : Type 0 where
   pub input : List ℕ
-  pub consumed : Consumes before.input after.input input
-  pub end : IsAtEnd after.input
+  pub given : GaveAll before.reads after.reads input
   pub converted : IsConverted before.written after.written j input p
 
 -- A run that a fault ended. What was written is a prefix of what any continuation of the bytes read gives (none if the
@@ -110,7 +108,7 @@ pub record Completes (before after : Devices) (j : Job) (p : Report) : Type 0 wh
 -- continuation gives, and ends with the line of the lost character. Bytes that are refused pass the limit. If the fault
 -- is `Read` or `TooLong`, all that the bytes decide that were counted was written.
 pub record Fails (before after : Devices) (j : Job) (f : Fault) : Type 0 where
-  pub read : WasRead before.input after.input f
+  pub read : WasRead before.reads after.reads f
   pub within : length read.input ≤ j.limit
   pub limited : PassesLimitIfTooLong (length (read.input ++ read.refused)) j.limit f
   pub taken : List TaggedByte

@@ -1,17 +1,18 @@
 -- What one step does, for every continuation of the bytes read.
-use Rattle.std.specs.Prelude.{◌≡◌, ◌≢◌, ◌↔◌, IsTrue, ℕ, ◌+◌, ◌-◌, ◌*◌, ◌<◌, ◌≤◌, ◌⊎◌, List, [], ◌++◌, length, Bool, true, false, Option, min}
-use Rattle.std.specs.Io.KnownBytes.{Appends, Consumes, IsAtEnd}
+use Rattle.std.specs.Prelude.{◌≡◌, ◌≢◌, ◌↔◌, IsTrue, ℕ, ◌+◌, ◌-◌, ◌*◌, ◌<◌, ◌≤◌, ◌⊎◌, List, [], ◌∷◌, ◌++◌, length, Bool, true, false, Result, IfErr, min}
 use Rattle.std.specs.List.{flat_map}
 use Rattle.encoding_mem.specs.Coding.{Coding, last_set, open_from}
 use Rattle.encoding_mem.specs.calls.Decoding.{DecoderState, Waits}
 use Rattle.encoding_mem.specs.Items.{Item}
 use Rattle.encoding_mem.specs.Piece.{Piece, text}
 use Rattle.encoding_mem.specs.declared.form.EscapeState.{EscapeState}
+use Rattle.recode_log.specs.Call.{Call, Passed, Failed, Flush}
 use Rattle.recode_log.specs.Line.{line_bytes}
+use Rattle.recode.specs.Fault.{EndsAtFault}
 use Rattle.recode.specs.Job.{log_lines}
 use Rattle.recode.specs.Policy.{reference_form}
 use Rattle.recode.specs.State.{State, WillBeFaithful, to_write}
-use Rattle.recode.specs.Devices.{Devices, KeepsWritten, Written}
+use Rattle.recode.specs.Devices.{Devices, Gave, GaveAll, Grew, KeepsWritten, Written}
 use Rattle.recode.specs.TaggedByte.{TaggedByte, Wrote, IsPrefix, tagged}
 use Rattle.recode.specs.calls.TraceToWrite.{AreSound}
 use Rattle.recode.specs.Work.{TakesAtLeast, TakesCalls}
@@ -40,7 +41,7 @@ pub record Advances (before after : List ℕ → List Piece) (e : Coding) (s s' 
 -- malformed sequence and one for each lost character.
 pub record StepsOn (before after : Devices) (limit : ℕ) (s s' : State) : Type 0 where
   pub chunk : List ℕ
-  pub consumed : Consumes before.input after.input chunk
+  pub given : Gave before.reads after.reads chunk
   pub counted : s'.counts.read ≡ s.counts.read + length chunk
   pub grows : s.counts.read < s'.counts.read
   pub within : s'.counts.read ≤ limit
@@ -49,8 +50,8 @@ pub record StepsOn (before after : Devices) (limit : ℕ) (s s' : State) : Type 
   pub source : (r : List ℕ) → s.source (chunk ++ r) ≡ s'.source r
   pub pays : WritesItemsFor before.written after.written s.counts s'.counts s.policy false (λ r. to_write s (chunk ++ r)) (to_write s')
   pub advances : Advances (λ r. s.decoder.pieces (chunk ++ r)) s'.decoder.pieces s.coding s.set s'.set s.counts s'.counts
-  pub output : Appends before.written.output after.written.output (open_from (reference_form s.policy) s.coding s.set (text advances.taken))
-  pub logged : Appends before.written.log after.written.log (flat_map line_bytes (log_lines s.coding (s.counts.read - s.decoder.pending) s.counts.index advances.taken))
+  pub output : Grew before.written.output after.written.output (open_from (reference_form s.policy) s.coding s.set (text advances.taken))
+  pub logged : Grew before.written.log after.written.log (flat_map line_bytes (log_lines s.coding (s.counts.read - s.decoder.pending) s.counts.index advances.taken))
   pub settled : IsNearlyDecided s'.decoder
   pub verdict : (r : List ℕ) → WillBeFaithful s (chunk ++ r) ↔ WillBeFaithful s' r
   pub calls : (r : List ℕ) → TakesCalls 3 s.counts s'.counts (to_write s (chunk ++ r)) (to_write s' r)
@@ -59,7 +60,7 @@ pub record StepsOn (before after : Devices) (limit : ℕ) (s s' : State) : Type 
 -- Some steps that went on, from a state to a later one. They may be none.
 pub record HasRun (before after : Devices) (limit : ℕ) (s s' : State) : Type 0 where
   pub chunk : List ℕ
-  pub consumed : Consumes before.input after.input chunk
+  pub given : Gave before.reads after.reads chunk
   pub counted : s'.counts.read ≡ s.counts.read + length chunk
   pub within : s'.counts.read ≤ limit
   pub target : s'.coding ≡ s.coding
@@ -76,8 +77,7 @@ pub record HasRun (before after : Devices) (limit : ℕ) (s s' : State) : Type 0
 -- It may stand for some steps and the one that ended.
 pub record Finishes (before after : Devices) (limit : ℕ) (s s' : State) : Type 0 where
   pub chunk : List ℕ
-  pub consumed : Consumes before.input after.input chunk
-  pub end : IsAtEnd after.input
+  pub given : GaveAll before.reads after.reads chunk
   pub counted : s'.counts.read ≡ s.counts.read + length chunk
   pub within : s'.counts.read ≤ limit
   pub pays : WritesItems before.written after.written s.counts s'.counts s.policy (to_write s chunk) []
@@ -98,12 +98,12 @@ PassesLimitIfTooLong read limit (Unmappable index scalar) = read ≤ limit
 
 -- What was read when a fault came: bytes that were counted, then bytes that were refused, which `TooLong` does alone;
 -- and whether their end was read.
-pub record WasRead (before after : Option (List ℕ)) (fault : Fault) : Type 0 where
+pub record WasRead (before after : List (List ℕ)) (fault : Fault) : Type 0 where
   pub input : List ℕ
   pub refused : List ℕ
   pub ended : Bool
-  pub consumed : Consumes before after (input ++ refused)
-  pub end : ended ≡ true → IsAtEnd after
+  pub given : Gave before after (input ++ refused)
+  pub end : ended ≡ true → GaveAll before after input
   pub none : ended ≡ true → refused ≡ []
   pub spared : fault ≢ TooLong → refused ≡ []
 
@@ -112,7 +112,7 @@ pub record WasRead (before after : Option (List ℕ)) (fault : Fault) : Type 0 w
 -- first lost character. If the fault is `Read` or `TooLong`, none were counted, and nothing was written. Bytes that
 -- are refused pass the limit.
 pub record Stops (before after : Devices) (limit : ℕ) (s : State) (fault : Fault) : Type 0 where
-  pub read : WasRead before.input after.input fault
+  pub read : WasRead before.reads after.reads fault
   pub within : s.counts.read + length read.input ≤ limit
   pub limited : PassesLimitIfTooLong (s.counts.read + length (read.input ++ read.refused)) limit fault
   pub pays : WritesPrefixFor before.written after.written s.policy fault read.ended (λ r. to_write s (read.input ++ r))
@@ -124,3 +124,16 @@ pub record WrotePrefix (before after : Written) (p : Policy) (f : Fault) (given 
   pub wrote : Wrote before after taken
   pub prefix : IsPrefix taken (tagged given)
   pub stopped : IsStop p f taken given
+
+-- a call is a read with room for so many bytes
+abbrev pub IsReadInto : ℕ → Call → Type 0
+IsReadInto room (Passed n bytes) = n ≡ room
+IsReadInto room (Failed n) = n ≡ room
+IsReadInto room (Flush failed) = ⊥
+
+-- A step called the reader once, with room for so many bytes. If a device failed, its last call is the one that did.
+pub record StepCalls {T : Type 0} (reader reader' writer' log' : List Call) (room : ℕ) (result : Result T Fault) : Type 0 where
+  pub call : Call
+  pub once : reader' ≡ reader ++ (call ∷ [])
+  pub is : IsReadInto room call
+  pub last : IfErr result (EndsAtFault reader' writer' log')

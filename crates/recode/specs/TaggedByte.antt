@@ -1,9 +1,8 @@
 -- What the two writers take, in one order: each byte is one of the output or one of the log.
 use Rattle.std.specs.Prelude.{◌≡◌, ℕ, List, [], ◌∷◌, ◌++◌, map}
 use Rattle.std.specs.List.{flat_map}
-use Rattle.std.specs.Io.KnownBytes.{Appends}
 use Rattle.encoding_mem.specs.Items.{Item, Byte, MalformedAt, LostAt}
-use Rattle.recode.specs.Devices.{Written}
+use Rattle.recode.specs.Devices.{Grew, Written}
 use Rattle.recode_log.specs.Line.{line_bytes}
 use Rattle.recode_log.specs.declared.line.LogLine.TheVariants.{Bad, Lost}
 
@@ -40,5 +39,5 @@ IsPrefix {X} t u = (rest : List X) × (u ≡ t ++ rest)
 
 -- the output grew by the output bytes of t, and the log by its log bytes
 pub record Wrote (before after : Written) (t : List TaggedByte) : Type 0 where
-  pub output : Appends before.output after.output (output_bytes t)
-  pub lined : Appends before.log after.log (log_bytes t)
+  pub output : Grew before.output after.output (output_bytes t)
+  pub lined : Grew before.log after.log (log_bytes t)

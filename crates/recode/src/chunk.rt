@@ -8,7 +8,7 @@ ghost use Rattle.recode.specs.calls.Chunk.{CanConvert, ConvertsChunk};
 ghost use Rattle.recode.specs.calls.EngineView.{engine_state};
 ghost use Rattle.recode.specs.calls.Lent.{AreLent, KeepsLent};
 ghost use Rattle.recode.specs.calls.Writers.{AreReady, CountsWriterFault, HoldNothing, is_end};
-ghost use Rattle.recode.specs.calls.Writers.{written_by};
+ghost use Rattle.recode.specs.calls.Writers.{TellWhatTaken, written_by};
 
 use crate::converter::ConverterResult;
 use crate::engine::Engine;
@@ -35,20 +35,19 @@ pub fn write_chunk<D: StreamDecoder, E: RawEncoder, W: Write, L: Write>(
     requires writers { AreReady writers.old }
     requires held { HoldNothing writers.old }
     ensures chunk { OnOk result (ConvertsChunk
-        (written_by W.contents L.contents writers.old)
-        (written_by W.contents L.contents writers.new)
+        (written_by writers.old) (written_by writers.new)
         (engine_state D.view E.parts writers.old.policy engine.old)
         (engine_state D.view E.parts writers.new.policy engine.new)
         chunk.now (is_end chunk.now)) }
     ensures none { OnOk result (engine.new.answer ≡ None) }
     ensures err { IfErr result (λ f. WritesPrefixFor
-        (written_by W.contents L.contents writers.old)
-        (written_by W.contents L.contents writers.new) writers.old.policy f (is_end chunk.now)
+        (written_by writers.old) (written_by writers.new) writers.old.policy f (is_end chunk.now)
         (λ r. to_write (engine_state D.view E.parts writers.old.policy engine.old)
         (chunk.now ++ r))) }
     ensures target { (E.parts engine.new.encoder).coding
         ≡ (E.parts engine.old.encoder).coding }
     ensures failures { CountsWriterFault writers.old writers.new result }
+    ensures told { TellWhatTaken W.contents L.contents writers.old writers.new }
     ensures lent { KeepsLent pivot.old check.old pivot.new check.new }
 {
     let last = chunk.is_empty();

@@ -1,12 +1,15 @@
 //! A whole conversion: a run, the flushes, the status and the message.
 
-ghost use Rattle.std.specs.Prelude.{◌≡◌, ◌≢◌, ◌≤◌, ◌<◌, ◌^◌, ◌+◌, ◌-◌, ℕ, take, OnOk, IfErr};
+ghost use Rattle.std.specs.Prelude.{◌≡◌, ◌≢◌, ◌≤◌, ◌<◌, ◌^◌, ◌+◌, ◌-◌, ◌++◌, ℕ, take, OnOk, IfErr};
 ghost use Rattle.std.specs.Io.KnownBytes.{Appends};
-ghost use Rattle.recode_log.specs.Counted.{IsTold, inner_of, failures_of};
+ghost use Rattle.recode_log.specs.Counted.{IsTold, inner_of, failures_of, history_of, passed_of};
 ghost use Rattle.recode.specs.Job.{IsValidJob};
 ghost use Rattle.recode.specs.calls.Buffers.{AreEnough, KeepSizes};
 ghost use Rattle.recode.specs.Devices.{devices_in, KeepsWritten, written_in};
-ghost use Rattle.recode.specs.Conversion.{Breaks, Converts, IsFlushCause, RisesBy, message_of};
+ghost use Rattle.recode.specs.Conversion.{Breaks, Converts, EndsInFlush, IsFlushCause, RisesBy};
+ghost use Rattle.recode.specs.Conversion.{message_of};
+ghost use Rattle.recode.specs.RunsTold.{BreaksTold, ConvertsTold};
+ghost use Rattle.recode.specs.Told.{TellsTaken, told_in};
 
 use crate::job::{Buffers, Fault, Job};
 use crate::session::run;
@@ -34,9 +37,13 @@ fn flush_both<W: Write, L: Write>(
 ) -> Result<(), Fault>
     requires writer { failures_of writer.old < 2 ^ 64 - 1 }
     requires log { failures_of log.old < 2 ^ 64 - 1 }
-    ensures kept { KeepsWritten
-        (written_in W.contents L.contents writer.old log.old)
-        (written_in W.contents L.contents writer.new log.new) }
+    ensures kept { KeepsWritten (written_in writer.old log.old) (written_in writer.new log.new) }
+    ensures writer_told { TellsTaken (passed_of writer.old) (passed_of writer.new)
+        (W.contents (inner_of writer.old)) (W.contents (inner_of writer.new)) }
+    ensures log_told { TellsTaken (passed_of log.old) (passed_of log.new)
+        (L.contents (inner_of log.old)) (L.contents (inner_of log.new)) }
+    ensures writer_flush { EndsInFlush (history_of writer.new) }
+    ensures log_flush { EndsInFlush (history_of log.new) }
     ensures ok { OnOk result ((failures_of writer.new ≡ failures_of writer.old)
         × (failures_of log.new ≡ failures_of log.old)) }
     ensures err { IfErr result (IsFlushCause (failures_of writer.old) (failures_of writer.new)
@@ -77,7 +84,8 @@ fn tell_fault<L: Write>(log: &mut Counted<L>, fault: Fault)
     ensures { (n : ℕ) × IsTold (failures_of log.old) (failures_of log.new)
         (message_of fault) n
         × Appends (L.contents (inner_of log.old)) (L.contents (inner_of log.new))
-        (take n (message_of fault)) }
+        (take n (message_of fault))
+        × (passed_of log.new ≡ passed_of log.old ++ take n (message_of fault)) }
 {
     let mut numbers = [0; 64];
     tell(log, message_of(fault, &mut numbers));
@@ -114,17 +122,23 @@ pub fn convert<R: Read, W: Write, L: Write>(
     requires log { failures_of log.old ≤ 2 ^ 64 - 5 }
 
     ensures buffers { KeepSizes buffers.old buffers.new }
-    ensures converts { result ≢ 4 → Converts
-        (devices_in R.remaining W.contents L.contents reader.old writer.old log.old)
-        (devices_in R.remaining W.contents L.contents reader.new writer.new log.new) job.entry
+    ensures converts { result ≢ 4 → Converts (devices_in reader.old writer.old log.old)
+        (devices_in reader.new writer.new log.new) job.entry result }
+    ensures quiet { result ≢ 4 → (devices_in reader.new writer.new log.new).failures
+        ≡ (devices_in reader.old writer.old log.old).failures }
+    ensures broken { result ≡ 4 → Breaks (devices_in reader.old writer.old log.old)
+        (devices_in reader.new writer.new log.new) job.entry }
+    ensures converts_told { result ≢ 4 → ConvertsTold
+        (devices_in reader.old writer.old log.old) (devices_in reader.new writer.new log.new)
+        (told_in R.remaining W.contents L.contents reader.old writer.old log.old)
+        (told_in R.remaining W.contents L.contents reader.new writer.new log.new) job.entry
         result }
-    ensures quiet { result ≢ 4 → (devices_in R.remaining W.contents L.contents
-        reader.new writer.new log.new).failures
-        ≡ (devices_in R.remaining W.contents L.contents reader.old writer.old log.old).failures }
-    ensures broken { result ≡ 4 → Breaks
-        (devices_in R.remaining W.contents L.contents reader.old writer.old log.old)
-        (devices_in R.remaining W.contents L.contents reader.new writer.new log.new)
-        job.entry }
+    ensures broken_told { result ≡ 4 → BreaksTold
+        (devices_in reader.old writer.old log.old) (devices_in reader.new writer.new log.new)
+        (told_in R.remaining W.contents L.contents reader.old writer.old log.old)
+        (told_in R.remaining W.contents L.contents reader.new writer.new log.new) job.entry }
+    ensures flushes { EndsInFlush (history_of writer.new)
+        × (result ≢ 4 → EndsInFlush (history_of log.new)) }
 {
     let result = run(reader, writer, log, job, buffers);
     let flushed = flush_both(writer, log);

@@ -2,9 +2,10 @@
 //! functions do nothing: each contract is a law.
 
 ghost use Rattle.std.specs.Prelude.{◌≡◌, ◌↔◌, ◌<◌, ◌≤◌, ◌+◌, ◌*◌, ◌++◌, ◌∷◌, ℕ, ◌⊎◌, Bool, Err};
-ghost use Rattle.std.specs.Prelude.{IsFalse, IsOk, IsTrue, List, Result, Some, [], encode_utf8_all};
+ghost use Rattle.std.specs.Prelude.{IsFalse, IsOk, IsTrue, List, Option, Result, Some, []};
+ghost use Rattle.std.specs.Prelude.{encode_utf8_all};
 ghost use Rattle.std.specs.Prelude.{false, length, map, take, true};
-ghost use Rattle.std.specs.Io.KnownBytes.{Appends};
+ghost use Rattle.std.specs.Io.KnownBytes.{Appends, Consumes, IsAtEnd};
 ghost use Rattle.std.specs.List.{concat, flat_map};
 ghost use Rattle.std.specs.Str.{IsUtf8, chars};
 ghost use Rattle.encoding_mem.specs.Agreement.{ReadsBackOrBreaks};
@@ -22,7 +23,7 @@ ghost use Rattle.encoding_front.specs.Encodings.{IsUtf8Encoding, KeepsCharacters
 ghost use Rattle.encoding_front.specs.Encodings.{output_encoding_of};
 ghost use Rattle.encoding_front.specs.Marks.{marked_pieces, marked_text};
 ghost use Rattle.encoding_front.specs.declared.mark.Mark.{Mark};
-ghost use Rattle.recode.specs.Devices.{Devices, known, Written};
+ghost use Rattle.recode.specs.Devices.{Devices, Gave, GaveAll, Grew, IsOf, Written};
 ghost use Rattle.recode_log.specs.Line.{line_bytes};
 ghost use Rattle.recode_log.specs.declared.line.LogLine.TheVariants.{Lost};
 ghost use Rattle.recode.specs.Job.{Faithful, IsValidJob, input_pieces, input_text, log_lines};
@@ -43,6 +44,7 @@ ghost use Rattle.recode.specs.State.{State};
 ghost use Rattle.recode.specs.Step.{Finishes, HasRun, IsNearlyDecided, StepsOn, Stops};
 ghost use Rattle.recode.specs.Step.{WrotePrefix};
 ghost use Rattle.recode.specs.TaggedByte.{IsPrefix, TaggedByte};
+ghost use Rattle.recode.specs.Told.{TellsReads, TellsTaken};
 ghost use Rattle.recode.specs.WrittenItems.{StopsAtLoss, bad_line_count, lost_line_count};
 ghost use Rattle.recode.specs.declared.job.Fault.{Fault};
 ghost use Rattle.recode.specs.declared.job.Job.{Job};
@@ -137,18 +139,33 @@ pub fn log_is_empty()
         × AllMapped (target_of j) (input_text j x)) }
 {}
 
-/// Of a reader whose contract says its bytes, a run that came to its end read them all: cuts and
-/// sizes of buffers change nothing of the output, the log or the report. A run that a fault ended
-/// wrote prefixes of them, and said that the input is too long only if it is. One that the policy
-/// stopped wrote all of them.
+/// If what the calls of the reader gave is of some bytes (`IsOf`), a run that came to its end read
+/// them all: cuts and sizes of buffers change nothing of the output, the log or the report. A run
+/// that a fault ended wrote prefixes of them, and said that the input is too long only if it is. One
+/// that the policy stopped wrote all of them.
 pub fn known_input()
     ensures completes { (x : List ℕ) (s s' : Devices) (j : Job) (p : Report)
-        → s.input ≡ Some x → Completes s s' j p → IsConverted s.written s'.written j x p }
+        → IsOf s.reads s'.reads x → Completes s s' j p → IsConverted s.written s'.written j x p }
     ensures fails { (x : List ℕ) (s s' : Devices) (j : Job) (f : Fault)
-        → s.input ≡ Some x → Fails s s' j f
+        → IsOf s.reads s'.reads x → Fails s s' j f
         → WrotePrefix s.written s'.written j.policy f (trace j x) }
     ensures too_long { (x : List ℕ) (s s' : Devices) (j : Job)
-        → s.input ≡ Some x → Fails s s' j Fault.TooLong → j.limit < length x }
+        → IsOf s.reads s'.reads x → Fails s s' j Fault.TooLong → j.limit < length x }
+{}
+
+/// What devices tell of their bytes, if they do, is what their calls passed (`TellsReads`,
+/// `TellsTaken`). The reader lost the bytes that its calls gave, and has none left if the last of
+/// them gave none. If it told all its bytes before, what its calls gave is of these. A writer holds
+/// what it held before, and then the bytes that its calls took.
+pub fn devices_tell()
+    ensures gave { (a b : List (List ℕ)) (t u : Option (List ℕ)) (x : List ℕ)
+        → TellsReads a b t u → Gave a b x → Consumes t u x }
+    ensures ended { (a b : List (List ℕ)) (t u : Option (List ℕ)) (x : List ℕ)
+        → TellsReads a b t u → GaveAll a b x → IsAtEnd u }
+    ensures input { (x : List ℕ) (a b : List (List ℕ)) (t u : Option (List ℕ))
+        → t ≡ Some x → TellsReads a b t u → IsOf a b x }
+    ensures took { (a b : List ℕ) (t u : Option (List ℕ)) (x : List ℕ)
+        → TellsTaken a b t u → Grew a b x → Appends t u x }
 {}
 
 /// The pieces of an input, the mark that is taken among them, stand for some bytes each, and for no
@@ -223,7 +240,7 @@ pub fn whole_texts_are_the_same()
         → j.policy ≡ Policy.Decimal
         → decoded ≡ encode_utf8_all (marked_text j.tables.now j.mark j.from x)
         → bytes ≡ output Decimal (coding_of j.tables.now j.to) (chars decoded)
-        → IsConverted w w' j x p → Appends w.output w'.output bytes }
+        → IsConverted w w' j x p → Grew w.output w'.output bytes }
     ensures log { (j : Job) (x decoded : List ℕ) (malformed lost : Bool) → IsValidJob j
         → decoded ≡ encode_utf8_all (marked_text j.tables.now j.mark j.from x)
         → IsTrue malformed ↔ (0 < malformed_count (marked_pieces j.tables.now j.mark j.from x))
@@ -233,31 +250,33 @@ pub fn whole_texts_are_the_same()
 
 /// Two runs on one job and one input that came to their end wrote the same bytes to output and log.
 /// Their reports differ in `calls` alone: the cuts of the reader, the sizes of the buffers and the
-/// kind of the pivot change nothing. `known` says it of readers whose contracts say their bytes,
-/// `bytes` of such writers.
+/// kind of the pivot change nothing. `known` says it of readers whose calls gave what is of one input,
+/// `bytes` of writers that had taken the same before.
 pub fn runs_agree()
     ensures written { (j : Job) (x : List ℕ) (w w' v v' : Written) (p q : Report)
         → IsConverted w w' j x p → IsConverted v v' j x q → WroteTheSame w w' v v' }
     ensures report { (j : Job) (x : List ℕ) (w w' v v' : Written) (p q : Report)
         → IsConverted w w' j x p → IsConverted v v' j x q → AgreeButForCalls p q }
     ensures known { (j : Job) (x : List ℕ) (s s' t t' : Devices) (p q : Report)
-        → s.input ≡ Some x → t.input ≡ Some x → Completes s s' j p → Completes t t' j q
+        → IsOf s.reads s'.reads x → IsOf t.reads t'.reads x → Completes s s' j p
+        → Completes t t' j q
         → WroteTheSame s.written s'.written t.written t'.written × AgreeButForCalls p q }
-    ensures bytes { (j : Job) (x w w' v' l l' m' : List ℕ) (p q : Report)
-        → IsConverted (known w l) (known w' l') j x p → IsConverted (known w l) (known v' m') j x q
-        → (w' ≡ v') × (l' ≡ m') }
+    ensures bytes { (j : Job) (x : List ℕ) (w w' v' : Written) (p q : Report)
+        → IsConverted w w' j x p → IsConverted w v' j x q
+        → (w'.output ≡ v'.output) × (w'.log ≡ v'.log) }
 {}
 
 /// If no call of a device fails, a run returns `Ok` exactly when the input is within the limit and
-/// the policy does not stop at a character of it. Else it returns `TooLong` or `Unmappable`. The
-/// reader's contract says its bytes; if it does not, the result is still one of these, and
+/// the policy does not stop at a character of it. Else it returns `TooLong` or `Unmappable`. What the
+/// calls of the reader gave is of that input; if it is not, the result is still one of these, and
 /// `Unmappable` under `Policy::Stop` alone.
 pub fn answers_without_faults()
     ensures ok { (j : Job) (x : List ℕ) (s s' : Devices) (answer : Result Report Fault)
-        → s'.failures ≡ s.failures → s.input ≡ Some x → RunReturns s s' j answer
+        → s'.failures ≡ s.failures → IsOf s.reads s'.reads x → RunReturns s s' j answer
         → IsOk answer ↔ ((length x ≤ j.limit) × RunsThrough j x) }
     ensures too_long { (j : Job) (x : List ℕ) (s s' : Devices) (answer : Result Report Fault)
-        → s'.failures ≡ s.failures → s.input ≡ Some x → RunReturns s s' j answer → RunsThrough j x
+        → s'.failures ≡ s.failures → IsOf s.reads s'.reads x → RunReturns s s' j answer
+        → RunsThrough j x
         → (answer ≡ Err Fault.TooLong) ↔ (j.limit < length x) }
     ensures either { (j : Job) (s s' : Devices) (answer : Result Report Fault)
         → s'.failures ≡ s.failures → RunReturns s s' j answer

@@ -1,9 +1,9 @@
 //! A conversion step by step, and a run, which is the loop over its steps.
 
 ghost use Rattle.std.specs.Prelude.{◌≡◌, ◌≤◌, ◌<◌, ◌^◌, ◌-◌, ◌↔◌, ◌==◌, IsTrue, IsSome, IfOk, None};
-ghost use Rattle.std.specs.Prelude.{IfErr, IfSome, true, false};
+ghost use Rattle.std.specs.Prelude.{IfErr, IfSome, length, true, false};
 ghost use Rattle.std.specs.Io.KnownBytes.{IsAtEnd};
-ghost use Rattle.recode_log.specs.Counted.{failures_of, inner_of};
+ghost use Rattle.recode_log.specs.Counted.{failures_of, history_of, inner_of};
 ghost use Rattle.recode.specs.Job.{IsValidJob};
 ghost use Rattle.recode.specs.calls.Buffers.{AreEnough, KeepSizes};
 ghost use Rattle.recode.specs.calls.Chunk.{CanConvert};
@@ -11,7 +11,10 @@ ghost use Rattle.recode.specs.calls.EngineView.{engine_state};
 ghost use Rattle.recode.specs.Session.{View, IsOver, IsNewSession, IsStepped, Tells, Completes};
 ghost use Rattle.recode.specs.Session.{Fails};
 ghost use Rattle.recode.specs.declared.session.Phase.TheVariants.{Open};
-ghost use Rattle.recode.specs.Step.{Finishes, Stops, StepsOn};
+ghost use Rattle.recode.specs.Fault.{EndsAtFault};
+ghost use Rattle.recode.specs.Step.{Finishes, StepCalls, Stops, StepsOn};
+ghost use Rattle.recode.specs.RunsTold.{CompletesTold, FailsTold};
+ghost use Rattle.recode.specs.Told.{TellWhatPassed, told_in};
 ghost use Rattle.recode.specs.Devices.{CountsFault, devices_in};
 
 use crate::chunk::write_chunk;
@@ -133,23 +136,25 @@ impl<'t> Session<'t> {
         requires log { failures_of log.old < 2 ^ 64 - 1 }
 
         ensures more { result ≡ Ok Progress.More → StepsOn
-            (devices_in R.remaining W.contents L.contents reader.old writer.old log.old)
-            (devices_in R.remaining W.contents L.contents reader.new writer.new log.new)
+            (devices_in reader.old writer.old log.old) (devices_in reader.new writer.new log.new)
             (view_of self.old).job.limit (view_of self.old).state (view_of self.new).state }
         ensures done { result ≡ Ok Progress.Done → Finishes
-            (devices_in R.remaining W.contents L.contents reader.old writer.old log.old)
-            (devices_in R.remaining W.contents L.contents reader.new writer.new log.new)
+            (devices_in reader.old writer.old log.old) (devices_in reader.new writer.new log.new)
             (view_of self.old).job.limit (view_of self.old).state (view_of self.new).state }
-        ensures end { result ≡ Ok Progress.Done → IsAtEnd (R.remaining (inner_of reader.old)) }
+        ensures told { TellWhatPassed
+            (devices_in reader.old writer.old log.old) (devices_in reader.new writer.new log.new)
+            (told_in R.remaining W.contents L.contents reader.old writer.old log.old)
+            (told_in R.remaining W.contents L.contents reader.new writer.new log.new)
+            × (result ≡ Ok Progress.Done → IsAtEnd (R.remaining (inner_of reader.old))) }
         ensures fault { IfErr result (Stops
-            (devices_in R.remaining W.contents L.contents reader.old writer.old log.old)
-            (devices_in R.remaining W.contents L.contents reader.new writer.new log.new)
+            (devices_in reader.old writer.old log.old) (devices_in reader.new writer.new log.new)
             (view_of self.old).job.limit (view_of self.old).state) }
         ensures session { IsStepped (view_of self.old) (view_of self.new) result }
         ensures buffers { KeepSizes buffers.old buffers.new }
-        ensures failures { CountsFault
-            (devices_in R.remaining W.contents L.contents reader.old writer.old log.old)
-            (devices_in R.remaining W.contents L.contents reader.new writer.new log.new) result }
+        ensures failures { CountsFault (devices_in reader.old writer.old log.old)
+            (devices_in reader.new writer.new log.new) result }
+        ensures calls { StepCalls (history_of reader.old) (history_of reader.new)
+            (history_of writer.new) (history_of log.new) (length buffers.old.input.now) result }
     {
         self.phase = Phase::Stopped;
         let Ok(read) = reader.read(buffers.input) else {
@@ -215,18 +220,27 @@ pub fn run<R: Read, W: Write, L: Write>(
     requires writer { failures_of writer.old < 2 ^ 64 - 1 }
     requires log { failures_of log.old < 2 ^ 64 - 1 }
 
-    ensures completes { IfOk result (λ p. Completes
-        (devices_in R.remaining W.contents L.contents reader.old writer.old log.old)
-        (devices_in R.remaining W.contents L.contents reader.new writer.new log.new) job.entry
-        p) }
-    ensures fails { IfErr result (λ f. Fails
-        (devices_in R.remaining W.contents L.contents reader.old writer.old log.old)
-        (devices_in R.remaining W.contents L.contents reader.new writer.new log.new) job.entry
-        f) }
+    ensures completes { IfOk result (λ p. Completes (devices_in reader.old writer.old log.old)
+        (devices_in reader.new writer.new log.new) job.entry p) }
+    ensures fails { IfErr result (λ f. Fails (devices_in reader.old writer.old log.old)
+        (devices_in reader.new writer.new log.new) job.entry f) }
+    ensures completes_told { IfOk result (λ p. CompletesTold
+        (devices_in reader.old writer.old log.old) (devices_in reader.new writer.new log.new)
+        (told_in R.remaining W.contents L.contents reader.old writer.old log.old)
+        (told_in R.remaining W.contents L.contents reader.new writer.new log.new) job.entry p) }
+    ensures fails_told { IfErr result (λ f. FailsTold
+        (devices_in reader.old writer.old log.old) (devices_in reader.new writer.new log.new)
+        (told_in R.remaining W.contents L.contents reader.old writer.old log.old)
+        (told_in R.remaining W.contents L.contents reader.new writer.new log.new) job.entry f) }
     ensures buffers { KeepSizes buffers.old buffers.new }
-    ensures failures { CountsFault
-        (devices_in R.remaining W.contents L.contents reader.old writer.old log.old)
-        (devices_in R.remaining W.contents L.contents reader.new writer.new log.new) result }
+    ensures failures { CountsFault (devices_in reader.old writer.old log.old)
+        (devices_in reader.new writer.new log.new) result }
+    ensures last { IfErr result
+        (EndsAtFault (history_of reader.new) (history_of writer.new) (history_of log.new)) }
+    ensures told { TellWhatPassed
+        (devices_in reader.old writer.old log.old) (devices_in reader.new writer.new log.new)
+        (told_in R.remaining W.contents L.contents reader.old writer.old log.old)
+        (told_in R.remaining W.contents L.contents reader.new writer.new log.new) }
 {
     let mut session = Session::new(job);
     'run: loop {

@@ -1,22 +1,23 @@
 -- What the two writers of a conversion have, and how the counts of their failed calls rise.
 use Rattle.std.specs.Prelude.{◌≡◌, ℕ, ◌+◌, ◌-◌, ◌^◌, ◌<◌, ◌≤◌, ◌++◌, nat_eq, length, take, Bool, List, Option, None, IfSome, Result, OnOk, IfErr}
-use Rattle.recode_log.specs.Counted.{failures_of}
+use Rattle.recode_log.specs.Counted.{failures_of, history_of, inner_of, passed_of}
 use Rattle.recode_log.specs.Line.{IsValid}
 use Rattle.recode.specs.Devices.{Written, written_in}
-use Rattle.recode.specs.Fault.{log_failures, of_other, reader_failures, writer_failures}
+use Rattle.recode.specs.Fault.{EndsAtWriterFault, log_failures, of_other, reader_failures, writer_failures}
 use Rattle.encoding_mem.specs.Items.{Item}
 use Rattle.recode.specs.calls.Held.{LeavesPrefix, Passes, WritersView, log_line_of}
+use Rattle.recode.specs.Told.{TellsTaken}
 use Rattle.recode.specs.declared.job.Fault.{Fault}
 use Rattle.recode.specs.declared.writers.MalformedLine.{MalformedLine}
 use Rattle.recode.specs.declared.writers.Writers.{Writers}
 
--- the bytes that the output's writer and the log have taken so far, as far as the contract of each says it
-abbrev pub written_by : {W L : Type 0} → (W → Option (List ℕ)) → (L → Option (List ℕ)) → Writers W L → Written
-written_by contents logged writers = written_in contents logged writers.output.now writers.log.now
+-- the bytes that calls of the output's writer and of the log have taken so far
+abbrev pub written_by : {W L : Type 0} → Writers W L → Written
+written_by writers = written_in writers.output.now writers.log.now
 
 -- the two writers by what they have taken and what is held: the line, and the bytes at the start of the buffer
-abbrev pub writers_view : {W L : Type 0} → (W → Option (List ℕ)) → (L → Option (List ℕ)) → Writers W L → WritersView
-writers_view contents logged writers = record { written = written_by contents logged writers; line = writers.line; bytes = take writers.held writers.buffer.now }
+abbrev pub writers_view : {W L : Type 0} → Writers W L → WritersView
+writers_view writers = record { written = written_by writers; line = writers.line; bytes = take writers.held writers.buffer.now }
 
 -- the line that is held, if there is one, is valid
 abbrev pub HasValidLine : Option MalformedLine → Type 0
@@ -47,21 +48,29 @@ pub record AreTheSame {W L : Type 0} (before after : Writers W L) : Type 0 where
   pub log : after.log.ghost_name ≡ before.log.ghost_name
   pub policy : after.policy ≡ before.policy
 
--- The count of the writer that a fault is of rose by one, and the other stayed. No fault is of another device.
+-- The count of the writer that a fault is of rose by one, and its last call is the one that failed. The other count
+-- stayed. No fault is of another device.
 pub record CountsWriterFault {W L T : Type 0} (before after : Writers W L) (result : Result T Fault) : Type 0 where
   pub writer : failures_of after.output.now ≡ failures_of before.output.now + writer_failures result
   pub log : failures_of after.log.now ≡ failures_of before.log.now + log_failures result
   pub not_reader : reader_failures result ≡ 0
   pub not_other : of_other result ≡ 0
+  pub last : IfErr result (EndsAtWriterFault (history_of after.output.now) (history_of after.log.now))
   pub same : AreTheSame before after
 
 -- whether what was read is the end of the input: no bytes
 abbrev pub is_end : List ℕ → Bool
 is_end chunk = nat_eq (length chunk) 0
 
+-- what the output's writer and the log tell that they hold, if they do, grew by the bytes that their calls took
+pub record TellWhatTaken {W L : Type 0} (contents : W → Option (List ℕ)) (logged : L → Option (List ℕ)) (before after : Writers W L) : Type 0 where
+  pub output : TellsTaken (passed_of before.output.now) (passed_of after.output.now) (contents (inner_of before.output.now)) (contents (inner_of after.output.now))
+  pub log : TellsTaken (passed_of before.log.now) (passed_of after.log.now) (logged (inner_of before.log.now)) (logged (inner_of after.log.now))
+
 -- Items were passed. Or a writer failed: its count rose, and what was taken is a prefix of what was held, of these items
 -- and of what follows them.
 pub record HandsOn {W L T : Type 0} (contents : W → Option (List ℕ)) (logged : L → Option (List ℕ)) (before after : Writers W L) (items : List Item) (result : Result T Fault) : Type 0 where
-  pub ok : OnOk result (Passes (writers_view contents logged before) (writers_view contents logged after) items)
-  pub err : IfErr result (λ f. (more : List Item) → LeavesPrefix (writers_view contents logged before) (writers_view contents logged after) before.policy f (items ++ more))
+  pub ok : OnOk result (Passes (writers_view before) (writers_view after) items)
+  pub err : IfErr result (λ f. (more : List Item) → LeavesPrefix (writers_view before) (writers_view after) before.policy f (items ++ more))
   pub failures : CountsWriterFault before after result
+  pub told : TellWhatTaken contents logged before after

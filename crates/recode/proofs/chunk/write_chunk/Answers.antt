@@ -11,7 +11,7 @@ use Rattle.recode.specs.declared.engine.Engine.{Engine}
 use Rattle.recode.specs.declared.job.Policy.{Policy}
 use Rattle.recode.specs.laws.Items.{spared_append}
 use Rattle.recode.proofs.BufferLemmas.{lent_on, lent_start}
-use Rattle.recode.proofs.HandsLemmas.{hands_fault, hands_held, hands_ready, hands_then, holding_more}
+use Rattle.recode.proofs.HandsLemmas.{hands_fault, hands_held, hands_ready, hands_then, holding_more, told_then}
 use Rattle.recode.proofs.ShellLemmas.{between_none, found_some, holds_none, ok_of, pumps_bytes, pumps_done, pumps_held, pumps_more, pumps_start, pumps_stuck, pumps_under, ready_start, smaller_by, sound_start, spared_only}
 use Rattle.recode.proofs.chunk.write_chunk.Goals as goal
 
@@ -36,6 +36,9 @@ returns-in_err-make_room-clause-err g c =
     let left = hands_fault [] c.from_residual.ensures.1 c.in_err-make_room.ensures.hands in
     rw (sym c.is_empty-last.ensures) (pumps_stuck c.calls.invariant.pumps left c.requires.none (between_none c.args.pivot.now) c.requires.held)
 
+pub returns-in_err-make_room-clause-told : goal.returns-in_err-make_room-clause-told
+returns-in_err-make_room-clause-told g c = told_then _ _ _ c.calls.invariant.pumps.hands.told c.in_err-make_room.ensures.hands.told
+
 pub returns-in-InputEmpty-clause-chunk : goal.returns-in-InputEmpty-clause-chunk
 returns-in-InputEmpty-clause-chunk g c =
     let i = c.calls.invariant in
@@ -59,6 +62,14 @@ returns-in-InputEmpty-clause-err g c =
     let held = hands_held k.new.dst k.result.2 (hands_ready (hands_ready c.requires.writers i.pumps.hands) room) (search rules) k.ensures.wrote.room in
     let all = pumps_bytes (take k.result.2 k.new.dst) (pumps_held i.pumps room) held (rw c.in-InputEmpty.is at (k.ensures.law c.args.writers.now.policy)) in
     rw (sym c.is_empty-last.ensures) (pumps_stuck all c.deliver_held.ensures.hands c.requires.none (between_none c.args.pivot.now) c.requires.held)
+
+pub returns-in-InputEmpty-clause-told : goal.returns-in-InputEmpty-clause-told
+returns-in-InputEmpty-clause-told g c =
+    let i = c.calls.invariant in
+    let room = c.in_ok-make_room.ensures.hands in
+    let k = c.convert-result in
+    let held = hands_held k.new.dst k.result.2 (hands_ready (hands_ready c.requires.writers i.pumps.hands) room) (search rules) k.ensures.wrote.room in
+    told_then _ _ _ (told_then _ _ _ (told_then _ _ _ i.pumps.hands.told room.told) held.told) c.deliver_held.ensures.hands.told
 
 pub returns-in-InputEmpty-clause-target : goal.returns-in-InputEmpty-clause-target
 returns-in-InputEmpty-clause-target g c = (c.convert-result.ensures.law c.args.writers.now.policy).target ∙ c.calls.invariant.pumps.turns.target
@@ -130,3 +141,11 @@ returns-in_err-take_found-in-Found-clause-err g c =
 
 pub returns-in_err-take_found-in-Found-clause-target : goal.returns-in_err-take_found-in-Found-clause-target
 returns-in_err-take_found-in-Found-clause-target g c = (c.convert-result.ensures.law c.args.writers.now.policy).target ∙ c.calls.invariant.pumps.turns.target
+
+pub returns-in_err-take_found-in-Found-clause-told : goal.returns-in_err-take_found-in-Found-clause-told
+returns-in_err-take_found-in-Found-clause-told g c =
+    let i = c.calls.invariant in
+    let room = c.in_ok-make_room.ensures.hands in
+    let k = c.convert-result in
+    let held = hands_held k.new.dst k.result.2 (hands_ready (hands_ready c.requires.writers i.pumps.hands) room) (search rules) k.ensures.wrote.room in
+    told_then _ _ _ (told_then _ _ _ (told_then _ _ _ i.pumps.hands.told room.told) held.told) c.in_err-take_found-in-Found.ensures.hands.told

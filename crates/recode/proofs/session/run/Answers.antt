@@ -2,10 +2,12 @@ use Rattle.std.proofs.Common.{◌∙◌, Ok, refl, ap, subst, arith}
 use Rattle.recode.specs.Session.{IsOver, phase_after}
 use Rattle.recode.specs.calls.SessionView.{view_of}
 use Rattle.recode.specs.declared.job.Job.{Job}
+use Rattle.recode.proofs.TellLemmas.{none_yet, none_yet_on, tells_none, tells_then}
 use Rattle.recode.proofs.BufferLemmas.{kept_enough, kept_on, kept_start}
 use Rattle.recode.proofs.LatencyLemmas.{new_settled}
 use Rattle.recode.proofs.StepLemmas.{finishes_within, goes_on_start, goes_on_more, goes_on_finish, goes_on_stop, steps_within, stops_within}
 use Rattle.recode.proofs.RunLemmas.{completes, fails}
+use Rattle.recode.proofs.ToldLemmas.{completes_told, fails_told}
 use Rattle.recode.proofs.session.run.Goals as goal
 
 pub run-init : goal.run-init
@@ -18,6 +20,8 @@ run-init g c = record {
   reader_count = refl;
   writer_count = refl;
   log_count = refl;
+  yet = none_yet _;
+  told = tells_none _ _;
 }
 
 pub step-requires-clause-over : goal.step-requires-clause-over
@@ -47,6 +51,8 @@ run-preserved g c =
       reader_count = omega (arith, e.failures.reader, c.run.invariant.reader_count);
       writer_count = omega (arith, e.failures.writer, c.run.invariant.writer_count);
       log_count = omega (arith, e.failures.log, c.run.invariant.log_count);
+      yet = (let on = e.more (ap Ok c.in-Ok-More.field-0-is) in none_yet_on _ _ _ _ e.calls.call on.chunk c.run.invariant.yet e.calls.is e.calls.once on.given (omega (arith, on.grows, on.counted)));
+      told = tells_then _ _ _ _ _ _ c.run.invariant.yet c.run.invariant.told e.told.0;
     }
 
 pub returns-in-Ok-Done-clause-completes : goal.returns-in-Ok-Done-clause-completes
@@ -66,3 +72,18 @@ returns-in-Ok-Done-clause-buffers g c = kept_on _ _ _ c.run.invariant.kept c.in-
 
 pub returns-in-Err-clause-buffers : goal.returns-in-Err-clause-buffers
 returns-in-Err-clause-buffers g c = kept_on _ _ _ c.run.invariant.kept c.in-Err.ensures.buffers
+
+pub returns-in-Ok-Done-clause-told : goal.returns-in-Ok-Done-clause-told
+returns-in-Ok-Done-clause-told g c = tells_then _ _ _ _ _ _ c.run.invariant.yet c.run.invariant.told c.in-Ok-Done.ensures.told.0
+
+pub returns-in-Err-clause-told : goal.returns-in-Err-clause-told
+returns-in-Err-clause-told g c = tells_then _ _ _ _ _ _ c.run.invariant.yet c.run.invariant.told c.in-Err.ensures.told.0
+
+pub returns-in-Err-clause-last : goal.returns-in-Err-clause-last
+returns-in-Err-clause-last g c = c.in-Err.ensures.calls.last
+
+pub returns-in-Ok-Done-clause-completes_told : goal.returns-in-Ok-Done-clause-completes_told
+returns-in-Ok-Done-clause-completes_told g c = completes_told _ _ _ _ (returns-in-Ok-Done-clause-told g c) c.args.job _ (returns-in-Ok-Done-clause-completes g c)
+
+pub returns-in-Err-clause-fails_told : goal.returns-in-Err-clause-fails_told
+returns-in-Err-clause-fails_told g c = fails_told _ _ _ _ (returns-in-Err-clause-told g c) c.args.job _ (returns-in-Err-clause-fails g c)

@@ -1,15 +1,18 @@
 use Rattle.std.proofs.Common.{◌≡◌, ◌-◌}
-use Rattle.recode_log.specs.Counted.{failures_of}
+use Rattle.recode_log.specs.Call.{passed_by}
+use Rattle.recode_log.specs.Counted.{failures_of, history_of}
+use Rattle.recode.specs.Told.{TellWhatPassed, told_in}
 use Rattle.recode.specs.calls.Buffers.{AreEnough, KeepSizes}
 use Rattle.recode.specs.calls.SessionView.{view_of}
 use Rattle.recode.specs.Devices.{devices_in}
 use Rattle.recode.specs.declared.session.Phase.TheVariants.{Open}
 use Rattle.recode.specs.Step.{HasRun}
+use Rattle.recode.proofs.TellLemmas.{NoneYet}
 use Rattle.recode.proofs.session.run.Given as goal
 
 abbrev pub invariant-run : goal.invariant-run
 invariant-run g l = record {
-  ran : HasRun (devices_in g.R.Read.remaining g.W.Write.contents g.L.Write.contents l.initial.reader l.initial.writer l.initial.log) (devices_in g.R.Read.remaining g.W.Write.contents g.L.Write.contents l.reader l.writer l.log)
+  ran : HasRun (devices_in l.initial.reader l.initial.writer l.initial.log) (devices_in l.reader l.writer l.log)
       l.job.limit (view_of l.initial.session).state (view_of l.session).state;
   open_ : (view_of l.session).phase ≡ Open;
   job : (view_of l.session).job ≡ l.job;
@@ -18,6 +21,10 @@ invariant-run g l = record {
   reader_count : failures_of l.reader ≡ failures_of l.initial.reader;
   writer_count : failures_of l.writer ≡ failures_of l.initial.writer;
   log_count : failures_of l.log ≡ failures_of l.initial.log;
+  yet : NoneYet (passed_by (history_of l.initial.reader)) (passed_by (history_of l.reader));
+  told : TellWhatPassed (devices_in l.initial.reader l.initial.writer l.initial.log) (devices_in l.reader l.writer l.log)
+      (told_in g.R.Read.remaining g.W.Write.contents g.L.Write.contents l.initial.reader l.initial.writer l.initial.log)
+      (told_in g.R.Read.remaining g.W.Write.contents g.L.Write.contents l.reader l.writer l.log);
 }
 
 abbrev pub decreases-run : goal.decreases-run

@@ -1,23 +1,28 @@
-use Rattle.std.proofs.Common.{◌≡◌, ◌≤◌, ◌∙◌, ap, arith, length, rules, take}
-use Rattle.std.proofs.lemmas.Bool.{eqb-true, ne_eqb}
-use Rattle.recode.proofs.StepLemmas.{ended_before, stops_unread, stops_refused, stops_under, is_writing}
-use Rattle.recode.proofs.LatencyLemmas.{steps_on}
+use Rattle.std.proofs.Common.{◌≡◌, ◌≤◌, ◌<◌, [], ap, arith, length, rules, take}
+use Rattle.std.proofs.lemmas.Bool.{ne_eqb}
+use Rattle.recode_log.specs.laws.Calls.{passed_failed, passed_one}
+use Rattle.recode.specs.calls.Writers.{is_end}
+use Rattle.recode.proofs.GrowLemmas.{Gave-one, GaveAll-one, none_where_end}
+use Rattle.recode.proofs.StepLemmas.{stops_unread, stops_refused, stops_under, is_writing}
+use Rattle.recode.proofs.LatencyLemmas.{finishes, steps_on}
+use Rattle.recode.proofs.TellLemmas.{ended_before, last_handed, none_well, reads_one, step_calls, taken_none}
 use Rattle.recode.proofs.TraceLemmas.{handed_on}
 use Rattle.recode.proofs.session.Session.step.Goals as goal
 
 pub returns-in_default-clause-fault : goal.returns-in_default-clause-fault
-returns-in_default-clause-fault g c = stops_unread _ _ _ _ _ _ _ c.in_default.ensures.bytes (search rules)
+returns-in_default-clause-fault g c = stops_unread _ _ _ _ _ _ _ (passed_failed _ _ _ c.in_default.ensures.call) (search rules)
 
 pub returns-then-read-self-clause-fault : goal.returns-then-read-self-clause-fault
-returns-then-read-self-clause-fault g c = stops_refused _ _ _ _ _ _ _ _ c.in-Ok.ensures.bytes.0 (search rules)
+returns-then-read-self-clause-fault g c = stops_refused _ _ _ _ _ _ _ _ (Gave-one _ _ _ (passed_one _ _ _ _ c.in-Ok.ensures.call)) (search rules)
     (omega (arith, c.in-Ok.ensures.bound.1, c.if-read-self.true))
 
 pub returns-in_err-write_chunk-clause-fault : goal.returns-in_err-write_chunk-clause-fault
 returns-in_err-write_chunk-clause-fault g c =
     let within : c.args.self.now.engine.counts.read ≤ c.args.self.now.job.limit = search rules in
+    let one = passed_one _ _ _ _ c.in-Ok.ensures.call in
     handed_on _ _ _ c.from_residual.ensures.1 (stops_under _ _ _ _ _ _ _
-    c.in-Ok.ensures.bytes.0
-    (λ h. c.in-Ok.ensures.bytes.1 (c.in-Ok.ensures.bound.1 ∙ eqb-true _ 0 h) (omega (arith, c.read.auto.buf, c.requires.buffers.input)))
+    (Gave-one _ _ _ one)
+    (λ h. GaveAll-one _ _ _ one (none_where_end _ h))
     (is_writing (Unit {0}) _ c.in_err-write_chunk.ensures.failures.not_other)
     (omega (arith, c.in-Ok.ensures.bound.1, c.if-read-self.false, within))
     (search rules))
@@ -26,10 +31,87 @@ pub returns-else-read-eq0-clause-more : goal.returns-else-read-eq0-clause-more
 returns-else-read-eq0-clause-more g c e =
     let k = c.in_ok-write_chunk.ensures in
     let on = ne_eqb (length (take c.in-Ok.read c.read.new.buf)) 0 (omega (arith, c.in-Ok.ensures.bound.1, c.if-read-eq0.false)) in
-    steps_on _ _ _ _ _ _ _ c.in-Ok.ensures.bytes.0 (omega (arith, c.in-Ok.ensures.bound.1, c.if-read-eq0.false))
+    steps_on _ _ _ _ _ _ _ (Gave-one _ _ _ (passed_one _ _ _ _ c.in-Ok.ensures.call)) (omega (arith, c.in-Ok.ensures.bound.1, c.if-read-eq0.false))
     (omega (arith, k.chunk.counted, c.in-Ok.ensures.bound.1, c.if-read-self.false)) (search rules) on (search rules)
 
-pub returns-then-read-eq0-clause-end : goal.returns-then-read-eq0-clause-end
-returns-then-read-eq0-clause-end g c e =
+pub returns-then-read-eq0-clause-done : goal.returns-then-read-eq0-clause-done
+returns-then-read-eq0-clause-done g c e =
+    let k = c.in_ok-write_chunk.ensures in
+    let none : take c.in-Ok.read c.read.new.buf ≡ [] = ap (λ n. take n c.read.new.buf) c.if-read-eq0.true in
+    let within : c.args.self.now.engine.counts.read ≤ c.args.self.now.job.limit = search rules in
+    finishes _ _ _ _ _ _ _ (GaveAll-one _ _ _ (passed_one _ _ _ _ c.in-Ok.ensures.call) none) none
+    (omega (arith, k.chunk.counted, ap length none, within)) (ap is_end none) (search rules)
+
+-- What devices tell, if they do.
+
+pub returns-in_default-clause-told : goal.returns-in_default-clause-told
+returns-in_default-clause-told g c = (
+  record {
+    input = reads_one _ _ _ _ c.read.result c.read.new.buf c.read.ensures.call c.read.ensures.bytes c.read.ensures.bound (omega (arith, c.read.auto.buf, c.requires.buffers.input));
+    output = taken_none _ _;
+    log = taken_none _ _;
+  },
+  λ is. cc,
+)
+
+pub returns-then-read-self-clause-told : goal.returns-then-read-self-clause-told
+returns-then-read-self-clause-told g c = (
+  record {
+    input = reads_one _ _ _ _ c.read.result c.read.new.buf c.read.ensures.call c.read.ensures.bytes c.read.ensures.bound (omega (arith, c.read.auto.buf, c.requires.buffers.input));
+    output = taken_none _ _;
+    log = taken_none _ _;
+  },
+  λ is. cc,
+)
+
+pub returns-in_err-write_chunk-clause-told : goal.returns-in_err-write_chunk-clause-told
+returns-in_err-write_chunk-clause-told g c = (
+  record {
+    input = reads_one _ _ _ _ c.read.result c.read.new.buf c.read.ensures.call c.read.ensures.bytes c.read.ensures.bound (omega (arith, c.read.auto.buf, c.requires.buffers.input));
+    output = search rules;
+    log = search rules;
+  },
+  λ is. absurd (none_well _ _ _ c.from_residual.ensures.1 is),
+)
+
+pub returns-else-read-eq0-clause-told : goal.returns-else-read-eq0-clause-told
+returns-else-read-eq0-clause-told g c = (
+  record {
+    input = reads_one _ _ _ _ c.read.result c.read.new.buf c.read.ensures.call c.read.ensures.bytes c.read.ensures.bound (omega (arith, c.read.auto.buf, c.requires.buffers.input));
+    output = search rules;
+    log = search rules;
+  },
+  λ is. cc,
+)
+
+pub returns-then-read-eq0-clause-told : goal.returns-then-read-eq0-clause-told
+returns-then-read-eq0-clause-told g c =
     let none : c.in-Ok.read ≡ 0 = c.if-read-eq0.true in
-    ended_before _ _ _ c.in-Ok.ensures.bytes.0 (ap (λ n. take n c.read.new.buf) none) (c.in-Ok.ensures.bytes.1 none (omega (arith, c.read.auto.buf, c.requires.buffers.input)))
+    let some : 0 < length c.read.new.buf = omega (arith, c.read.auto.buf, c.requires.buffers.input) in
+    (
+      record {
+        input = reads_one _ _ _ _ c.read.result c.read.new.buf c.read.ensures.call c.read.ensures.bytes c.read.ensures.bound some;
+        output = search rules;
+        log = search rules;
+      },
+      λ is. ended_before _ _ _ c.in-Ok.ensures.bytes.0 (ap (λ n. take n c.read.new.buf) none) (c.in-Ok.ensures.bytes.1 none some),
+    )
+
+-- The calls.
+
+pub returns-in_default-clause-calls : goal.returns-in_default-clause-calls
+returns-in_default-clause-calls g c = step_calls _ _ _ _ c.read.result c.read.new.buf _ _ c.read.ensures.call c.read.auto.buf (record { earlier = _; room = _; ends = c.in_default.ensures.call })
+
+pub returns-then-read-self-clause-calls : goal.returns-then-read-self-clause-calls
+returns-then-read-self-clause-calls g c = step_calls _ _ _ _ c.read.result c.read.new.buf _ _ c.read.ensures.call c.read.auto.buf tt
+
+pub returns-in_err-write_chunk-clause-calls : goal.returns-in_err-write_chunk-clause-calls
+returns-in_err-write_chunk-clause-calls g c =
+    let e = c.in_err-write_chunk.ensures.failures in
+    step_calls _ _ _ _ c.read.result c.read.new.buf _ _ c.read.ensures.call c.read.auto.buf (last_handed _ _ _ _ _ c.from_residual.ensures.1 e.not_other (search rules))
+
+pub returns-then-read-eq0-clause-calls : goal.returns-then-read-eq0-clause-calls
+returns-then-read-eq0-clause-calls g c = step_calls _ _ _ _ c.read.result c.read.new.buf _ _ c.read.ensures.call c.read.auto.buf tt
+
+pub returns-else-read-eq0-clause-calls : goal.returns-else-read-eq0-clause-calls
+returns-else-read-eq0-clause-calls g c = step_calls _ _ _ _ c.read.result c.read.new.buf _ _ c.read.ensures.call c.read.auto.buf tt

@@ -4,6 +4,7 @@ use Rattle.recode.specs.calls.Held.{line_items}
 use Rattle.recode.proofs.HandsLemmas.{hands_after, hands_fault}
 use Rattle.recode.proofs.HeldLemmas.{delivers, hands_each}
 use Rattle.recode.proofs.TraceLemmas.{under_bytes}
+use Rattle.recode.proofs.TellLemmas.{last_each, taken_none, taken_part, taken_whole}
 use Rattle.recode.proofs.writers.Writers.deliver_held.Goals as goal
 
 pub returns-in_err-deliver_line-clause-hands : goal.returns-in_err-deliver_line-clause-hands
@@ -15,16 +16,18 @@ returns-in_err-deliver-clause-hands g c =
     let held = take c.deliver_line.new.self.held c.deliver_line.new.self.buffer.now in
     hands_after e.hands (record {
       ok = search rules;
-      err = hands_each _ _ _ _ _ _ c.from_residual-in_err-deliver.ensures.1 (λ more. under_bytes _ _ _ _ _ held _ _ more c.in_err-deliver.ensures.fault c.in_err-deliver.ensures.err.2
+      err = hands_each _ _ _ _ _ _ c.from_residual-in_err-deliver.ensures.1 (λ more. under_bytes _ _ _ _ _ held _ _ more c.in_err-deliver.ensures.fault c.in_err-deliver.ensures.err.4
           (ap (λ line. (line_items line ++ map Byte held) ++ more) e.none));
-      failures = search rules;
+      failures = record { writer = search rules; log = search rules; not_reader = search rules; not_other = search rules; same = search rules; last = last_each _ _ _ _ _ c.from_residual-in_err-deliver.ensures.1 c.in_err-deliver.ensures.fault c.in_err-deliver.ensures.failed };
+      told = record { output = taken_part _ _ _ _ held c.in_err-deliver.ensures.err; log = taken_none _ _ };
     })
 
 pub returns-clause-hands : goal.returns-clause-hands
 returns-clause-hands g c =
     let e = c.in_ok-deliver_line.ensures in
     hands_after e.hands (record {
-      ok = rw e.none (delivers _ _ _ _ _ c.in_ok-deliver.ensures.ok.0 refl);
+      ok = rw e.none (delivers _ _ _ _ _ c.in_ok-deliver.ensures.ok.2 refl);
       err = tt;
       failures = search rules;
+      told = record { output = taken_whole _ _ _ _ _ c.in_ok-deliver.ensures.ok; log = taken_none _ _ };
     })

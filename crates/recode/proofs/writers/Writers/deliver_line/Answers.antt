@@ -1,5 +1,6 @@
 use Rattle.std.proofs.Common.{rules, take}
 use Rattle.recode.proofs.HeldLemmas.{line_part, line_whole}
+use Rattle.recode.proofs.TellLemmas.{last_log, taken_by, taken_none}
 use Rattle.recode.proofs.writers.Writers.deliver_line.Goals as goal
 
 pub returns-clause-hands : goal.returns-clause-hands
@@ -9,5 +10,6 @@ returns-clause-hands g c =
     record {
       ok = line_whole _ _ _ _ c.args.self.now.line held _ _ _ is _ c.deliver.ensures.ok;
       err = line_part _ _ _ _ c.args.self.now.line held _ _ _ is _ _ c.deliver.ensures.fault c.deliver.ensures.err;
-      failures = search rules;
+      failures = record { writer = search rules; log = search rules; not_reader = search rules; not_other = search rules; same = search rules; last = last_log _ _ _ c.deliver.ensures.fault c.deliver.ensures.failed };
+      told = record { output = taken_none _ _; log = taken_by _ _ _ _ _ _ _ _ c.deliver.ensures.ok c.deliver.ensures.err };
     }

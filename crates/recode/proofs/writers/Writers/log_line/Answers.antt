@@ -2,6 +2,7 @@ use Rattle.std.proofs.Common.{[], ◌∷◌, ◌∙◌, ap, ◌++◌, rules, tak
 use Rattle.recode.specs.calls.Held.{held_line_bytes, item_of}
 use Rattle.recode.proofs.HandsLemmas.{hands_after, hands_fault}
 use Rattle.recode.proofs.HeldLemmas.{lines_part, lines_whole, none_held}
+use Rattle.recode.proofs.TellLemmas.{last_log, taken_by, taken_none}
 use Rattle.recode.proofs.writers.Writers.log_line.Goals as goal
 
 pub returns-in_err-deliver_bytes-clause-hands : goal.returns-in_err-deliver_bytes-clause-hands
@@ -16,5 +17,6 @@ returns-clause-hands g c =
     hands_after e.hands (record {
       ok = lines_whole _ _ _ _ line _ _ c.args.line _ _ none is _ c.deliver.ensures.ok;
       err = lines_part _ _ _ _ line _ _ c.args.line _ _ none is _ _ c.deliver.ensures.fault c.deliver.ensures.err;
-      failures = search rules;
+      failures = record { writer = search rules; log = search rules; not_reader = search rules; not_other = search rules; same = search rules; last = last_log _ _ _ c.deliver.ensures.fault c.deliver.ensures.failed };
+      told = record { output = taken_none _ _; log = taken_by _ _ _ _ _ _ _ _ c.deliver.ensures.ok c.deliver.ensures.err };
     })

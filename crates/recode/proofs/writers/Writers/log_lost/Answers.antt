@@ -8,6 +8,7 @@ use Rattle.recode.proofs.BufferLemmas.{view_none}
 use Rattle.recode.proofs.HandsLemmas.{hands_fault, hands_then}
 use Rattle.recode.proofs.HeldLemmas.{hands_each, stops_as}
 use Rattle.recode.proofs.PolicyLemmas.{form_written, goes_on_where_written, stops_where_none}
+use Rattle.recode.proofs.TellLemmas.{last_each}
 use Rattle.recode.proofs.writers.Writers.log_lost.Goals as goal
 
 pub returns-in_err-log_line-clause-hands : goal.returns-in_err-log_line-clause-hands
@@ -20,12 +21,13 @@ returns-in_err-form-clause-hands g c =
     let p = c.args.self.now.policy in
     let e = c.in_ok-log_line.ensures in
     let bytes = map Byte (reference_bytes (reference_form p) c.args.scalar) in
-    let none = ap held_items (view_none g.W.Write.contents g.L.Write.contents c.log_line.new.self e.none) in
+    let none = ap held_items (view_none c.log_line.new.self e.none) in
     record {
       ok = search rules;
-      err = hands_each _ _ _ _ _ _ c.from_residual-in_err-form.ensures.1 (λ more. stops_as _ (writers_view g.W.Write.contents g.L.Write.contents c.log_line.new.self) p _ c.args.index c.args.scalar (bytes ++ more) c.in_err-form.ensures.err.1
+      err = hands_each _ _ _ _ _ _ c.from_residual-in_err-form.ensures.1 (λ more. stops_as _ (writers_view c.log_line.new.self) p _ c.args.index c.args.scalar (bytes ++ more) c.in_err-form.ensures.err.1
           (sym e.hands.failures.same.policy ∙ stops_where_none _ c.in_err-form.ensures.err.0) e.hands.ok none);
-      failures = search rules;
+      failures = record { writer = search rules; log = search rules; not_reader = search rules; not_other = search rules; same = search rules; last = last_each _ _ _ _ _ c.from_residual-in_err-form.ensures.1 c.in_err-form.ensures.err.1 tt };
+      told = e.hands.told;
     }
 
 pub returns-clause-hands : goal.returns-clause-hands

@@ -3,6 +3,7 @@ use Rattle.encoding_mem.specs.Coding.{reference_bytes}
 use Rattle.encoding_mem.specs.Items.{Byte}
 use Rattle.recode.proofs.HandsLemmas.{hands_after, hands_fault}
 use Rattle.recode.proofs.HeldLemmas.{delivers_part, delivers_whole, holds, none_held}
+use Rattle.recode.proofs.TellLemmas.{last_write, taken_by, taken_none}
 use Rattle.recode.proofs.writers.Writers.put_reference.Goals as goal
 
 pub returns-in_err-deliver_held : goal.returns-in_err-deliver_held
@@ -18,7 +19,8 @@ returns-in_ok-deliver_held g c =
       hands = hands_after e.hands (record {
         ok = delivers_whole _ _ _ _ _ held _ _ _ _ e.none.line none is _ c.deliver.ensures.ok;
         err = delivers_part _ _ _ _ _ held _ _ _ _ e.none.line none is _ _ c.deliver.ensures.fault c.deliver.ensures.err;
-        failures = search rules;
+        failures = record { writer = search rules; log = search rules; not_reader = search rules; not_other = search rules; same = search rules; last = last_write _ _ _ c.deliver.ensures.fault c.deliver.ensures.failed };
+        told = record { output = taken_by _ _ _ _ _ _ _ _ c.deliver.ensures.ok c.deliver.ensures.err; log = taken_none _ _ };
       });
     }
 
@@ -28,5 +30,6 @@ returns-else-len-self g c = record {
     ok = holds _ _ _ _ _ (c.put_all-self.ensures.prefix ∙ ap (λ x. take c.args.self.now.held c.args.self.now.buffer.now ++ x) c.write_reference-len.ensures.reference);
     err = tt;
     failures = search rules;
+    told = record { output = taken_none _ _; log = taken_none _ _ };
   };
 }

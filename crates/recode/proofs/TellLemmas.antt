@@ -1,0 +1,223 @@
+-- What devices that tell their bytes tell after calls in a row, and which call was the last.
+use Rattle.std.proofs.Common.{◌≡◌, ◌⊎◌, ◌+◌, ◌<◌, ℕ, List, [], ◌∷◌, ◌++◌, Option, Some, None, Result, Ok, Err, true, false, OnOk, OnErr, IfErr, IsErrAnd, inl, inr, refl, sym, ap, subst, ◌∙◌, append_assoc, append-nil, length, length-append, take, arith}
+use Rattle.std.specs.Io.{ReadsAtMost}
+use Rattle.std.specs.Io.KnownBytes.{Appends, Consumes, IsAtEnd, Keeps, ReadConsumes}
+use Rattle.std.specs.List.{concat}
+use Rattle.std.proofs.KnownBytes.{Appends-nil, Appends-trans, Consumes-kept, Consumes-nil, Consumes-trans}
+use Rattle.std.proofs.lemmas.List.{append_cancel_left, same_from_push}
+use Rattle.std.proofs.lemmas.List.Folds.{concat-append}
+use Rattle.recode_log.specs.Call.{Call, CallsOnce, EndsInFailedWrite, Failed, Flush, FlushesOnce, Passed, passed_by}
+use Rattle.recode_log.specs.laws.Calls.{passed_failed, passed_flush, passed_one}
+use Rattle.recode.specs.Conversion.{EndsInFlush}
+use Rattle.recode.specs.Devices.{Devices, Gave, GaveAll, Grew, IsOf}
+use Rattle.recode.specs.Fault.{EndsAtFault, EndsAtWriterFault, of_other}
+use Rattle.recode.specs.Step.{IsReadInto, StepCalls}
+use Rattle.recode.specs.Told.{Told, TellsReads, TellsTaken, TellWhatPassed}
+use Rattle.recode.specs.declared.job.Fault.{Fault}
+use Rattle.recode.specs.declared.job.Fault.TheVariants.{Read, Write, Log, TooLong, Unmappable}
+use Rattle.recode.proofs.GrowLemmas.{GaveAll-is}
+
+-- ---- a writer
+
+pub taken_none : (a : List ℕ) (t : Option (List ℕ)) → TellsTaken a a t t
+taken_none a t = record { bytes = []; took = sym (append-nil a); held = Appends-nil t }
+
+pub taken_then : (a b c : List ℕ) (t u v : Option (List ℕ)) → TellsTaken a b t u → TellsTaken b c u v → TellsTaken a c t v
+taken_then a b c t u v h k = record {
+  bytes = h.bytes ++ k.bytes;
+  took = k.took ∙ ap (λ l. l ++ k.bytes) h.took ∙ append_assoc a h.bytes k.bytes;
+  held = Appends-trans t u v h.bytes k.bytes h.held k.held;
+}
+
+-- a flush
+kept_nil : (t u : Option (List ℕ)) → Keeps t u → Appends t u []
+kept_nil None u h = tt
+kept_nil (Some x) None h = absurd h
+kept_nil (Some x) (Some y) h = h ∙ sym (append-nil x)
+
+pub taken_kept : (a b : List ℕ) (t u : Option (List ℕ)) → b ≡ a → Keeps t u → TellsTaken a b t u
+taken_kept a b t u same kept = record { bytes = []; took = same ∙ sym (append-nil a); held = kept_nil t u kept }
+
+-- all of some bytes, or a part
+pub taken_by : {T E : Type 0} (r : Result T E) (a b : List ℕ) (t u : Option (List ℕ)) (bytes : List ℕ) (n m : ℕ)
+    → OnOk r (Appends t u bytes × (m ≡ n) × (b ≡ a ++ bytes)) → OnErr r ((k : ℕ) × (k < length bytes) × Appends t u (take k bytes) × (m ≡ n + 1) × (b ≡ a ++ take k bytes)) → TellsTaken a b t u
+taken_by (Ok x) a b t u bytes n m h k = record { bytes = bytes; took = h.2; held = h.0 }
+taken_by (Err e) a b t u bytes n m h k = record { bytes = take k.0 bytes; took = k.4; held = k.2 }
+
+-- if that is known
+pub taken_whole : {X : Type 0} (a b : List ℕ) (t u : Option (List ℕ)) (bytes : List ℕ) → Appends t u bytes × X × (b ≡ a ++ bytes) → TellsTaken a b t u
+taken_whole a b t u bytes h = record { bytes = bytes; took = h.2; held = h.0 }
+
+pub taken_part : {X : Type 0} (a b : List ℕ) (t u : Option (List ℕ)) (bytes : List ℕ) → (k : ℕ) × (k < length bytes) × Appends t u (take k bytes) × X × (b ≡ a ++ take k bytes) → TellsTaken a b t u
+taken_part a b t u bytes k = record { bytes = take k.0 bytes; took = k.4; held = k.2 }
+
+-- so a writer that tells holds what was taken
+pub taken_is : (a b : List ℕ) (t u : Option (List ℕ)) (bytes : List ℕ) → TellsTaken a b t u → Grew a b bytes → Appends t u bytes
+taken_is a b t u bytes h is = subst (Appends t u) (append_cancel_left a h.bytes bytes (sym h.took ∙ is)) h.held
+
+-- ---- a reader
+
+pub reads_none : (a : List (List ℕ)) (t : Option (List ℕ)) → TellsReads a a t t
+reads_none a t = record { reads = []; gave = sym (append-nil a); consumed = Consumes-nil t; end = λ front e. absurd (omega (arith, ap length e, length-append front ([] ∷ []))) }
+
+-- the last of some
+last_of : (r : List (List ℕ)) → (r ≡ []) ⊎ ((front : List (List ℕ)) × (x : List ℕ) × (r ≡ front ++ (x ∷ [])))
+last_of [] = inl refl
+last_of (x ∷ r) = elim (last_of r) [
+  | inl none ↦ inr ([], x, ap (λ l. x ∷ l) none)
+  | inr p ↦ inr (x ∷ p.0, p.1, ap (λ l. x ∷ l) p.2)
+]
+
+-- no call so far gave none
+abbrev pub NoneYet : (before after : List (List ℕ)) → Type 0
+NoneYet before after = (front : List (List ℕ)) → after ≡ before ++ (front ++ ([] ∷ [])) → ⊥
+
+pub none_yet : (a : List (List ℕ)) → NoneYet a a
+none_yet a front e = omega (arith, ap length e, length-append a (front ++ ([] ∷ [])), length-append front ([] ∷ []))
+
+-- what one call gave, if it gave some
+one_gave : (before after : List Call) (room : ℕ) (call : Call) → IsReadInto room call → after ≡ before ++ (call ∷ [])
+    → (passed_by after ≡ passed_by before) ⊎ ((bytes : List ℕ) × (passed_by after ≡ passed_by before ++ (bytes ∷ [])))
+one_gave before after room (Passed n bytes) is once = inr (bytes, passed_one before after n bytes once)
+one_gave before after room (Failed n) is once = inl (passed_failed before after n once)
+one_gave before after room (Flush failed) is once = absurd is
+
+-- nor after one that gave some
+pub none_yet_on : (a : List (List ℕ)) (before after : List Call) (room : ℕ) (call : Call) (chunk : List ℕ) → NoneYet a (passed_by before) → IsReadInto room call → after ≡ before ++ (call ∷ [])
+    → Gave (passed_by before) (passed_by after) chunk → 0 < length chunk → NoneYet a (passed_by after)
+none_yet_on a before after room call chunk yet is once gave some front e = elim (one_gave before after room call is once) [
+  | inl same ↦ yet front (sym same ∙ e)
+  | inr one ↦
+      let none : one.0 ≡ [] = (same_from_push (passed_by before) (a ++ front) one.0 [] (sym one.1 ∙ e ∙ sym (append_assoc a front ([] ∷ [])))).1 in
+      let all : gave.0 ≡ one.0 ∷ [] = append_cancel_left (passed_by before) gave.0 (one.0 ∷ []) (sym gave.1 ∙ one.1) in
+      omega (arith, some, ap length (sym gave.2 ∙ ap concat all ∙ append-nil one.0 ∙ none))
+]
+
+pub reads_then : (a b c : List (List ℕ)) (t u v : Option (List ℕ)) → NoneYet a b → TellsReads a b t u → TellsReads b c u v → TellsReads a c t v
+reads_then a b c t u v yet h k = record {
+  reads = h.reads ++ k.reads;
+  gave = k.gave ∙ ap (λ l. l ++ k.reads) h.gave ∙ append_assoc a h.reads k.reads;
+  consumed = subst (Consumes t v) (sym (concat-append h.reads k.reads)) (Consumes-trans t u v (concat h.reads) (concat k.reads) h.consumed k.consumed);
+  end = λ front e. elim (last_of k.reads) [
+    | inl none ↦ absurd (yet front (h.gave ∙ ap (λ l. a ++ l) (sym (append-nil h.reads) ∙ ap (λ l. h.reads ++ l) (sym none) ∙ e)))
+    | inr p ↦ k.end p.0 (p.2 ∙ ap (λ x. p.0 ++ (x ∷ [])) (same_from_push (h.reads ++ p.0) front p.1 [] (append_assoc h.reads p.0 (p.1 ∷ []) ∙ ap (λ l. h.reads ++ l) (sym p.2) ∙ e)).1)
+  ];
+}
+
+-- one read
+pub reads_one : {E : Type 0} (before after : List Call) (t u : Option (List ℕ)) (r : Result ℕ E) (buf : List ℕ) → CallsOnce before after r buf → ReadConsumes t u r buf → ReadsAtMost r buf → 0 < length buf
+    → TellsReads (passed_by before) (passed_by after) t u
+reads_one before after t u (Ok n) buf once more within some = record {
+  reads = take n buf ∷ [];
+  gave = passed_one before after (length buf) (take n buf) once;
+  consumed = subst (Consumes t u) (sym (append-nil (take n buf))) more.0;
+  end = λ front e. more.1 (within.1 ∙ ap length (same_from_push [] front (take n buf) [] e).1) some;
+}
+reads_one before after t u (Err x) buf once kept within some =
+    let none : passed_by after ≡ passed_by before = passed_failed before after (length buf) once in
+    record {
+      reads = [];
+      gave = none ∙ sym (append-nil (passed_by before));
+      consumed = Consumes-kept t t u [] (Consumes-nil t) kept;
+      end = λ front e. absurd (omega (arith, ap length e, length-append front ([] ∷ [])));
+    }
+
+-- so what its calls gave is what it has lost
+pub reads_are : (a b : List (List ℕ)) (t u : Option (List ℕ)) (bytes : List ℕ) → TellsReads a b t u → Gave a b bytes → Consumes t u bytes
+reads_are a b t u bytes h given = subst (Consumes t u) (ap concat (append_cancel_left a h.reads given.0 (sym h.gave ∙ given.1)) ∙ given.2) h.consumed
+
+-- and it is at its end if the last call gave none
+pub reads_end : (a b : List (List ℕ)) (t u : Option (List ℕ)) (bytes : List ℕ) → TellsReads a b t u → GaveAll a b bytes → IsAtEnd u
+reads_end a b t u bytes h given = h.end given.0 (append_cancel_left a h.reads (given.0 ++ ([] ∷ [])) (sym h.gave ∙ given.1))
+
+-- a reader that tells these bytes gives what begins them, and all of them by its end
+pub reads_of : (x : List ℕ) (a b : List (List ℕ)) (t u : Option (List ℕ)) → t ≡ Some x → TellsReads a b t u → IsOf a b x
+reads_of x a b t u is h = record {
+  front = λ bytes given. front_of u bytes (subst (λ (w : Option (List ℕ)). Consumes w u bytes) is (reads_are a b t u bytes h given));
+  whole = λ bytes given. whole_of u bytes (subst (λ (w : Option (List ℕ)). Consumes w u bytes) is (reads_are a b t u bytes h (GaveAll-is a b bytes given))) (reads_end a b t u bytes h given);
+}
+  where
+    front_of : (u : Option (List ℕ)) (bytes : List ℕ) → Consumes (Some x) u bytes → (rest : List ℕ) × (x ≡ bytes ++ rest)
+    front_of None bytes consumed = absurd consumed
+    front_of (Some y) bytes consumed = (y, consumed)
+    whole_of : (u : Option (List ℕ)) (bytes : List ℕ) → Consumes (Some x) u bytes → IsAtEnd u → bytes ≡ x
+    whole_of None bytes consumed end = absurd consumed
+    whole_of (Some y) bytes consumed end = sym (consumed ∙ ap (λ l. bytes ++ l) end ∙ append-nil bytes)
+
+-- a reader that gave no byte, and is at its end, was at its end before
+pub ended_before : (old new : Option (List ℕ)) (bs : List ℕ) → Consumes old new bs → bs ≡ [] → IsAtEnd new → IsAtEnd old
+ended_before None new bs consumed none end = tt
+ended_before (Some xs) None bs consumed none end = absurd consumed
+ended_before (Some xs) (Some ys) bs consumed none end = consumed ∙ ap (λ b. b ++ ys) none ∙ end
+
+-- ---- all three
+
+pub tells_none : (d : Devices) (t : Told) → TellWhatPassed d d t t
+tells_none d t = record { input = reads_none d.reads t.input; output = taken_none d.written.output t.output; log = taken_none d.written.log t.log }
+
+pub tells_then : (d e f : Devices) (t u v : Told) → NoneYet d.reads e.reads → TellWhatPassed d e t u → TellWhatPassed e f u v → TellWhatPassed d f t v
+tells_then d e f t u v yet h k = record {
+  input = reads_then d.reads e.reads f.reads t.input u.input v.input yet h.input k.input;
+  output = taken_then d.written.output e.written.output f.written.output t.output u.output v.output h.output k.output;
+  log = taken_then d.written.log e.written.log f.written.log t.log u.log v.log h.log k.log;
+}
+
+-- and then more was written
+pub tells_more : (d e f : Devices) (t u v : Told) → TellWhatPassed d e t u → f.reads ≡ e.reads → v.input ≡ u.input → TellsTaken e.written.output f.written.output u.output v.output → TellsTaken e.written.log f.written.log u.log v.log
+    → TellWhatPassed d f t v
+tells_more d e f t u v h same still k l = record {
+  input = subst (λ (x : List (List ℕ)). TellsReads d.reads x t.input v.input) (sym same) (subst (λ (x : Option (List ℕ)). TellsReads d.reads e.reads t.input x) (sym still) h.input);
+  output = taken_then d.written.output e.written.output f.written.output t.output u.output v.output h.output k;
+  log = taken_then d.written.log e.written.log f.written.log t.log u.log v.log h.log l;
+}
+
+-- a flush
+pub flushed_none : {T E : Type 0} (before after : List Call) (r : Result T E) → FlushesOnce before after r → concat (passed_by after) ≡ concat (passed_by before)
+flushed_none before after (Ok x) once = ap concat (passed_flush before after false once)
+flushed_none before after (Err e) once = ap concat (passed_flush before after true once)
+
+pub flushed_last : {T E : Type 0} (before after : List Call) (r : Result T E) → FlushesOnce before after r → EndsInFlush after
+flushed_last before after (Ok x) once = record { earlier = before; failed = false; ends = once }
+flushed_last before after (Err e) once = record { earlier = before; failed = true; ends = once }
+
+-- ---- the last call
+
+-- a fault of a writer is one of a device
+pub last_of_writers : {T : Type 0} (r : Result T Fault) (reader writer log : List Call) → of_other r ≡ 0 → IfErr r (EndsAtWriterFault writer log) → IfErr r (EndsAtFault reader writer log)
+last_of_writers (Ok x) reader writer log none h = tt
+last_of_writers (Err Read) reader writer log none h = absurd (omega (arith, none))
+last_of_writers (Err Write) reader writer log none h = h
+last_of_writers (Err Log) reader writer log none h = h
+last_of_writers (Err TooLong) reader writer log none h = tt
+last_of_writers (Err (Unmappable index scalar)) reader writer log none h = tt
+
+-- a call of a writer or of the log failed
+pub last_write : {T : Type 0} (r : Result T Fault) (writer log : List Call) → IfErr r (λ (f : Fault). f ≡ Write) → OnErr r (EndsInFailedWrite writer) → IfErr r (EndsAtWriterFault writer log)
+last_write (Ok x) writer log is h = tt
+last_write (Err f) writer log is h = subst (EndsAtWriterFault writer log) (sym is) h
+
+pub last_log : {T : Type 0} (r : Result T Fault) (writer log : List Call) → IfErr r (λ (f : Fault). f ≡ Log) → OnErr r (EndsInFailedWrite log) → IfErr r (EndsAtWriterFault writer log)
+last_log (Ok x) writer log is h = tt
+last_log (Err f) writer log is h = subst (EndsAtWriterFault writer log) (sym is) h
+
+-- or the fault is one that a result hands on
+pub last_each : {T : Type 0} (r : Result T Fault) (e g : Fault) (writer log : List Call) → IsErrAnd r (λ (x : Fault). x ≡ e) → e ≡ g → EndsAtWriterFault writer log g → IfErr r (EndsAtWriterFault writer log)
+last_each (Ok x) e g writer log same is h = tt
+last_each (Err f) e g writer log same is h = subst (EndsAtWriterFault writer log) (sym (same ∙ is)) h
+
+pub last_handed : {T : Type 0} (r : Result T Fault) (e : Fault) (reader writer log : List Call) → IsErrAnd r (λ (x : Fault). x ≡ e) → of_other {T = Unit {0}} (Err e) ≡ 0 → EndsAtWriterFault writer log e
+    → IfErr r (EndsAtFault reader writer log)
+last_handed (Ok x) e reader writer log same none h = absurd same
+last_handed (Err f) e reader writer log same none h =
+    subst (λ (g : Fault). EndsAtFault reader writer log g) (sym same) (last_of_writers {T = Unit {0}} (Err e) reader writer log none h)
+
+-- which did not go well
+pub none_well : {T : Type 0} (r : Result T Fault) (x : T) (e : Fault) → IsErrAnd r (λ (y : Fault). y ≡ e) → r ≡ Ok x → ⊥
+none_well (Ok y) x e failed is = absurd failed
+none_well (Err f) x e failed is = cc
+
+-- the calls of a step
+pub step_calls : {T E : Type 0} (reader reader' writer log : List Call) (r : Result ℕ E) (buf : List ℕ) (room : ℕ) (answer : Result T Fault) → CallsOnce reader reader' r buf → length buf ≡ room
+    → IfErr answer (EndsAtFault reader' writer log) → StepCalls reader reader' writer log room answer
+step_calls reader reader' writer log (Ok n) buf room answer once size last = record { call = Passed (length buf) (take n buf); once = once; is = size; last = last }
+step_calls reader reader' writer log (Err e) buf room answer once size last = record { call = Failed (length buf); once = once; is = size; last = last }

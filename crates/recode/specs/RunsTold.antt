@@ -1,0 +1,47 @@
+-- What a run and a conversion say of devices that tell their bytes: it is these bytes that a reader lost, and that a
+-- writer and a log hold.
+use Rattle.std.specs.Prelude.{◌≡◌, ℕ, ◌++◌, take, true}
+use Rattle.std.specs.Io.KnownBytes.{Appends, Consumes, IsAtEnd}
+use Rattle.recode.specs.Conversion.{Breaks, Converts, message_of}
+use Rattle.recode.specs.Devices.{Devices}
+use Rattle.recode.specs.Job.{log_of, output_of}
+use Rattle.recode.specs.Session.{Completes, Fails}
+use Rattle.recode.specs.TaggedByte.{log_bytes, output_bytes}
+use Rattle.recode.specs.Told.{Told}
+use Rattle.recode.specs.declared.job.Fault.{Fault}
+use Rattle.recode.specs.declared.job.Job.{Job}
+use Rattle.recode.specs.declared.job.Report.{Report}
+
+-- A run that came to its end: the reader lost the input, and has no more. The output grew by the job's output of it, and the
+-- log by its log.
+pub record CompletesTold (before after : Devices) (told told' : Told) (j : Job) (p : Report) : Type 0 where
+  pub completes : Completes before after j p
+  pub consumed : Consumes told.input told'.input completes.input
+  pub end : IsAtEnd told'.input
+  pub output : Appends told.output told'.output (output_of j completes.input)
+  pub logged : Appends told.log told'.log (log_of j completes.input)
+
+-- A run that a fault ended: the reader lost what was read, and has no more if the end was. Output and log grew by what was
+-- written.
+pub record FailsTold (before after : Devices) (told told' : Told) (j : Job) (f : Fault) : Type 0 where
+  pub fails : Fails before after j f
+  pub consumed : Consumes told.input told'.input (fails.read.input ++ fails.read.refused)
+  pub end : fails.read.ended ≡ true → IsAtEnd told'.input
+  pub output : Appends told.output told'.output (output_bytes fails.taken)
+  pub logged : Appends told.log told'.log (log_bytes fails.taken)
+
+-- a whole conversion: the same as of a run that came to its end
+pub record ConvertsTold (before after : Devices) (told told' : Told) (j : Job) (status : ℕ) : Type 0 where
+  pub converts : Converts before after j status
+  pub consumed : Consumes told.input told'.input converts.input
+  pub end : IsAtEnd told'.input
+  pub output : Appends told.output told'.output (output_of j converts.input)
+  pub logged : Appends told.log told'.log (log_of j converts.input)
+
+-- a failed conversion: the same as of a run that a fault ended, and the message after it
+pub record BreaksTold (before after : Devices) (told told' : Told) (j : Job) : Type 0 where
+  pub breaks : Breaks before after j
+  pub consumed : Consumes told.input told'.input (breaks.read.input ++ breaks.read.refused)
+  pub end : breaks.read.ended ≡ true → IsAtEnd told'.input
+  pub output : Appends told.output told'.output (output_bytes breaks.taken)
+  pub logged : Appends told.log told'.log (log_bytes breaks.taken ++ take breaks.told (message_of breaks.fault))
