@@ -191,12 +191,12 @@ class Comparison:
     def outcomes(self, what, job, data, plain):
         """The right outcome, and each that is wrong in one place."""
         right = {
-            "left": (), "output": tuple(plain.output), "log": tuple(plain.log), "read": len(data), "bad": plain.bad,
+            "last": (), "output": tuple(plain.output), "log": tuple(plain.log), "read": len(data), "bad": plain.bad,
             "lost": plain.lost, "calls": self.page.run("fewest_calls", len(data), plain.bad, plain.lost),
             "encoding": plain.found, "faithful": plain.is_faithful, "limit": len(data),
         }  # fmt: skip
         self.compare(what + ": its right outcome", self.completes(job, data, right), True)
-        wrong = {"left": [(0x41,)], "read": [len(data) + 1], "bad": [plain.bad + 1], "lost": [plain.lost + 1]}
+        wrong = {"last": [(0x41,)], "read": [len(data) + 1], "bad": [plain.bad + 1], "lost": [plain.lost + 1]}
         wrong |= {"faithful": [not plain.is_faithful], "calls": [right["calls"] - 1, 37 * len(data) + 10]}
         wrong["encoding"] = ["UTF-8" if plain.found != "UTF-8" else "Big5"]
         for device in ("output", "log"):
@@ -210,13 +210,13 @@ class Comparison:
                 self.compare(said, self.completes(job, data, {**right, place: value}), False)
 
     def completes(self, job, data, outcome):
-        """Whether an outcome of a run meets the theorem, which the reader and the writers tell their bytes."""
-        before = Record(input=some(data + outcome["left"]), written=Record(output=some((0x21,)), log=some(())))
-        written = Record(output=some((0x21,) + outcome["output"]), log=some(outcome["log"]))
+        """Whether an outcome of a run meets the theorem: what calls of the reader gave, and those of the writers took."""
+        before, written = ((0x21,),), Record(output=(0x21,), log=())
+        after, written_after = before + ((data,) if data else ()) + (outcome["last"],), Record(output=(0x21,) + outcome["output"], log=outcome["log"])
         report = Record(**{name: outcome[name] for name in ("read", "bad", "lost", "calls", "faithful")})
         report.encoding = self.page.encodings[outcome["encoding"]]
         return self.page.definitions.holds_of(
-            "Completes", before, Record(input=some(outcome["left"]), written=written), self.page.job(job, outcome["limit"]), report,
+            "Completes", before, after, written, written_after, self.page.job(job, outcome["limit"]), report,
             given=Record(input=data),
         )  # fmt: skip
 

@@ -5,7 +5,7 @@
 
 For each clause that it names, the page has the clause as it stands in the source, and each definition that the clause
 stands on, with the line above that definition and its place. Names are followed through the imports of each file, and
-the standard library is left out but for the words by which a clause is full or empty. `make lint` calls `faults`: a
+the standard library is left out. `make lint` calls `faults`: a
 page that is not what this script writes, a headline that stands on more lines than `tools/headline_lines` says, and one
 that stands on a file of `specs/calls/`.
 """
@@ -38,15 +38,8 @@ GROUPS = [
     ("encoding_codecs", "The encodings of two and more bytes"),
 ]  # fmt: skip
 
-# The words of the standard library by which a clause about a device is full or empty.
-DEVICE_WORDS = [
-    ("Consumes", "`Consumes before after bytes`: if the reader tells its bytes, those before the call are `bytes`, then those after it. If it does not, this says nothing."),
-    ("IsAtEnd", "`IsAtEnd rest`: if the reader tells its bytes, none is left."),
-    ("Appends", "`Appends before after bytes`: if the writer tells what it holds, that is what it held before, then `bytes`. If it does not, this says nothing."),
-]  # fmt: skip
-
 HOW_TO_READ = """
-- `ensures NAME { .. }` is what the function promises. `R.remaining`, `W.contents` and `L.contents` are what the devices tell of themselves: the bytes that a reader will give, and those that a writer has taken. A device may tell nothing, as a file of the system does. Then nothing is said of its bytes, and if the reader tells nothing, output and report are said to be those of some input: that it is the one that was read rests on `run` being generic, which sees what the reader's calls return, and nothing else.
+- `ensures NAME { .. }` is what the function promises. It speaks of every reader, writer and log, files and standard streams among them: `reads_of` has the bytes that each call of the reader gave that did not fail, and `written_in` those that calls of the writer and of the log took, from the first call on. `Counted` keeps this history of its calls for clauses alone; it takes no memory. So there is one input of which the clause can speak: what the calls of the reader gave. What a device tells of its own bytes, if it does, is the same (`completes_told`, `fails_told`).
 - `x.old` is what a parameter refers to before the call, `x.new` after it, `x.now` if the call does not change it; `x.entry` is the value that was passed, `result` what is returned.
 - `IfOk result (λ p. ..)` says the rest of `p` if the result is `Ok p`, and `IfErr` of the error. `A → B` is *if A then B*, `A × B` *A and B*, `A ⊎ B` *A or B*, `A ↔ B` *A exactly if B*, `¬ A` *not A*, `(x : A) → ..` *for each x*, `(x : A) × ..` *there is an x*. `⊥` is false, `Unit {0}` true, and `IsTrue b` says that the Boolean b is `true`.
 - `record R .. where` names each of its parts, and holds if all of them do; a `data` lists what a value can be. `abbrev` and `unfoldable` begin definitions alike. The first equation that fits counts. `≡` is equality, `∷` puts one element before a list, `++` joins two, `p.0` and `p.1` are the parts of a pair.
@@ -137,8 +130,6 @@ def page():
             for definition in [d for d, hop in seen.items() if d.path.endswith("recode/specs/Session.antt")]:
                 lines += ["    -- " + line for line in definition.comment] + ["    " + line for line in definition.source] + [""]
             lines += ["## How to read it", HOW_TO_READ.strip("\n"), ""]
-            lines += ["The devices' words, from the standard library:", ""]
-            lines += ["- " + what for word, what in DEVICE_WORDS if word in library] + [""]
             lines += ["## What it stands on", ""]
             lines += table(seen)
             lines += ["### Types of the code", "", "| Type | What it is | Place |", "|---|---|---|"]

@@ -22,6 +22,7 @@
 - Each public item of a library has a doc comment, and `docs/reference` is what `make doc` writes (`tools/reference.py`). No
   public contract cites a word that stands among theorems (`specs/laws/`).
 - Each source file but a crate's root begins with a line that says what it is for (`//!`).
+- No function is proved by hand but those that `HAND_PROOFS` names: such a proof could choose a history of devices.
 - `include/jillapun.h` is what `tools/c_header.py` writes, and man/jillapun.3 says what it says (`tools/c_manual.py`).
 - The patches of docs/examples apply.
 - README.md and the man pages say what the help says (`tools/usage.py`), and README.md has fewer than 120 lines.
@@ -54,6 +55,22 @@ MOST_CLAUSES = os.path.join(TOP, "tools", "most_clauses")
 COLUMNS = 100
 CONTRACT_LINES = 30
 README_LINES = 120
+
+# The functions that are proved by hand: they make a history, or handles for C.
+HAND_PROOFS = [
+    "jillapun_c/proofs/handle/CoderHandle/closed",
+    "jillapun_c/proofs/handle/CoderHandle/into_loose",
+    "jillapun_c/proofs/handle/CoderHandle/of_loose",
+    "jillapun_c/proofs/loose/Loose/into_box",
+    "jillapun_c/proofs/loose/Loose/of",
+    "jillapun_c/proofs/tables_handle/TablesHandle/closed",
+    "jillapun_c/proofs/tables_handle/TablesHandle/get",
+    "jillapun_c/proofs/tables_handle/TablesHandle/of",
+    "recode_log/proofs/history/History/and",
+    "recode_log/proofs/history/History/and_failed",
+    "recode_log/proofs/history/History/and_flush",
+    "recode_log/proofs/history/History/new",
+]
 
 FUNCTION = re.compile(r'^ *(?:pub(?:\(\w+\))? )?(?:unsafe )?(?:extern "C" )?fn (\w+)')
 CLAUSE = re.compile(r"^ *(?:requires|ensures)\b")
@@ -140,6 +157,14 @@ def most_clauses():
     most = max(clauses for _, clauses, _ in found)
     if most < limit:
         yield "no function has more than %d clauses: write this number to tools/most_clauses" % most
+
+
+def hand_proofs():
+    for path in files("proofs", "Proof.antt"):
+        if os.path.basename(path) == "Proof.antt":
+            place = os.path.relpath(os.path.dirname(path), "crates")
+            if place not in HAND_PROOFS:
+                yield "%s proves a function by hand, which HAND_PROOFS of tools/lint.py does not name" % path
 
 
 def definitions_of_specs():
@@ -282,6 +307,7 @@ CHECKS = (
     wrong_bodies,
     edits_page,
     edit_record.faults,
+    hand_proofs,
     roots,
     first_lines,
     manual,

@@ -157,6 +157,7 @@ def utf8(scalar):
 # The words of the standard library: how many arguments each takes, and what it is.
 LIBRARY = {
     "codes": (1, lambda text: tuple(map(ord, text))),
+    "concat": (1, lambda lists: tuple(entry for entries in lists for entry in entries)),
     "cond": (3, lambda test, one, other: one if test else other),
     "decimal": (1, lambda n: tuple(b"%d" % n)),
     "digits": (3, lambda base, capitals, n: tuple((("%X" if capitals else "%x") % n).encode())),
@@ -197,11 +198,17 @@ LIBRARY = {
     "zero": (0, 0),
     "IsTrue": (1, bool),
     "⊥": (0, False),
-    # What devices tell, each an option of a list of bytes.
-    "Appends": (3, lambda before, after, data: before.maker == "None" or after == Made("Some", before.parts[0] + data)),
-    "Consumes": (3, lambda before, after, data: before.maker == "None" or before == Made("Some", data + after.parts[0])),
-    "IsAtEnd": (1, lambda rest: rest.maker == "None" or rest.parts[0] == ()),
 }
+
+
+def gave_to_end(before, after, data):
+    """Whether there are reads, with one more that gave none, after those before, and these bytes are theirs."""
+    reads = after[len(before) :]
+    return after[: len(before)] == before and reads[-1:] == ((),) and sum(reads[:-1], ()) == data
+
+
+# The definitions that say *there is*: how many arguments each takes, and whether there is.
+FOUND = {"GaveToEnd": (3, gave_to_end)}
 
 
 def minus(a, b):
@@ -488,6 +495,9 @@ class Definitions:
         self.space |= {"curried": curried, "functools": functools, "minus": minus}
         for module in self.types:
             self.read_type(module)
+        for name in self.found.keys() & FOUND.keys():
+            self.counts[name], self.space[self.python_name(name)] = FOUND[name]
+            del self.found[name]
         for definition in self.found.values():
             self.read_head(definition)
         for definition in self.found.values():

@@ -3,7 +3,7 @@ use Rattle.std.proofs.Common.{◌≡◌, List, [], ◌∷◌, ◌++◌, ℕ, tru
 use Rattle.std.specs.List.{concat}
 use Rattle.std.proofs.lemmas.List.Folds.{concat-append}
 use Rattle.std.proofs.lemmas.Bool.{eqb-true}
-use Rattle.recode.specs.Devices.{Gave, GaveAll, Grew}
+use Rattle.recode.specs.Devices.{Gave, GaveToEnd, Grew}
 use Rattle.recode.specs.calls.Writers.{is_end}
 
 pub Grew-nil : (a : List ℕ) → Grew a a []
@@ -29,19 +29,19 @@ pub Gave-one : (a b : List (List ℕ)) (s : List ℕ) → b ≡ a ++ (s ∷ []) 
 Gave-one a b s e = (s ∷ [], e, append-nil s)
 
 -- that gave none
-pub GaveAll-one : (a b : List (List ℕ)) (s : List ℕ) → b ≡ a ++ (s ∷ []) → s ≡ [] → GaveAll a b s
-GaveAll-one a b s e none = ([], e ∙ ap (λ x. a ++ (x ∷ [])) none, sym none)
+pub GaveToEnd-one : (a b : List (List ℕ)) (s : List ℕ) → b ≡ a ++ (s ∷ []) → s ≡ [] → GaveToEnd a b s
+GaveToEnd-one a b s e none = ([], e ∙ ap (λ x. a ++ (x ∷ [])) none, sym none)
 
-pub GaveAll-after : (a b c : List (List ℕ)) (s t : List ℕ) → Gave a b s → GaveAll b c t → GaveAll a c (s ++ t)
-GaveAll-after a b c s t p q = (
+pub GaveToEnd-after : (a b c : List (List ℕ)) (s t : List ℕ) → Gave a b s → GaveToEnd b c t → GaveToEnd a c (s ++ t)
+GaveToEnd-after a b c s t p q = (
   p.0 ++ q.0,
   q.1 ∙ ap (λ l. l ++ (q.0 ++ ([] ∷ []))) p.1 ∙ append_assoc a p.0 (q.0 ++ ([] ∷ [])) ∙ ap (λ l. a ++ l) (sym (append_assoc p.0 q.0 ([] ∷ []))),
   concat-append p.0 q.0 ∙ ap (λ l. l ++ concat q.0) p.2 ∙ ap (λ l. s ++ l) q.2,
 )
 
 -- all of it is what was given
-pub GaveAll-is : (a b : List (List ℕ)) (s : List ℕ) → GaveAll a b s → Gave a b s
-GaveAll-is a b s p = (p.0 ++ ([] ∷ []), p.1, concat-append p.0 ([] ∷ []) ∙ append-nil (concat p.0) ∙ p.2)
+pub GaveToEnd-is : (a b : List (List ℕ)) (s : List ℕ) → GaveToEnd a b s → Gave a b s
+GaveToEnd-is a b s p = (p.0 ++ ([] ∷ []), p.1, concat-append p.0 ([] ∷ []) ∙ append-nil (concat p.0) ∙ p.2)
 
 -- what is the end has no bytes
 pub none_where_end : (chunk : List ℕ) → is_end chunk ≡ true → chunk ≡ []

@@ -55,7 +55,7 @@ kept_log j x kept from to u =
     quiet_where_kept j x well_formed_text (in_utf8 j x to)
 
 -- A reader whose bytes are known.
-pub known_completes : (x : List ℕ) (s t : Devices) (j : Job) (p : Report) → IsOf s.reads t.reads x → Completes s t j p → IsConverted s.written t.written j x p
+pub known_completes : (x : List ℕ) (s t : Devices) (j : Job) (p : Report) → IsOf s.reads t.reads x → Completes s.reads t.reads s.written t.written j p → IsConverted s.written t.written j x p
 known_completes x s t j p is k = subst (λ y. IsConverted s.written t.written j y p) (is.whole k.input k.given) k.converted
 
 pub known_fails : (x : List ℕ) (s t : Devices) (j : Job) (f : Fault) → IsOf s.reads t.reads x → Fails s t j f → WrotePrefix s.written t.written j.policy f (trace j x)

@@ -24,7 +24,7 @@ use Rattle.recode.specs.Latency.{HasReached, WroteDecided}
 use Rattle.recode.specs.Policy.{reference_form}
 use Rattle.recode.specs.State.{State, to_write}
 use Rattle.recode.specs.Step.{Advances, Finishes, HasRun, IsNearlyDecided, StepsOn}
-use Rattle.recode.specs.Devices.{Devices, Gave, GaveAll, Grew, KeepsWritten, Written}
+use Rattle.recode.specs.Devices.{Devices, Gave, GaveToEnd, Grew, KeepsWritten, Written}
 use Rattle.recode.specs.TaggedByte.{IsPrefix, log_bytes, tagged, output_bytes}
 use Rattle.recode.specs.calls.TraceToWrite.{AreSound, trace_to_write}
 use Rattle.recode.specs.Session.{IsNewSession, View}
@@ -143,7 +143,7 @@ steps_on before after limit s s1 chunk last read_in some within sound goes_on k 
     }
 
 -- the clause of a step that finishes: it read none
-pub finishes : (before after : Devices) (limit : ℕ) (s s1 : State) (chunk : List ℕ) (last : Bool) → GaveAll before.reads after.reads chunk → chunk ≡ [] → s1.counts.read ≤ limit
+pub finishes : (before after : Devices) (limit : ℕ) (s s1 : State) (chunk : List ℕ) (last : Bool) → GaveToEnd before.reads after.reads chunk → chunk ≡ [] → s1.counts.read ≤ limit
     → last ≡ true → ConvertsChunk before.written after.written s s1 chunk last → Finishes before after limit s s1
 finishes before after limit s s1 chunk last given none within ends k =
     let pays = k.pays in

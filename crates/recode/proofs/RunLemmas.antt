@@ -85,7 +85,7 @@ is_report j x v w p b t same read_is malformed_is lost_is told valid within call
       faithful = (λ h. (b.verdict x).0 (told.1 (sym t.verdict ∙ h)), λ h. t.verdict ∙ told.0 ((b.verdict x).1 h));
     }
 
-pub completes : (before after : Devices) (j : Job) (v u : View) (p : Report) → IsValidJob j → IsNewSession v j → Finishes before after j.limit v.state u.state → Tells u p → Completes before after j p
+pub completes : (before after : Devices) (j : Job) (v u : View) (p : Report) → IsValidJob j → IsNewSession v j → Finishes before after j.limit v.state u.state → Tells u p → Completes before.reads after.reads before.written after.written j p
 completes before after j v u p valid b f t =
     let x : List ℕ = f.chunk in
     let written_items : f.pays.written_items ≡ whole_trace j x = sym (append-nil f.pays.written_items) ∙ sym f.pays.equals ∙ b.owes_trace x in

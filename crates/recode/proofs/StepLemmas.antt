@@ -1,9 +1,9 @@
 -- How a step's parts make its clauses. What is left if a conversion failed.
 use Rattle.std.proofs.Common.{Err, Ok, ◌⊎◌, ◌≡◌, ℕ, ◌+◌, ◌≤◌, ◌<◌, add-zero, arith, length-append, append_assoc, List, [], ◌++◌, length, Bool, true, false, refl, sym, ap, ◌∙◌, subst, append-nil, take, inl, inr}
-use Rattle.recode.proofs.GrowLemmas.{Gave-kept, Gave-nil, Gave-trans, GaveAll-after, GaveAll-is, Grew-kept, Grew-trans}
+use Rattle.recode.proofs.GrowLemmas.{Gave-kept, Gave-nil, Gave-trans, GaveToEnd-after, GaveToEnd-is, Grew-kept, Grew-trans}
 use Rattle.encoding_mem.specs.Items.{Item}
 use Rattle.recode.specs.State.{State, to_write}
-use Rattle.recode.specs.Devices.{CountsFault, Devices, Failures, Gave, GaveAll, Grew, KeepsWritten, Written}
+use Rattle.recode.specs.Devices.{CountsFault, Devices, Failures, Gave, GaveToEnd, Grew, KeepsWritten, Written}
 use Rattle.recode.specs.TaggedByte.{Wrote, tagged, TaggedByte, output_bytes, log_bytes}
 use Rattle.recode.specs.Policy.{written_under}
 use Rattle.recode.specs.WrittenItems.{IsLeft, IsSpared, IsStop, WritesPrefixFor}
@@ -71,7 +71,7 @@ is_writing T Log h = tt
 is_writing T TooLong h = absurd (omega arith)
 is_writing T (Unmappable i c) h = tt
 
-pub stops_under : (before after : Devices) (limit : ℕ) (last : Bool) (s : State) (chunk : List ℕ) (f : Fault) → Gave before.reads after.reads chunk → (last ≡ true → GaveAll before.reads after.reads chunk)
+pub stops_under : (before after : Devices) (limit : ℕ) (last : Bool) (s : State) (chunk : List ℕ) (f : Fault) → Gave before.reads after.reads chunk → (last ≡ true → GaveToEnd before.reads after.reads chunk)
     → IsWriting f → s.counts.read + length chunk ≤ limit → WritesPrefixFor before.written after.written s.policy f last (λ r. to_write s (chunk ++ r)) → Stops before after limit s f
 stops_under before after limit last s chunk f p e writing within q = record {
   read = record { input = chunk; refused = []; ended = last; given = subst (Gave before.reads after.reads) (sym (append-nil chunk)) p; end = e; none = λ h. refl; spared = λ h. refl };
@@ -152,7 +152,7 @@ goes_on_more a b c limit s s1 s2 p q = record {
 pub goes_on_finish : (a b c : Devices) (limit : ℕ) (s s1 s2 : State) → HasRun a b limit s s1 → Finishes b c limit s1 s2 → Finishes a c limit s s2
 goes_on_finish a b c limit s s1 s2 p q = record {
   chunk = p.chunk ++ q.chunk;
-  given = GaveAll-after a.reads b.reads c.reads p.chunk q.chunk p.given q.given;
+  given = GaveToEnd-after a.reads b.reads c.reads p.chunk q.chunk p.given q.given;
   counted = omega (arith, p.counted, q.counted, length-append p.chunk q.chunk);
   within = q.within;
   pays = record {
@@ -181,7 +181,7 @@ goes_on_stop a b c limit s s1 f p q = record {
     refused = q.read.refused;
     ended = q.read.ended;
     given = subst (Gave a.reads c.reads) (sym (append_assoc p.chunk q.read.input q.read.refused)) (Gave-trans a.reads b.reads c.reads p.chunk (q.read.input ++ q.read.refused) p.given q.read.given);
-    end = λ h. GaveAll-after a.reads b.reads c.reads p.chunk q.read.input p.given (q.read.end h);
+    end = λ h. GaveToEnd-after a.reads b.reads c.reads p.chunk q.read.input p.given (q.read.end h);
     none = q.read.none;
     spared = q.read.spared;
   };
@@ -274,14 +274,14 @@ module _ (before after : Devices) (flushed : Written) (log : List ℕ) (m : Fail
   }
 
   -- by a flush that failed
-  pub flush_broke : (p : Report) (g : Fault) → Completes before after j p → (k : ℕ) × IsTold untold m.log (message_of g) k × Grew flushed.log log (take k (message_of g))
+  pub flush_broke : (p : Report) (g : Fault) → Completes before.reads after.reads before.written after.written j p → (k : ℕ) × IsTold untold m.log (message_of g) k × Grew flushed.log log (take k (message_of g))
       → CountsFlushes before.failures (record m { log = untold }) g → (writes writes' logs logs' : ℕ) → IsFlushCause writes writes' logs logs' g
       → Breaks before (record { reads = after.reads; written = record { output = flushed.output; log = log }; failures = m }) j
   flush_broke p g k told counted writes writes' logs logs' cause =
       let w = k.converted.whole in
       let all : List TaggedByte = tagged (trace j k.input) in
       record {
-        read = record { input = k.input; refused = []; ended = true; given = subst (Gave before.reads after.reads) (sym (append-nil k.input)) (GaveAll-is before.reads after.reads k.input k.given); end = λ h. k.given; none = λ h. refl; spared = λ h. refl };
+        read = record { input = k.input; refused = []; ended = true; given = subst (Gave before.reads after.reads) (sym (append-nil k.input)) (GaveToEnd-is before.reads after.reads k.input k.given); end = λ h. k.given; none = λ h. refl; spared = λ h. refl };
         within = w.within;
         limited = flush_within writes writes' logs logs' _ j.limit g cause (rw (append-nil k.input) w.within);
         taken = all;

@@ -9,13 +9,13 @@ use Rattle.std.proofs.lemmas.List.Folds.{concat-append}
 use Rattle.recode_log.specs.Call.{Call, CallsOnce, EndsInFailedWrite, Failed, Flush, FlushesOnce, Passed, passed_by}
 use Rattle.recode_log.specs.laws.Calls.{passed_failed, passed_flush, passed_one}
 use Rattle.recode.specs.Conversion.{EndsInFlush}
-use Rattle.recode.specs.Devices.{Devices, Gave, GaveAll, Grew, IsOf}
+use Rattle.recode.specs.Devices.{Devices, Gave, GaveToEnd, Grew, IsOf}
 use Rattle.recode.specs.Fault.{EndsAtFault, EndsAtWriterFault, of_other}
 use Rattle.recode.specs.Step.{IsReadInto, StepCalls}
 use Rattle.recode.specs.Told.{Told, TellsReads, TellsTaken, TellWhatPassed}
 use Rattle.recode.specs.declared.job.Fault.{Fault}
 use Rattle.recode.specs.declared.job.Fault.TheVariants.{Read, Write, Log, TooLong, Unmappable}
-use Rattle.recode.proofs.GrowLemmas.{GaveAll-is}
+use Rattle.recode.proofs.GrowLemmas.{GaveToEnd-is}
 
 -- ---- a writer
 
@@ -104,6 +104,25 @@ reads_then a b c t u v yet h k = record {
   ];
 }
 
+-- if the reader told its bytes at first, no more need be known
+ends_kept : (t u v : Option (List ℕ)) (x read : List ℕ) → t ≡ Some x → Consumes t u read → Consumes u v [] → IsAtEnd u → IsAtEnd v
+ends_kept t None None x read is h k e = tt
+ends_kept t None (Some z) x read is h k e = absurd (rw is at h)
+ends_kept t (Some y) None x read is h k e = absurd k
+ends_kept t (Some y) (Some z) x read is h k e = sym k ∙ e
+
+reads_on : (a b c : List (List ℕ)) (t u v : Option (List ℕ)) (x : List ℕ) → t ≡ Some x → TellsReads a b t u → TellsReads b c u v → TellsReads a c t v
+reads_on a b c t u v x is h k = record {
+  reads = h.reads ++ k.reads;
+  gave = k.gave ∙ ap (λ l. l ++ k.reads) h.gave ∙ append_assoc a h.reads k.reads;
+  consumed = subst (Consumes t v) (sym (concat-append h.reads k.reads)) (Consumes-trans t u v (concat h.reads) (concat k.reads) h.consumed k.consumed);
+  end = λ front e. elim (last_of k.reads) [
+    | inl none ↦ ends_kept t u v x (concat h.reads) is h.consumed (subst (λ (r : List (List ℕ)). Consumes u v (concat r)) none k.consumed)
+        (h.end front (sym (append-nil h.reads) ∙ ap (λ l. h.reads ++ l) (sym none) ∙ e))
+    | inr p ↦ k.end p.0 (p.2 ∙ ap (λ x. p.0 ++ (x ∷ [])) (same_from_push (h.reads ++ p.0) front p.1 [] (append_assoc h.reads p.0 (p.1 ∷ []) ∙ ap (λ l. h.reads ++ l) (sym p.2) ∙ e)).1)
+  ];
+}
+
 -- one read
 pub reads_one : {E : Type 0} (before after : List Call) (t u : Option (List ℕ)) (r : Result ℕ E) (buf : List ℕ) → CallsOnce before after r buf → ReadConsumes t u r buf → ReadsAtMost r buf → 0 < length buf
     → TellsReads (passed_by before) (passed_by after) t u
@@ -127,19 +146,20 @@ pub reads_are : (a b : List (List ℕ)) (t u : Option (List ℕ)) (bytes : List 
 reads_are a b t u bytes h given = subst (Consumes t u) (ap concat (append_cancel_left a h.reads given.0 (sym h.gave ∙ given.1)) ∙ given.2) h.consumed
 
 -- and it is at its end if the last call gave none
-pub reads_end : (a b : List (List ℕ)) (t u : Option (List ℕ)) (bytes : List ℕ) → TellsReads a b t u → GaveAll a b bytes → IsAtEnd u
+pub reads_end : (a b : List (List ℕ)) (t u : Option (List ℕ)) (bytes : List ℕ) → TellsReads a b t u → GaveToEnd a b bytes → IsAtEnd u
 reads_end a b t u bytes h given = h.end given.0 (append_cancel_left a h.reads (given.0 ++ ([] ∷ [])) (sym h.gave ∙ given.1))
 
 -- a reader that tells these bytes gives what begins them, and all of them by its end
 pub reads_of : (x : List ℕ) (a b : List (List ℕ)) (t u : Option (List ℕ)) → t ≡ Some x → TellsReads a b t u → IsOf a b x
 reads_of x a b t u is h = record {
   front = λ bytes given. front_of u bytes (subst (λ (w : Option (List ℕ)). Consumes w u bytes) is (reads_are a b t u bytes h given));
-  whole = λ bytes given. whole_of u bytes (subst (λ (w : Option (List ℕ)). Consumes w u bytes) is (reads_are a b t u bytes h (GaveAll-is a b bytes given))) (reads_end a b t u bytes h given);
+  whole = λ bytes given. whole_of u bytes (subst (λ (w : Option (List ℕ)). Consumes w u bytes) is (reads_are a b t u bytes h (GaveToEnd-is a b bytes given))) (reads_end a b t u bytes h given);
 }
   where
     front_of : (u : Option (List ℕ)) (bytes : List ℕ) → Consumes (Some x) u bytes → (rest : List ℕ) × (x ≡ bytes ++ rest)
     front_of None bytes consumed = absurd consumed
     front_of (Some y) bytes consumed = (y, consumed)
+
     whole_of : (u : Option (List ℕ)) (bytes : List ℕ) → Consumes (Some x) u bytes → IsAtEnd u → bytes ≡ x
     whole_of None bytes consumed end = absurd consumed
     whole_of (Some y) bytes consumed end = sym (consumed ∙ ap (λ l. bytes ++ l) end ∙ append-nil bytes)
@@ -158,6 +178,13 @@ tells_none d t = record { input = reads_none d.reads t.input; output = taken_non
 pub tells_then : (d e f : Devices) (t u v : Told) → NoneYet d.reads e.reads → TellWhatPassed d e t u → TellWhatPassed e f u v → TellWhatPassed d f t v
 tells_then d e f t u v yet h k = record {
   input = reads_then d.reads e.reads f.reads t.input u.input v.input yet h.input k.input;
+  output = taken_then d.written.output e.written.output f.written.output t.output u.output v.output h.output k.output;
+  log = taken_then d.written.log e.written.log f.written.log t.log u.log v.log h.log k.log;
+}
+
+pub tells_on : (d e f : Devices) (t u v : Told) (x : List ℕ) → t.input ≡ Some x → TellWhatPassed d e t u → TellWhatPassed e f u v → TellWhatPassed d f t v
+tells_on d e f t u v x is h k = record {
+  input = reads_on d.reads e.reads f.reads t.input u.input v.input x is h.input k.input;
   output = taken_then d.written.output e.written.output f.written.output t.output u.output v.output h.output k.output;
   log = taken_then d.written.log e.written.log f.written.log t.log u.log v.log h.log k.log;
 }

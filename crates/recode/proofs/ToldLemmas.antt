@@ -10,14 +10,14 @@ use Rattle.recode.specs.Told.{Told, TellWhatPassed}
 use Rattle.recode.specs.declared.job.Fault.{Fault}
 use Rattle.recode.specs.declared.job.Job.{Job}
 use Rattle.recode.specs.declared.job.Report.{Report}
-use Rattle.recode.proofs.GrowLemmas.{GaveAll-is}
+use Rattle.recode.proofs.GrowLemmas.{GaveToEnd-is}
 use Rattle.recode.proofs.TellLemmas.{reads_are, reads_end, taken_is}
 
 module _ (d e : Devices) (t u : Told) (tells : TellWhatPassed d e t u) (j : Job) where
-  pub completes_told : (p : Report) → Completes d e j p → CompletesTold d e t u j p
+  pub completes_told : (p : Report) → Completes d.reads e.reads d.written e.written j p → CompletesTold d e t u j p
   completes_told p k = record {
     completes = k;
-    consumed = reads_are d.reads e.reads t.input u.input k.input tells.input (GaveAll-is d.reads e.reads k.input k.given);
+    consumed = reads_are d.reads e.reads t.input u.input k.input tells.input (GaveToEnd-is d.reads e.reads k.input k.given);
     end = reads_end d.reads e.reads t.input u.input k.input tells.input k.given;
     output = taken_is d.written.output e.written.output t.output u.output (output_of j k.input) tells.output k.converted.whole.output;
     logged = taken_is d.written.log e.written.log t.log u.log (log_of j k.input) tells.log k.converted.whole.logged;
@@ -35,7 +35,7 @@ module _ (d e : Devices) (t u : Told) (tells : TellWhatPassed d e t u) (j : Job)
   pub converts_told : (status : ℕ) → Converts d e j status → ConvertsTold d e t u j status
   converts_told status k = record {
     converts = k;
-    consumed = reads_are d.reads e.reads t.input u.input k.input tells.input (GaveAll-is d.reads e.reads k.input k.given);
+    consumed = reads_are d.reads e.reads t.input u.input k.input tells.input (GaveToEnd-is d.reads e.reads k.input k.given);
     end = reads_end d.reads e.reads t.input u.input k.input tells.input k.given;
     output = taken_is d.written.output e.written.output t.output u.output (output_of j k.input) tells.output k.whole.output;
     logged = taken_is d.written.log e.written.log t.log u.log (log_of j k.input) tells.log k.whole.logged;

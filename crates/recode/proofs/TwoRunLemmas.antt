@@ -44,7 +44,7 @@ pub same_reports : (j : Job) (x : List ℕ) (w w' v v' : Written) (p q : Report)
 same_reports j x w w' v v' p q a b = same_report j x p q a.report b.report
 
 -- with readers whose contracts say their bytes
-pub same_runs : (j : Job) (x : List ℕ) (s s' t t' : Devices) (p q : Report) → IsOf s.reads s'.reads x → IsOf t.reads t'.reads x → Completes s s' j p → Completes t t' j q
+pub same_runs : (j : Job) (x : List ℕ) (s s' t t' : Devices) (p q : Report) → IsOf s.reads s'.reads x → IsOf t.reads t'.reads x → Completes s.reads s'.reads s.written s'.written j p → Completes t.reads t'.reads t.written t'.written j q
     → WroteTheSame s.written s'.written t.written t'.written × AgreeButForCalls p q
 same_runs j x s s' t t' p q is are a b =
     let one = known_completes x s s' j p is a in

@@ -6,7 +6,7 @@ use Rattle.recode_log.specs.Line.{row_bytes}
 use Rattle.recode.specs.Job.{trace, Faithful}
 use Rattle.recode.specs.Session.{WroteWhole}
 use Rattle.recode.specs.Step.{PassesLimitIfTooLong, WasRead}
-use Rattle.recode.specs.Devices.{Devices, Failures, GaveAll, Grew}
+use Rattle.recode.specs.Devices.{Devices, Failures, GaveToEnd, Grew}
 use Rattle.recode.specs.Fault.{log_failures, reader_failures, writer_failures}
 use Rattle.recode.specs.TaggedByte.{TaggedByte, IsPrefix, tagged, output_bytes, log_bytes}
 use Rattle.recode.specs.WrittenItems.{IsStop}
@@ -19,7 +19,7 @@ use Rattle.recode.specs.declared.job.Report.{Report}
 -- says whether anything was lost.
 pub record Converts (before after : Devices) (j : Job) (status : ℕ) : Type 0 where
   pub input : List ℕ
-  pub given : GaveAll before.reads after.reads input
+  pub given : GaveToEnd before.reads after.reads input
   pub whole : WroteWhole before.written after.written j input
   pub known : (status ≡ 0) ⊎ (status ≡ 1)
   pub faithful : status ≡ 0 → Faithful j input

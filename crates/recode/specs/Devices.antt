@@ -26,13 +26,13 @@ abbrev pub Gave : (before after : List (List ℕ)) (bytes : List ℕ) → Type 0
 Gave before after bytes = (reads : List (List ℕ)) × (after ≡ before ++ reads) × (concat reads ≡ bytes)
 
 -- calls of the reader gave these bytes, and the last of them gave none: the end
-abbrev pub GaveAll : (before after : List (List ℕ)) (bytes : List ℕ) → Type 0
-GaveAll before after bytes = (reads : List (List ℕ)) × (after ≡ before ++ (reads ++ ([] ∷ []))) × (concat reads ≡ bytes)
+abbrev pub GaveToEnd : (before after : List (List ℕ)) (bytes : List ℕ) → Type 0
+GaveToEnd before after bytes = (reads : List (List ℕ)) × (after ≡ before ++ (reads ++ ([] ∷ []))) × (concat reads ≡ bytes)
 
 -- What calls of the reader gave is of these bytes: they begin with it, and it is all of them if the last call gave none.
 pub record IsOf (before after : List (List ℕ)) (x : List ℕ) : Type 0 where
   pub front : (bytes : List ℕ) → Gave before after bytes → (rest : List ℕ) × (x ≡ bytes ++ rest)
-  pub whole : (bytes : List ℕ) → GaveAll before after bytes → bytes ≡ x
+  pub whole : (bytes : List ℕ) → GaveToEnd before after bytes → bytes ≡ x
 
 -- how many calls of a reader, a writer and a log have failed
 pub record Failures : Type 0 where
@@ -46,6 +46,10 @@ pub record Devices : Type 0 where
   pub written : Written
   pub failures : Failures
 
+-- the bytes of each call of a reader that did not fail, in their order
+abbrev pub reads_of : {R : Type 0} → Counted R → List (List ℕ)
+reads_of reader = passed_by (history_of reader)
+
 -- the bytes that calls of a writer and of a log have taken
 abbrev pub written_in : {W L : Type 0} → Counted W → Counted L → Written
 written_in writer log = record { output = passed_of writer; log = passed_of log }
@@ -53,7 +57,7 @@ written_in writer log = record { output = passed_of writer; log = passed_of log 
 -- what passed through a reader, a writer and a log, and how many calls of each have failed
 abbrev pub devices_in : {R W L : Type 0} → Counted R → Counted W → Counted L → Devices
 devices_in reader writer log = record {
-  reads = passed_by (history_of reader);
+  reads = reads_of reader;
   written = written_in writer log;
   failures = record { reader = failures_of reader; writer = failures_of writer; log = failures_of log };
 }

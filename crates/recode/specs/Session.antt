@@ -6,7 +6,7 @@ use Rattle.encoding_mem.specs.declared.form.EscapeState.TheVariants.{Ascii}
 use Rattle.recode.specs.Job.{trace, whole_trace, target_of, output_of, log_of, source_in, input_pieces, input_text, Faithful, RunsThrough}
 use Rattle.recode.specs.Latency.{WroteDecided}
 use Rattle.recode.specs.State.{State, WillBeFaithful, to_write}
-use Rattle.recode.specs.Devices.{Devices, GaveAll, Grew, Written}
+use Rattle.recode.specs.Devices.{Devices, GaveToEnd, Written}
 use Rattle.recode.specs.TaggedByte.{TaggedByte, Wrote, IsPrefix, tagged, output_bytes, log_bytes}
 use Rattle.recode.specs.Step.{PassesLimitIfTooLong, WasRead}
 use Rattle.recode.specs.Work.{fewest_calls, most_calls}
@@ -89,8 +89,8 @@ pub record IsReport (j : Job) (x : List ℕ) (p : Report) : Type 0 where
 pub record WroteWhole (before after : Written) (j : Job) (x : List ℕ) : Type 0 where
   pub within : length x ≤ j.limit
   pub unstopped : RunsThrough j x
-  pub output : Grew before.output after.output (output_of j x)
-  pub logged : Grew before.log after.log (log_of j x)
+  pub output : after.output ≡ before.output ++ output_of j x
+  pub logged : after.log ≡ before.log ++ log_of j x
 
 -- all of an input was converted and written, and the report is that on it
 pub record IsConverted (before after : Written) (j : Job) (x : List ℕ) (p : Report) : Type 0 where
@@ -98,10 +98,10 @@ pub record IsConverted (before after : Written) (j : Job) (x : List ℕ) (p : Re
   pub report : IsReport j x p
 
 -- A run that came to its end: the input was read to its end, converted and reported.
-pub record Completes (before after : Devices) (j : Job) (p : Report) : Type 0 where
+pub record Completes (reads reads' : List (List ℕ)) (before after : Written) (j : Job) (p : Report) : Type 0 where
   pub input : List ℕ
-  pub given : GaveAll before.reads after.reads input
-  pub converted : IsConverted before.written after.written j input p
+  pub given : GaveToEnd reads reads' input
+  pub converted : IsConverted before after j input p
 
 -- A run that a fault ended. What was written is a prefix of what any continuation of the bytes read gives (none if the
 -- end was read), output and log in their one order. If the policy stopped the run, what was written is all that any

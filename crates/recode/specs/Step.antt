@@ -12,7 +12,7 @@ use Rattle.recode.specs.Fault.{EndsAtFault}
 use Rattle.recode.specs.Job.{log_lines}
 use Rattle.recode.specs.Policy.{reference_form}
 use Rattle.recode.specs.State.{State, WillBeFaithful, to_write}
-use Rattle.recode.specs.Devices.{Devices, Gave, GaveAll, Grew, KeepsWritten, Written}
+use Rattle.recode.specs.Devices.{Devices, Gave, GaveToEnd, Grew, KeepsWritten, Written}
 use Rattle.recode.specs.TaggedByte.{TaggedByte, Wrote, IsPrefix, tagged}
 use Rattle.recode.specs.calls.TraceToWrite.{AreSound}
 use Rattle.recode.specs.Work.{TakesAtLeast, TakesCalls}
@@ -77,7 +77,7 @@ pub record HasRun (before after : Devices) (limit : ℕ) (s s' : State) : Type 0
 -- It may stand for some steps and the one that ended.
 pub record Finishes (before after : Devices) (limit : ℕ) (s s' : State) : Type 0 where
   pub chunk : List ℕ
-  pub given : GaveAll before.reads after.reads chunk
+  pub given : GaveToEnd before.reads after.reads chunk
   pub counted : s'.counts.read ≡ s.counts.read + length chunk
   pub within : s'.counts.read ≤ limit
   pub pays : WritesItems before.written after.written s.counts s'.counts s.policy (to_write s chunk) []
@@ -103,7 +103,7 @@ pub record WasRead (before after : List (List ℕ)) (fault : Fault) : Type 0 whe
   pub refused : List ℕ
   pub ended : Bool
   pub given : Gave before after (input ++ refused)
-  pub end : ended ≡ true → GaveAll before after input
+  pub end : ended ≡ true → GaveToEnd before after input
   pub none : ended ≡ true → refused ≡ []
   pub spared : fault ≢ TooLong → refused ≡ []
 

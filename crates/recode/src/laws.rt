@@ -23,7 +23,7 @@ ghost use Rattle.encoding_front.specs.Encodings.{IsUtf8Encoding, KeepsCharacters
 ghost use Rattle.encoding_front.specs.Encodings.{output_encoding_of};
 ghost use Rattle.encoding_front.specs.Marks.{marked_pieces, marked_text};
 ghost use Rattle.encoding_front.specs.declared.mark.Mark.{Mark};
-ghost use Rattle.recode.specs.Devices.{Devices, Gave, GaveAll, Grew, IsOf, Written};
+ghost use Rattle.recode.specs.Devices.{Devices, Gave, GaveToEnd, Grew, IsOf, Written};
 ghost use Rattle.recode_log.specs.Line.{line_bytes};
 ghost use Rattle.recode_log.specs.declared.line.LogLine.TheVariants.{Lost};
 ghost use Rattle.recode.specs.Job.{Faithful, IsValidJob, input_pieces, input_text, log_lines};
@@ -44,7 +44,7 @@ ghost use Rattle.recode.specs.State.{State};
 ghost use Rattle.recode.specs.Step.{Finishes, HasRun, IsNearlyDecided, StepsOn, Stops};
 ghost use Rattle.recode.specs.Step.{WrotePrefix};
 ghost use Rattle.recode.specs.TaggedByte.{IsPrefix, TaggedByte};
-ghost use Rattle.recode.specs.Told.{TellsReads, TellsTaken};
+ghost use Rattle.recode.specs.Told.{TellWhatPassed, TellsReads, TellsTaken, Told};
 ghost use Rattle.recode.specs.WrittenItems.{StopsAtLoss, bad_line_count, lost_line_count};
 ghost use Rattle.recode.specs.declared.job.Fault.{Fault};
 ghost use Rattle.recode.specs.declared.job.Job.{Job};
@@ -141,11 +141,12 @@ pub fn log_is_empty()
 
 /// If what the calls of the reader gave is of some bytes (`IsOf`), a run that came to its end read
 /// them all: cuts and sizes of buffers change nothing of the output, the log or the report. A run
-/// that a fault ended wrote prefixes of them, and said that the input is too long only if it is. One
-/// that the policy stopped wrote all of them.
+/// that a fault ended wrote prefixes of them, and said that the input is too long only if it is.
+/// One that the policy stopped wrote all of them.
 pub fn known_input()
     ensures completes { (x : List ℕ) (s s' : Devices) (j : Job) (p : Report)
-        → IsOf s.reads s'.reads x → Completes s s' j p → IsConverted s.written s'.written j x p }
+        → IsOf s.reads s'.reads x → Completes s.reads s'.reads s.written s'.written j p
+        → IsConverted s.written s'.written j x p }
     ensures fails { (x : List ℕ) (s s' : Devices) (j : Job) (f : Fault)
         → IsOf s.reads s'.reads x → Fails s s' j f
         → WrotePrefix s.written s'.written j.policy f (trace j x) }
@@ -156,12 +157,16 @@ pub fn known_input()
 /// What devices tell of their bytes, if they do, is what their calls passed (`TellsReads`,
 /// `TellsTaken`). The reader lost the bytes that its calls gave, and has none left if the last of
 /// them gave none. If it told all its bytes before, what its calls gave is of these. A writer holds
-/// what it held before, and then the bytes that its calls took.
+/// what it held before, and then the bytes that its calls took. Calls after one another tell what
+/// passed in all of them, if the reader told its bytes before the first.
 pub fn devices_tell()
+    ensures begins { (d : Devices) (t : Told) → TellWhatPassed d d t t }
+    ensures goes_on { (d e f : Devices) (t u v : Told) (x : List ℕ) → t.input ≡ Some x
+        → TellWhatPassed d e t u → TellWhatPassed e f u v → TellWhatPassed d f t v }
     ensures gave { (a b : List (List ℕ)) (t u : Option (List ℕ)) (x : List ℕ)
         → TellsReads a b t u → Gave a b x → Consumes t u x }
     ensures ended { (a b : List (List ℕ)) (t u : Option (List ℕ)) (x : List ℕ)
-        → TellsReads a b t u → GaveAll a b x → IsAtEnd u }
+        → TellsReads a b t u → GaveToEnd a b x → IsAtEnd u }
     ensures input { (x : List ℕ) (a b : List (List ℕ)) (t u : Option (List ℕ))
         → t ≡ Some x → TellsReads a b t u → IsOf a b x }
     ensures took { (a b : List ℕ) (t u : Option (List ℕ)) (x : List ℕ)
@@ -250,16 +255,17 @@ pub fn whole_texts_are_the_same()
 
 /// Two runs on one job and one input that came to their end wrote the same bytes to output and log.
 /// Their reports differ in `calls` alone: the cuts of the reader, the sizes of the buffers and the
-/// kind of the pivot change nothing. `known` says it of readers whose calls gave what is of one input,
-/// `bytes` of writers that had taken the same before.
+/// kind of the pivot change nothing. `known` says it of readers whose calls gave what is of one
+/// input, `bytes` of writers that had taken the same before.
 pub fn runs_agree()
     ensures written { (j : Job) (x : List ℕ) (w w' v v' : Written) (p q : Report)
         → IsConverted w w' j x p → IsConverted v v' j x q → WroteTheSame w w' v v' }
     ensures report { (j : Job) (x : List ℕ) (w w' v v' : Written) (p q : Report)
         → IsConverted w w' j x p → IsConverted v v' j x q → AgreeButForCalls p q }
     ensures known { (j : Job) (x : List ℕ) (s s' t t' : Devices) (p q : Report)
-        → IsOf s.reads s'.reads x → IsOf t.reads t'.reads x → Completes s s' j p
-        → Completes t t' j q
+        → IsOf s.reads s'.reads x → IsOf t.reads t'.reads x
+        → Completes s.reads s'.reads s.written s'.written j p
+        → Completes t.reads t'.reads t.written t'.written j q
         → WroteTheSame s.written s'.written t.written t'.written × AgreeButForCalls p q }
     ensures bytes { (j : Job) (x : List ℕ) (w w' v' : Written) (p q : Report)
         → IsConverted w w' j x p → IsConverted w v' j x q
@@ -267,9 +273,9 @@ pub fn runs_agree()
 {}
 
 /// If no call of a device fails, a run returns `Ok` exactly when the input is within the limit and
-/// the policy does not stop at a character of it. Else it returns `TooLong` or `Unmappable`. What the
-/// calls of the reader gave is of that input; if it is not, the result is still one of these, and
-/// `Unmappable` under `Policy::Stop` alone.
+/// the policy does not stop at a character of it. Else it returns `TooLong` or `Unmappable`. What
+/// the calls of the reader gave is of that input; if it is not, the result is still one of these,
+/// and `Unmappable` under `Policy::Stop` alone.
 pub fn answers_without_faults()
     ensures ok { (j : Job) (x : List ℕ) (s s' : Devices) (answer : Result Report Fault)
         → s'.failures ≡ s.failures → IsOf s.reads s'.reads x → RunReturns s s' j answer
@@ -320,7 +326,8 @@ pub fn steps_are_a_run()
         → HasRun t t1 limit s s1 → StepsOn t1 t2 limit s1 s2 → HasRun t t2 limit s s2 }
     ensures completes { (t t1 t2 : Devices) (j : Job) (v w : View) (s : State) (p : Report)
         → IsValidJob j → IsNewSession v j → HasRun t t1 j.limit v.state s
-        → Finishes t1 t2 j.limit s w.state → Tells w p → Completes t t2 j p }
+        → Finishes t1 t2 j.limit s w.state → Tells w p
+        → Completes t.reads t2.reads t.written t2.written j p }
     ensures fails { (t t1 t2 : Devices) (j : Job) (v : View) (s : State) (f : Fault)
         → IsNewSession v j → HasRun t t1 j.limit v.state s
         → Stops t1 t2 j.limit s f → Fails t t2 j f }

@@ -15,7 +15,7 @@ ghost use Rattle.recode.specs.Fault.{EndsAtFault};
 ghost use Rattle.recode.specs.Step.{Finishes, StepCalls, Stops, StepsOn};
 ghost use Rattle.recode.specs.RunsTold.{CompletesTold, FailsTold};
 ghost use Rattle.recode.specs.Told.{TellWhatPassed, told_in};
-ghost use Rattle.recode.specs.Devices.{CountsFault, devices_in};
+ghost use Rattle.recode.specs.Devices.{CountsFault, devices_in, reads_of, written_in};
 
 use crate::chunk::write_chunk;
 use crate::engine::Engine;
@@ -220,8 +220,8 @@ pub fn run<R: Read, W: Write, L: Write>(
     requires writer { failures_of writer.old < 2 ^ 64 - 1 }
     requires log { failures_of log.old < 2 ^ 64 - 1 }
 
-    ensures completes { IfOk result (λ p. Completes (devices_in reader.old writer.old log.old)
-        (devices_in reader.new writer.new log.new) job.entry p) }
+    ensures completes { IfOk result (λ p. Completes (reads_of reader.old) (reads_of reader.new)
+        (written_in writer.old log.old) (written_in writer.new log.new) job.entry p) }
     ensures fails { IfErr result (λ f. Fails (devices_in reader.old writer.old log.old)
         (devices_in reader.new writer.new log.new) job.entry f) }
     ensures completes_told { IfOk result (λ p. CompletesTold

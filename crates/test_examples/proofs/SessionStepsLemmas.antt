@@ -3,13 +3,16 @@ use Rattle.std.proofs.Common.{◌≡◌, ℕ, ◌+◌, ◌<◌, ◌≤◌, List,
 use Rattle.std.specs.Io.KnownBytes.{Consumes}
 use Rattle.encoding_mem.specs.Decided.{IsDecided}
 use Rattle.encoding_mem.specs.Piece.{Piece, sizes}
-use Rattle.recode.specs.Devices.{CountsFault, Devices, Written, known}
+use Rattle.std.specs.List.{concat}
+use Rattle.recode_log.specs.Call.{Call, passed_by}
+use Rattle.recode.specs.Devices.{CountsFault, Devices, Gave, devices_in, reads_of}
 use Rattle.recode.specs.Job.{input_pieces, input_text, lost_log_lines, target_of, trace}
 use Rattle.recode.specs.Latency.{HasReached, WroteDecided}
 use Rattle.recode.specs.Session.{Fails, IsConverted, IsStepped, View, phase_after}
 use Rattle.recode.specs.State.{State}
 use Rattle.recode.specs.Step.{HasRun, IsNearlyDecided, StepsOn, WrotePrefix}
 use Rattle.recode.specs.TaggedByte.{IsPrefix, TaggedByte}
+use Rattle.recode.specs.Told.{Told, TellWhatPassed}
 use Rattle.recode.specs.WrittenItems.{StopsAtLoss}
 use Rattle.recode.specs.declared.job.Fault.{Fault}
 use Rattle.recode.specs.declared.job.Fault.TheVariants.{Log, Read, TooLong, Unmappable, Write}
@@ -21,32 +24,41 @@ use Rattle.recode.specs.declared.job.Job.{Job}
 use Rattle.recode.specs.declared.job.Pivot.{Pivot}
 use Rattle.recode.specs.declared.job.Pivot.TheVariants.{Utf8, Utf16}
 use Rattle.recode.specs.declared.session.Phase.TheVariants.{Open}
-use Rattle.recode_log.specs.Counted.{failures_of, inner_of}
+use Rattle.recode_log.specs.Counted.{failures_of, history_of, inner_of, passed_of}
 use Rattle.recode_log.specs.declared.line.LogLine.TheVariants.{Lost}
 use Rattle.recode_log.specs.declared.counted.Counted.{Counted}
 use Rattle.test_examples.specs.SessionSteps.{GaveAll, GaveDecided, TellsFault}
 use Rattle.test_examples.specs.declared.session_steps.Keeper.{Keeper}
 use Rattle.test_examples.specs.declared.session_steps.SingleBytes.{SingleBytes}
 
--- a reader of these bytes, a writer and a log before their first call
-abbrev pub devices_before : List ℕ → Devices
-devices_before x = record { input = Some x; written = known [] []; failures = record { reader = 0; writer = 0; log = 0 } }
+-- devices before their first call
+abbrev pub devices_before : Devices
+devices_before = record { reads = []; written = record { output = []; log = [] }; failures = record { reader = 0; writer = 0; log = 0 } }
 
--- a reader, a writer and a log, by their bytes and by how many of their calls failed
-abbrev pub devices_of_steps : Counted SingleBytes → (writer log : Counted Keeper) → Devices
-devices_of_steps reader writer log = record {
-  input = Some (inner_of reader).rest.now;
-  written = known (inner_of writer).bytes.items (inner_of log).bytes.items;
-  failures = record { reader = failures_of reader; writer = failures_of writer; log = failures_of log };
-}
+-- a reader of these bytes, a writer and a log that hold none, by what they tell
+abbrev pub told_before : List ℕ → Told
+told_before x = record { input = Some x; output = Some []; log = Some [] }
 
-same_devices : (x input output log : List ℕ) (r w l : ℕ) → input ≡ x → output ≡ [] → log ≡ [] → r ≡ 0 → w ≡ 0 → l ≡ 0
-    → record { input = Some input; written = known output log; failures = record { reader = r; writer = w; log = l } } ≡ devices_before x
-same_devices x input output log r w l is none no_lines r0 w0 l0 = rw (is, none, no_lines, r0, w0, l0) refl
+-- a reader, a writer and a log, by what they tell
+abbrev pub told_of_steps : Counted SingleBytes → (writer log : Counted Keeper) → Told
+told_of_steps reader writer log = record { input = Some (inner_of reader).rest.now; output = Some (inner_of writer).bytes.items; log = Some (inner_of log).bytes.items }
 
-pub none_called : (x : List ℕ) (reader : Counted SingleBytes) (writer log : Counted Keeper) → (inner_of reader).rest.now ≡ x → (inner_of writer).bytes.items ≡ [] → (inner_of log).bytes.items ≡ []
-    → failures_of reader ≡ 0 → failures_of writer ≡ 0 → failures_of log ≡ 0 → devices_of_steps reader writer log ≡ devices_before x
-none_called x reader writer log = same_devices x (inner_of reader).rest.now (inner_of writer).bytes.items (inner_of log).bytes.items (failures_of reader) (failures_of writer) (failures_of log)
+same_devices : (reads : List (List ℕ)) (output log : List ℕ) (r w l : ℕ) → reads ≡ [] → output ≡ [] → log ≡ [] → r ≡ 0 → w ≡ 0 → l ≡ 0
+    → record { reads = reads; written = record { output = output; log = log }; failures = record { reader = r; writer = w; log = l } } ≡ devices_before
+same_devices reads output log r w l none no_bytes no_lines r0 w0 l0 = rw (none, no_bytes, no_lines, r0, w0, l0) refl
+
+pub none_called : (reader : Counted SingleBytes) (writer log : Counted Keeper) → history_of reader ≡ [] → history_of writer ≡ [] → history_of log ≡ []
+    → failures_of reader ≡ 0 → failures_of writer ≡ 0 → failures_of log ≡ 0 → devices_in reader writer log ≡ devices_before
+none_called reader writer log r w l =
+    same_devices (reads_of reader) (passed_of writer) (passed_of log) (failures_of reader) (failures_of writer) (failures_of log)
+    (ap passed_by r) (ap (λ (h : List Call). concat (passed_by h)) w) (ap (λ (h : List Call). concat (passed_by h)) l)
+
+same_told : (x input output log : List ℕ) → input ≡ x → output ≡ [] → log ≡ [] → record { input = Some input; output = Some output; log = Some log } ≡ told_before x
+same_told x input output log is none no_lines = rw (is, none, no_lines) refl
+
+pub none_told : (x : List ℕ) (reader : Counted SingleBytes) (writer log : Counted Keeper) → (inner_of reader).rest.now ≡ x → (inner_of writer).bytes.items ≡ [] → (inner_of log).bytes.items ≡ []
+    → told_of_steps reader writer log ≡ told_before x
+none_told x reader writer log = same_told x (inner_of reader).rest.now (inner_of writer).bytes.items (inner_of log).bytes.items
 
 -- none of their calls failed
 pub record NoneFailed (d : Devices) : Type 0 where
@@ -89,43 +101,47 @@ one_more t t1 t2 j new v v' n answer is so_far stepped counted on goes_on next =
       };
     }
 
--- they have all that the bytes so far decide
-pub gave_decided : (j : Job) (x rest output log : List ℕ) (t' : Devices) (new v : View) (steps n : ℕ)
-    → HaveGoneOn (devices_before x) t' j new v n → steps ≤ n → t'.input ≡ Some rest → t'.written ≡ known output log
-    → ((s : State) (y : List ℕ) (ps : List Piece) → HasReached (devices_before x) t' j s y ps → IsDecided (input_pieces j) y ps)
-    → ((s : State) (y : List ℕ) (ps qs : List Piece) → HasReached (devices_before x) t' j s y ps → IsNearlyDecided s.decoder → IsDecided (input_pieces j) y qs → IsPrefix qs ps)
-    → ((s : State) (y z : List ℕ) (ps qs more : List Piece) → HasReached (devices_before x) t' j s y ps → IsNearlyDecided s.decoder → input_pieces j (y ++ z) ≡ qs ++ more → sizes qs + 3 ≤ length y → IsPrefix qs ps)
-    → GaveDecided j x steps output log
-gave_decided j x rest output log t' new v steps n so_far all input written decided longest soon =
-    let s = so_far.reached in
-    let near = so_far.run.settled in
-    let consumed : Consumes (Some x) (Some rest) so_far.read = subst (λ (o : Option (List ℕ)). Consumes (Some x) o so_far.read) input s.consumed in
-    let wrote : WroteDecided (known [] []) t'.written j so_far.read so_far.pieces = record {
-      decided = decided v.state so_far.read so_far.pieces s;
-      longest = λ qs. longest v.state so_far.read so_far.pieces qs s near;
-      soon = λ y qs more. soon v.state so_far.read y so_far.pieces qs more s near;
-      output = s.output;
-      logged = s.logged;
-    } in
-    record {
-      read = so_far.read;
-      rest = rest;
-      split = consumed;
-      enough = omega (arith, all, so_far.enough);
-      pieces = so_far.pieces;
-      decided = subst (λ (w : Written). WroteDecided (known [] []) w j so_far.read so_far.pieces) written wrote;
-    }
+-- what devices that began with nothing tell
+module _ (j : Job) (x rest output log : List ℕ) (t' : Devices) (tells : TellWhatPassed devices_before t' (told_before x) (record { input = Some rest; output = Some output; log = Some log })) where
+  is_output : output ≡ t'.written.output
+  is_output = tells.output.held ∙ sym tells.output.took
 
--- what was converted is all, of writers that tell their bytes
-pub gave_all : (j : Job) (x output log : List ℕ) (t' : Devices) (p : Report) → IsConverted (known [] []) t'.written j x p → t'.written ≡ known output log → GaveAll j x output log p.faithful
-gave_all j x output log t' p converted written =
-    let all : IsConverted (known [] []) (known output log) j x p = subst (λ (w : Written). IsConverted (known [] []) w j x p) written converted in
-    record { written = all.whole.output; logged = all.whole.logged; verdict = all.report.faithful }
+  is_log : log ≡ t'.written.log
+  is_log = tells.log.held ∙ sym tells.log.took
+
+  -- they have all that the bytes so far decide
+  pub gave_decided : (new v : View) (steps n : ℕ) → HaveGoneOn devices_before t' j new v n → steps ≤ n
+      → ((bytes : List ℕ) → Gave [] t'.reads bytes → Consumes (Some x) (Some rest) bytes)
+      → ((s : State) (y : List ℕ) (ps : List Piece) → HasReached devices_before t' j s y ps → IsDecided (input_pieces j) y ps)
+      → ((s : State) (y : List ℕ) (ps qs : List Piece) → HasReached devices_before t' j s y ps → IsNearlyDecided s.decoder → IsDecided (input_pieces j) y qs → IsPrefix qs ps)
+      → ((s : State) (y z : List ℕ) (ps qs more : List Piece) → HasReached devices_before t' j s y ps → IsNearlyDecided s.decoder → input_pieces j (y ++ z) ≡ qs ++ more → sizes qs + 3 ≤ length y → IsPrefix qs ps)
+      → GaveDecided j x steps output log
+  gave_decided new v steps n so_far all gave decided longest soon =
+      let s = so_far.reached in
+      let near = so_far.run.settled in
+      record {
+        read = so_far.read;
+        rest = rest;
+        split = gave so_far.read s.given;
+        enough = omega (arith, all, so_far.enough);
+        pieces = so_far.pieces;
+        decided = record {
+          decided = decided v.state so_far.read so_far.pieces s;
+          longest = λ qs. longest v.state so_far.read so_far.pieces qs s near;
+          soon = λ y qs more. soon v.state so_far.read y so_far.pieces qs more s near;
+          output = is_output ∙ s.output;
+          logged = is_log ∙ s.logged;
+        };
+      }
+
+  -- what was converted is all
+  pub gave_all : (p : Report) → IsConverted devices_before.written t'.written j x p → GaveAll j x output log p.faithful
+  gave_all p converted = record { written = is_output ∙ converted.whole.output; logged = is_log ∙ converted.whole.logged; verdict = converted.report.faithful }
 
 -- what a fault that ended them tells is true
-pub told_fault : (j : Job) (x : List ℕ) (t' : Devices) (f : Fault) → Fails (devices_before x) t' j f
-    → (Fails (devices_before x) t' j TooLong → j.limit < length x)
-    → ((g : Fault) → Fails (devices_before x) t' j g → WrotePrefix (known [] []) t'.written j.policy g (trace j x))
+pub told_fault : (j : Job) (x : List ℕ) (t' : Devices) (f : Fault) → Fails devices_before t' j f
+    → (Fails devices_before t' j TooLong → j.limit < length x)
+    → ((g : Fault) → Fails devices_before t' j g → WrotePrefix devices_before.written t'.written j.policy g (trace j x))
     → ((index scalar : ℕ) (taken : List TaggedByte) → StopsAtLoss j.policy index scalar taken (trace j x) → take 1 (lost_log_lines (target_of j) 0 (input_text j x)) ≡ Lost index scalar ∷ [])
     → TellsFault j x f
 told_fault j x t' Read fails long wrote first = tt

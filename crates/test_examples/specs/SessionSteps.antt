@@ -1,7 +1,7 @@
 -- What steps of a session gave.
 use Rattle.std.specs.Prelude.{◌≡◌, ◌↔◌, ℕ, ◌<◌, ◌≤◌, Bool, IsTrue, List, [], ◌∷◌, ◌++◌, length, take}
 use Rattle.encoding_mem.specs.Piece.{Piece}
-use Rattle.recode.specs.Devices.{known}
+use Rattle.recode.specs.Devices.{Written}
 use Rattle.recode.specs.Job.{Faithful, input_text, log_of, lost_log_lines, output_of, target_of}
 use Rattle.recode.specs.Latency.{WroteDecided}
 use Rattle.recode.specs.declared.job.Fault.{Fault}
@@ -23,7 +23,7 @@ pub record GaveDecided (j : Job) (x : List ℕ) (steps : ℕ) (output log : List
   pub split : x ≡ read ++ rest
   pub enough : steps ≤ length read
   pub pieces : List Piece
-  pub decided : WroteDecided (known [] []) (known output log) j read pieces
+  pub decided : WroteDecided (record { output = []; log = [] }) (record { output = output; log = log }) j read pieces
 
 -- What a fault tells of an input is true: it is longer than the limit, or the policy stops, and this is its first lost
 -- character. A failed call of a device tells nothing of it.

@@ -7,7 +7,8 @@ ghost use Rattle.recode.specs.calls.Buffers.{AreEnough};
 ghost use Rattle.test_examples.specs.SessionSteps.{GaveAll, GaveDecided, TellsFault};
 
 use recode::laws::{
-    decided_pieces_are_converted, known_input, steps_add_up, steps_are_a_run, stops_at_first_loss,
+    decided_pieces_are_converted, devices_tell, known_input, steps_add_up, steps_are_a_run,
+    stops_at_first_loss,
 };
 use recode::{Buffers, Counted, Fault, Job, Progress, Session};
 use std::alloc::Global;
@@ -91,6 +92,7 @@ pub(crate) fn convert_steps(
     steps_are_a_run();
     steps_add_up();
     known_input();
+    devices_tell();
     decided_pieces_are_converted();
     stops_at_first_loss();
     let mut reader = Counted::new(SingleBytes { rest: input });

@@ -1,4 +1,5 @@
 use Rattle.std.proofs.Common.{refl, rules}
+use Rattle.recode.specs.Devices.{devices_in}
 use Rattle.recode.proofs.StepLemmas.{run_broke, run_counted, flush_broke, flush_counted}
 use Rattle.recode.proofs.TellLemmas.{taken_then, tells_more}
 use Rattle.recode.proofs.ToldLemmas.{breaks_told, converts_told}
@@ -8,7 +9,7 @@ pub returns-in-Err-flushed-clause-broken : goal.returns-in-Err-flushed-clause-br
 returns-in-Err-flushed-clause-broken g c is =
     let flush = c.flush_both-flushed.ensures in
     let told = c.tell_fault.ensures in
-    flush_broke _ _ _ _ _ _ c.args.job flush.kept _ _ c.in-Ok.ensures.completes (told.0, told.1, told.3)
+    flush_broke _ (devices_in c.run-result.new.reader c.run-result.new.writer c.run-result.new.log) _ _ _ _ c.args.job flush.kept _ _ c.in-Ok.ensures.completes (told.0, told.1, told.3)
     (flush_counted _ _ _ refl flush.writer_count flush.log_count _ _ c.in-Ok.ensures.failures c.in-Err-flushed.ensures.err)
     _ _ _ _ c.in-Err-flushed.ensures.err
 

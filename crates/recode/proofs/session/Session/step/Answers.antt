@@ -2,7 +2,7 @@ use Rattle.std.proofs.Common.{◌≡◌, ◌≤◌, ◌<◌, [], ap, arith, leng
 use Rattle.std.proofs.lemmas.Bool.{ne_eqb}
 use Rattle.recode_log.specs.laws.Calls.{passed_failed, passed_one}
 use Rattle.recode.specs.calls.Writers.{is_end}
-use Rattle.recode.proofs.GrowLemmas.{Gave-one, GaveAll-one, none_where_end}
+use Rattle.recode.proofs.GrowLemmas.{Gave-one, GaveToEnd-one, none_where_end}
 use Rattle.recode.proofs.StepLemmas.{stops_unread, stops_refused, stops_under, is_writing}
 use Rattle.recode.proofs.LatencyLemmas.{finishes, steps_on}
 use Rattle.recode.proofs.TellLemmas.{ended_before, last_handed, none_well, reads_one, step_calls, taken_none}
@@ -22,7 +22,7 @@ returns-in_err-write_chunk-clause-fault g c =
     let one = passed_one _ _ _ _ c.in-Ok.ensures.call in
     handed_on _ _ _ c.from_residual.ensures.1 (stops_under _ _ _ _ _ _ _
     (Gave-one _ _ _ one)
-    (λ h. GaveAll-one _ _ _ one (none_where_end _ h))
+    (λ h. GaveToEnd-one _ _ _ one (none_where_end _ h))
     (is_writing (Unit {0}) _ c.in_err-write_chunk.ensures.failures.not_other)
     (omega (arith, c.in-Ok.ensures.bound.1, c.if-read-self.false, within))
     (search rules))
@@ -39,7 +39,7 @@ returns-then-read-eq0-clause-done g c e =
     let k = c.in_ok-write_chunk.ensures in
     let none : take c.in-Ok.read c.read.new.buf ≡ [] = ap (λ n. take n c.read.new.buf) c.if-read-eq0.true in
     let within : c.args.self.now.engine.counts.read ≤ c.args.self.now.job.limit = search rules in
-    finishes _ _ _ _ _ _ _ (GaveAll-one _ _ _ (passed_one _ _ _ _ c.in-Ok.ensures.call) none) none
+    finishes _ _ _ _ _ _ _ (GaveToEnd-one _ _ _ (passed_one _ _ _ _ c.in-Ok.ensures.call) none) none
     (omega (arith, k.chunk.counted, ap length none, within)) (ap is_end none) (search rules)
 
 -- What devices tell, if they do.
@@ -87,8 +87,7 @@ returns-else-read-eq0-clause-told g c = (
 pub returns-then-read-eq0-clause-told : goal.returns-then-read-eq0-clause-told
 returns-then-read-eq0-clause-told g c =
     let none : c.in-Ok.read ≡ 0 = c.if-read-eq0.true in
-    let some : 0 < length c.read.new.buf = omega (arith, c.read.auto.buf, c.requires.buffers.input) in
-    (
+    let some : 0 < length c.read.new.buf = omega (arith, c.read.auto.buf, c.requires.buffers.input) in (
       record {
         input = reads_one _ _ _ _ c.read.result c.read.new.buf c.read.ensures.call c.read.ensures.bytes c.read.ensures.bound some;
         output = search rules;
