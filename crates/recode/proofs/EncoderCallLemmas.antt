@@ -18,7 +18,6 @@ turn_items ref e last outcome s text written s' rest i i' laws call passed =
     let P : ℕ → Type 0 = λ n. whole_items ref e last s i text ≡ map Byte written ++ (reported_item ref n outcome ++ whole_items ref e last s' n rest) in
     subst P at (k.items i)
 
--- fewer items are still to be written
-pub less_bytes : (a b : List Item) (bytes : List ℕ) (n : ℕ) → a ≡ map Byte (take n bytes) ++ b → n ≤ length bytes → 0 < n → length b < length a
-less_bytes a b bytes n e fits some =
-    omega (arith, ap length e, length-append (map Byte (take n bytes)) b, length-map (take n bytes) Byte, length-take-le n bytes fits)
+-- for each byte an item less is still to be written
+pub items_less : (a b more : List Item) (bytes : List ℕ) (n : ℕ) → a ≡ map Byte (take n bytes) ++ (more ++ b) → n ≤ length bytes → n + length b ≤ length a
+items_less a b more bytes n e fits = omega (arith, ap length e, length-append (map Byte (take n bytes)) (more ++ b), length-append more b, length-map (take n bytes) Byte, length-take-le n bytes fits)

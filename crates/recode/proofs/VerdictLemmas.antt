@@ -8,6 +8,7 @@ use Rattle.std.proofs.lemmas.Bool.{false≢true}
 use Rattle.encoding_mem.specs.Coding.{Coding, IsCoding}
 use Rattle.encoding_mem.specs.calls.EncoderCalls.{Encodes}
 use Rattle.encoding_mem.specs.Piece.{Piece, well_formed, malformed, text, AreWellFormed}
+use Rattle.encoding_mem.specs.ReadBack.{ReadsAs}
 use Rattle.encoding_mem.specs.calls.ReadCalls.{CallsAlong, HoldsAfter, KeepsVerdict, IsNotUnmappable, ReadsAlong}
 use Rattle.encoding_mem.specs.laws.ReadCalls.{begins_along, differing_part_never_reads, ends_along, lost_never_reads, next_along, verdict_of_call}
 use Rattle.encoding_mem.specs.laws.Verdict.{keeps_agreed, keeps_false, keeps_lost}
@@ -115,35 +116,18 @@ module _ (e : Coding) (need : ℕ) (coding : IsCoding need e) (last : Bool) (out
     });
   }
 
--- if the room was full, or the text was read that is not the last
-pub full_tells : (e : Coding) (need : ℕ) → IsCoding need e → (last : Bool) (v v' : VerdictView) (s : EscapeState) (t w : List ℕ) (s' : EscapeState) (rest read : List ℕ)
-    → all_scalars t ≡ true → Encodes e last OutputFull s t w s' rest → t ≡ read ++ rest → IsReadBack v v' w read → CanTell v e s t → CanTell v' e s' rest
-full_tells e need coding last v v' s t w s' rest read scalars encodes split back h =
-    can_tell_still e need coding last OutputFull v v' s t w s' rest read scalars encodes full_kept split back h (read_holds e need coding last OutputFull v v' s t w s' rest read scalars encodes full_kept split back)
-  where
-    full_kept : IsNotUnmappable OutputFull
-    full_kept m = λ h. cc
+  -- if there is more to read, the verdict can be known still
+  pub still_tells : ((from : EscapeState → List ℕ → List Piece) → HoldsAfter e from last outcome s' rest (to_read v') → ReadsAlong e from (to_read v') s' rest) → CanTell v e s t → CanTell v' e s' rest
+  still_tells along h = can_tell_still h (λ k no_log faithful'. along k.pieces_from (read_holds k no_log faithful'))
 
-pub read_tells : (e : Coding) (need : ℕ) → IsCoding need e → (v v' : VerdictView) (s : EscapeState) (t w : List ℕ) (s' : EscapeState) (rest read : List ℕ)
-    → all_scalars t ≡ true → Encodes e false InputEmpty s t w s' rest → t ≡ read ++ rest → IsReadBack v v' w read → CanTell v e s t → CanTell v' e s' rest
-read_tells e need coding v v' s t w s' rest read scalars encodes split back h =
-    can_tell_still e need coding false InputEmpty v v' s t w s' rest read scalars encodes read_kept split back h (read_holds e need coding false InputEmpty v v' s t w s' rest read scalars encodes read_kept split back)
-  where
-    read_kept : IsNotUnmappable InputEmpty
-    read_kept m = λ h. cc
-
--- and if it is the last
-pub end_tells : (e : Coding) (need : ℕ) → IsCoding need e → (v v' : VerdictView) (s : EscapeState) (t w : List ℕ) (s' : EscapeState) (rest read : List ℕ)
-    → all_scalars t ≡ true → Encodes e true InputEmpty s t w s' rest → t ≡ read ++ rest → IsReadBack v v' w read → CanTell v e s t → IsToldAtEnd v'
-end_tells e need coding v v' s t w s' rest read scalars encodes split back h faithful' = ∥∥₁_elim h.along (hlevel (props, are_well_formed_prop)) (λ (k : IsReadAlong v e s t). elim (true_or_false v.by_log) [
-  | inl by_log ↦
-      let none : to_read v' [] ≡ [] = ap (λ u. to_read u []) (back.kept (inl by_log)) ∙ ap (λ P. P []) (sym ((k.told by_log).anywhere s)) ∙ k.steps.nothing s in
-      record { well_formed = subst AreWellFormed (sym none) tt; same = ap text none }
-  | inr no_log ↦ read_holds e need coding true InputEmpty v v' s t w s' rest read scalars encodes read_kept split back k no_log faithful'
-])
-  where
-    read_kept : IsNotUnmappable InputEmpty
-    read_kept m = λ h. cc
+  -- and if the text was the last, what is pending in the reader is no text
+  pub end_tells : ((from : EscapeState → List ℕ → List Piece) → HoldsAfter e from last outcome s' rest (to_read v') → ReadsAs (to_read v') [] []) → CanTell v e s t → IsToldAtEnd v'
+  end_tells ends h faithful' = ∥∥₁_elim h.along (hlevel (props, are_well_formed_prop)) (λ (k : IsReadAlong v e s t). elim (true_or_false v.by_log) [
+    | inl by_log ↦
+        let none : to_read v' [] ≡ [] = ap (λ u. to_read u []) (back.kept (inl by_log)) ∙ ap (λ P. P []) (sym ((k.told by_log).anywhere s)) ∙ k.steps.nothing s in
+        record { well_formed = subst AreWellFormed (sym none) tt; same = ap text none }
+    | inr no_log ↦ ends k.pieces_from (read_holds k no_log faithful')
+  ])
 
 -- ---- something is lost
 
