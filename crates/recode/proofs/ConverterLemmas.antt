@@ -116,7 +116,7 @@ ended_with c x last free (Found line) h e = let end = end_open c.answer c x last
 -- the law of a converter's call, by that of its engine
 pub part_of : (j : Job) (c c' : Standing) (e o e' o' last : Bool) (bytes rest : List ℕ) (items : List Item) (m l free : ℕ) (result : ConverterResult) → TakesTurns c c' last bytes rest items m l → ConvertEndsWith c' rest last free result → e' ≡ is_last_text c'.answer last
     → ConvertsPart (view_at j c e o) (view_at j (after_call c' last) e' o') last bytes rest items
-part_of j c c' e o e' o' last bytes rest items m l free result t ends is = subst (λ v. ConvertsPart (view_at j c e o) v last bytes rest items) (sym (view_after j c' last e' o')) (record {
+part_of j c c' e o e' o' last bytes rest items m l free result t ends is = rw (view_after j c' last e' o') (record {
   job = refl;
   owed = t.owes;
   verdict = t.verdict;
@@ -147,9 +147,7 @@ ends_in j c x last free (Found line) h = (h.0, and-false last)
 pub ends_of : (j : Job) (c : Standing) (x : List ℕ) (last : Bool) (free : ℕ) (result : ConverterResult) (e o : Bool) → ConvertEndsWith c x last free result → e ≡ is_last_text c.answer last → o ≡ (last && is_all_converted result)
     → ConverterEndsWith (view_at j (after_call c last) e o) x last free result
 ends_of j c x last free result e o h is all =
-    subst (λ v. ConverterEndsWith v x last free result) (sym (view_after j c last e o))
-    (subst (λ (e : Bool). ConverterEndsWith (view_at j c e o) x last free result) (sym is)
-    (subst (λ (o : Bool). ConverterEndsWith (view_at j c (is_last_text c.answer last) o) x last free result) (sym all) (ends_in j c x last free result h)))
+    rw (view_after j c last e o, is, all) (ends_in j c x last free result h)
 
 goes_on : (c : Standing) (x : List ℕ) (last : Bool) (free : ℕ) (result : ConverterResult) → c.state.counts.read ≤ 2 ^ 48 → ConvertEndsWith c x last free result → (last && is_all_converted result) ≡ false → CanGoOn c x last
 goes_on c x last free InputEmpty within h open_ = ready_start c x last h.1 h.2 (omega (arith, within, ap length h.0)) (h.3.ready (sym (and-true last) ∙ open_))
@@ -159,7 +157,7 @@ goes_on c x last free (Found line) within h open_ = h.1
 -- a converter rests after a call that did not end it
 pub rests_of : (c : Standing) (x : List ℕ) (last : Bool) (free : ℕ) (result : ConverterResult) (e o : Bool) → c.state.counts.read ≤ 2 ^ 48 → ConvertEndsWith c x last free result → e ≡ is_last_text c.answer last → o ≡ (last && is_all_converted result) → o ≡ false
     → IsBetweenCalls (after_call c last) e
-rests_of c x last free result e o within h is all open_ = subst (IsBetweenCalls (after_call c last)) (sym is) (rests_after c x last (goes_on c x last free result within h (sym all ∙ open_)))
+rests_of c x last free result e o within h is all open_ = rw is (rests_after c x last (goes_on c x last free result within h (sym all ∙ open_)))
 
 -- ---- the standing of an engine over the text that was kept
 pub standing_kept : {D E : Type 0} (view : D → DecoderView) (parts : E → EncoderParts) (p : Policy) (e : Engine D E) (pivot : Pivot) (text : List ℕ) → is_wide pivot ≡ false → text ≡ pivot_bytes pivot

@@ -226,21 +226,9 @@ front_owed : (ref : Reference) (e : Coding) (ended : Bool) (s s' : EscapeState) 
     → i' + length rest ≡ i + length t → o + length t ≡ o' + length rest → (ended ≡ false → last_set e s t ≡ last_set e s' rest) → (ended ≡ true → tail ≡ [])
     → trace_from ref e s o i (pieces_of_text t ++ tail) ≡ items ++ trace_from ref e s' o' i' (pieces_of_text rest ++ tail)
 front_owed ref e false s s' i i' o o' t rest tail items owes index at set none =
-    let open_ : open_items ref e s i t ≡ items ++ open_items ref e s' i' rest =
-    sym (append-nil (open_items ref e s i t)) ∙ owes ∙ ap (λ l. items ++ l) (append-nil (open_items ref e s' i' rest)) in
-    let end_ = trace_from ref e (last_set e s' rest) (o' + length rest) (i' + length rest) tail in
-    front_trace ref e s o i t tail
-    ∙ ap (λ (q : EscapeState). open_items ref e s i t ++ trace_from ref e q (o + length t) (i + length t) tail) (set refl)
-    ∙ ap (λ (n : ℕ). open_items ref e s i t ++ trace_from ref e (last_set e s' rest) n (i + length t) tail) at
-    ∙ ap (λ (n : ℕ). open_items ref e s i t ++ trace_from ref e (last_set e s' rest) (o' + length rest) n tail) (sym index)
-    ∙ ap (λ l. l ++ end_) open_
-    ∙ append_assoc items (open_items ref e s' i' rest) end_
-    ∙ ap (λ l. items ++ l) (sym (front_trace ref e s' o' i' rest tail))
-front_owed ref e true s s' i i' o o' t rest tail items owes index at set none =
-    ap (λ l. trace_from ref e s o i (pieces_of_text t ++ l)) (none refl)
-    ∙ front_trace ref e s o i t []
-    ∙ owes
-    ∙ ap (λ l. items ++ l) (sym (front_trace ref e s' o' i' rest []) ∙ ap (λ l. trace_from ref e s' o' i' (pieces_of_text rest ++ l)) (sym (none refl)))
+    let open_ : open_items ref e s i t ≡ items ++ open_items ref e s' i' rest = sym (append-nil (open_items ref e s i t)) ∙ owes ∙ ap (λ l. items ++ l) (append-nil (open_items ref e s' i' rest)) in
+    rw (front_trace ref e s o i t tail, front_trace ref e s' o' i' rest tail, set refl, at, sym index, open_) (append_assoc items (open_items ref e s' i' rest) (trace_from ref e (last_set e s' rest) (o' + length rest) (i' + length rest) tail))
+front_owed ref e true s s' i i' o o' t rest tail items owes index at set none = rw (none refl, front_trace ref e s o i t [], front_trace ref e s' o' i' rest []) owes
 
 abbrev pub target_with : State → EscapeState → VerdictView → Counts → TargetState
 target_with s set verdict counts = record { coding = s.coding; set = set; policy = s.policy; verdict = verdict; counts = counts }
@@ -288,27 +276,13 @@ module _ (c : Standing) (set : EscapeState) (v : VerdictView) (x : Counts) (rest
     source = λ r h. refl;
     owes = encode_owes;
     verdict = encode_verdict;
-    calls = λ r h. omega (
-      arith,
-      e.calls,
-      e.index,
-      waiting_count c.text (reported c.answer),
-      waiting_count rest (reported c.answer),
-      ap length (encode_owes r h),
-      ap length e.owes,
-      length-append items (owed (after_encoder c set v x rest) (src ++ r)),
-      length-append items (text_items (target_with c.state set v x) ended rest),
-    );
+    calls = λ r h. omega (arith, e.calls, e.index, waiting_count c.text (reported c.answer), waiting_count rest (reported c.answer), ap length (encode_owes r h), ap length e.owes, length-append items (owed (after_encoder c set v x rest) (src ++ r)), length-append items (text_items (target_with c.state set v x) ended rest));
     grows = λ under. omega (arith, e.least under, e.lines.lost);
     least_calls = λ under. omega (arith, e.least under, e.bad, waiting_bad c.text (reported c.answer), waiting_bad rest (reported c.answer));
     advances = λ on. record {
       taken = [];
       rest_is = λ r. refl;
-      set = ap (last_set c.state.coding set) (waiting_text rest (reported c.answer))
-          ∙ last_set-append c.state.coding set rest (text (reported c.answer))
-          ∙ ap (λ (q : EscapeState). last_set c.state.coding q (text (reported c.answer))) (sym (e.set (not_ended on)))
-          ∙ sym (last_set-append c.state.coding c.state.set c.text (text (reported c.answer)))
-          ∙ ap (last_set c.state.coding c.state.set) (sym (waiting_text c.text (reported c.answer)));
+      set = rw (waiting_text rest (reported c.answer), waiting_text c.text (reported c.answer), last_set-append c.state.coding set rest (text (reported c.answer)), last_set-append c.state.coding c.state.set c.text (text (reported c.answer)), e.set (not_ended on)) refl;
       index = omega (arith, e.index, waiting_count c.text (reported c.answer), waiting_count rest (reported c.answer));
     };
   }

@@ -40,37 +40,30 @@ module _ (e : Coding) (need : ℕ) (coding : IsCoding need e) (last : Bool) (out
 
   other_keeps : (k : IsReadAlong v e s t) → IsTrue v.faithful → ReadsAsOther (to_read v) (to_read v') w read → v'.faithful ≡ false → VerdictIsKept e last v s t v' s' rest
   other_keeps k faithful (inl part) is =
-      subst (λ b. KeepsVerdict e last v.faithful (to_read v) s t b (to_read v') s' rest) (sym is)
-      (keeps_lost e last v.faithful (to_read v) (to_read v') s t s' rest
+      rw is (keeps_lost e last v.faithful (to_read v) (to_read v') s t s' rest
       (differing_part_never_reads e k.pieces_from (to_read v) last outcome s t w s' rest (calls_along k faithful) kept read split part.0 (λ r bytes. part.1 r) part.2))
   other_keeps k faithful (inr whole) is =
-      subst (λ b. KeepsVerdict e last v.faithful (to_read v) s t b (to_read v') s' rest) (sym is)
-      (keeps_lost e last v.faithful (to_read v) (to_read v') s t s' rest
+      rw is (keeps_lost e last v.faithful (to_read v) (to_read v') s t s' rest
       ((verdict_of_call e k.pieces_from (to_read v) last outcome s t w s' rest (calls_along k faithful) kept read split (to_read v') whole.0 whole.1).differs whole.2))
 
   text_keeps : (k : IsReadAlong v e s t) → IsTrue v.faithful → ReadsAsText (to_read v) (to_read v') w read → v'.faithful ≡ true → VerdictIsKept e last v s t v' s' rest
   text_keeps k faithful h is =
-      subst (λ b. KeepsVerdict e last b (to_read v) s t v'.faithful (to_read v') s' rest) (sym faithful)
-      (subst (λ b. KeepsVerdict e last true (to_read v) s t b (to_read v') s' rest) (sym is)
-      (keeps_agreed e last (to_read v) (to_read v') s t s' rest
-      ((verdict_of_call e k.pieces_from (to_read v) last outcome s t w s' rest (calls_along k faithful) kept read split (to_read v') h.taken h.has).agrees h.well_formed h.same)))
+      rw (faithful, is) (keeps_agreed e last (to_read v) (to_read v') s t s' rest
+      ((verdict_of_call e k.pieces_from (to_read v) last outcome s t w s' rest (calls_along k faithful) kept read split (to_read v') h.taken h.has).agrees h.well_formed h.same))
 
   compared_keeps : (k : IsReadAlong v e s t) → IsFalse v.by_log → IsTrue v.faithful → VerdictIsKept e last v s t v' s' rest
   compared_keeps k no_log faithful = elim (true_or_false v'.faithful) [
-    | inl is ↦ text_keeps k faithful (subst (λ b. MatchBool b (ReadsAsText (to_read v) (to_read v') w read) (ReadsAsOther (to_read v) (to_read v') w read)) is (back.compared no_log faithful)) is
-    | inr is ↦ other_keeps k faithful (subst (λ b. MatchBool b (ReadsAsText (to_read v) (to_read v') w read) (ReadsAsOther (to_read v) (to_read v') w read)) is (back.compared no_log faithful)) is
+    | inl is ↦ text_keeps k faithful (rw is at (back.compared no_log faithful)) is
+    | inr is ↦ other_keeps k faithful (rw is at (back.compared no_log faithful)) is
   ]
 
   lost_keeps : v.faithful ≡ false → v' ≡ v → VerdictIsKept e last v s t v' s' rest
   lost_keeps lost same =
-      subst (λ u. VerdictIsKept e last v s t u s' rest) (sym same)
-      (subst (λ b. KeepsVerdict e last b (to_read v) s t b (to_read v) s' rest) (sym lost) (keeps_false e last (to_read v) (to_read v) s t s' rest))
+      rw (same, lost) (keeps_false e last (to_read v) (to_read v) s t s' rest)
 
   logged_keeps : (k : IsReadAlong v e s t) → IsTrue v.by_log → v.faithful ≡ true → v' ≡ v → VerdictIsKept e last v s t v' s' rest
   logged_keeps k by_log faithful same =
-      subst (λ u. VerdictIsKept e last v s t u s' rest) (sym same)
-      (subst (λ b. KeepsVerdict e last b (to_read v) s t b (to_read v) s' rest) (sym faithful)
-      ((k.told by_log).keeps last outcome s t w s' rest scalars encodes kept))
+      rw (same, faithful) ((k.told by_log).keeps last outcome s t w s' rest scalars encodes kept)
 
   along_keeps : IsReadAlong v e s t → VerdictIsKept e last v s t v' s' rest
   along_keeps k = elim (true_or_false v.faithful) [
@@ -90,14 +83,13 @@ module _ (e : Coding) (need : ℕ) (coding : IsCoding need e) (last : Bool) (out
   read_holds k no_log faithful' = elim (true_or_false v.faithful) [
     | inr lost ↦ absurd (false≢true (sym (ap (λ u. u.faithful) (back.kept (inr lost)) ∙ lost) ∙ faithful'))
     | inl faithful ↦
-        let h : ReadsAsText (to_read v) (to_read v') w read = subst (λ b. MatchBool b (ReadsAsText (to_read v) (to_read v') w read) (ReadsAsOther (to_read v) (to_read v') w read)) faithful' (back.compared no_log faithful) in
+        let h : ReadsAsText (to_read v) (to_read v') w read = rw faithful' at (back.compared no_log faithful) in
         (verdict_of_call e k.pieces_from (to_read v) last outcome s t w s' rest (calls_along k faithful) kept read split (to_read v') h.taken h.has).along h.well_formed h.same
   ]
 
   told_still : (k : IsReadAlong v e s t) → IsTrue v'.by_log → IsToldByLog e k.pieces_from (to_read v')
   told_still k by_log =
-      let was : IsTrue v.by_log = sym back.by_log ∙ by_log in
-      subst (λ u. IsToldByLog e k.pieces_from (to_read u)) (sym (back.kept (inl was))) (k.told was)
+      let was : IsTrue v.by_log = sym back.by_log ∙ by_log in rw (back.kept (inl was)) (k.told was)
 
   along_still : (k : IsReadAlong v e s t) → ((IsFalse v.by_log) → IsTrue v'.faithful → ReadsAlong e k.pieces_from (to_read v') s' rest) → IsTrue v'.faithful → ReadsAlong e k.pieces_from (to_read v') s' rest
   along_still k holds faithful' = elim (true_or_false v.by_log) [

@@ -85,13 +85,13 @@ returns-in-InputEmpty g c =
         done = λ same. elim c.in-InputEmpty.is [
           | inr e ↦ absurd (true≢false (sym (rw e at same)))
           | inl e ↦ (
-              (rw e at call.ensures.call.ends).0,
-              record {
-                closed = (rw e at call.ensures.call.ends).1;
-                tells = λ on. rw (rw e at call.ensures.call.ends).0 at (still_tells coding _ laws c.args.last o v v' _ _ _ s1 rest read text.text.scalars call.ensures.call.law kept parts back.verdict (λ from h. rw (e, on) at h) ready.tells);
-                told = λ end. end_tells coding _ laws c.args.last o v v' _ _ _ s1 rest read text.text.scalars call.ensures.call.law kept parts back.verdict (λ from h. rw (e, end) at h) ready.tells;
-              },
-            )
+            (rw e at call.ensures.call.ends).0,
+            record {
+              closed = (rw e at call.ensures.call.ends).1;
+              tells = λ on. rw (rw e at call.ensures.call.ends).0 at (still_tells coding _ laws c.args.last o v v' _ _ _ s1 rest read text.text.scalars call.ensures.call.law kept parts back.verdict (λ from h. rw (e, on) at h) ready.tells);
+              told = λ end. end_tells coding _ laws c.args.last o v v' _ _ _ s1 rest read text.text.scalars call.ensures.call.law kept parts back.verdict (λ from h. rw (e, end) at h) ready.tells;
+            },
+          )
         ];
       });
       wrote = call.ensures.wrote;

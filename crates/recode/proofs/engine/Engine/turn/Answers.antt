@@ -22,7 +22,7 @@ encode-answer-requires-clause-ready g c =
 -- both calls
 after : (g : Over) (c : After-encode-answer g) (p : Policy)
     → Encoded (standing g.D.StreamDecoder.view g.E.RawEncoder.parts p c.args.self.now c.args.pivot.now) (standing g.D.StreamDecoder.view g.E.RawEncoder.parts p c.encode-answer.new.self c.fill-read.new.pivot) c.args.last c.ends-ends.result c.args.src.now (drop c.fill-read.result c.args.src.now)
-        (map Byte (take c.encode-answer.result.1 c.encode-answer.new.dst) ++ reported_item (reference_form p) c.encode-answer.new.self.counts.index c.encode-answer.result.0) (writes_all c.encode-answer.result.0)
+    (map Byte (take c.encode-answer.result.1 c.encode-answer.new.dst) ++ reported_item (reference_form p) c.encode-answer.new.self.counts.index c.encode-answer.result.0) (writes_all c.encode-answer.result.0)
 after g c p =
     let f = c.fill-read in
     let e = c.encode-answer in
