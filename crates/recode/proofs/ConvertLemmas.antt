@@ -32,7 +32,7 @@ use Rattle.recode.specs.declared.job.Pivot.{Pivot}
 use Rattle.recode.specs.declared.job.Pivot.TheVariants.{Utf8, Utf16}
 use Rattle.recode.proofs.DecoderCallLemmas.{IsDecoded, end_nothing, none_owed}
 use Rattle.recode.proofs.LatencyLemmas.{settled_of}
-use Rattle.recode.proofs.PivotLemmas.{bytes_text, text_of_bytes, text_of_units, units_text}
+use Rattle.recode.proofs.PivotLemmas.{IsForm, spelled, text_of, utf16, utf8}
 use Rattle.recode.proofs.TurnLemmas.{after_encoder, decode_turn, decoded_state, encode_turn, nothing_waits, standing_is, target_of_state, turns_more, waiting_size}
 use Rattle.encoding_front.specs.calls.Stream.{DecoderView}
 use Rattle.encoding_mem.specs.calls.EncoderRule.{EncoderParts}
@@ -65,15 +65,15 @@ pub from_start : (n : ℕ) (x : List ℕ) → take (n - 0) (drop 0 x) ≡ take n
 from_start n x = ap (λ k. take k x) (omega arith)
 
 pub between_is : (p : Pivot) (n : ℕ) (t : List ℕ) → all_scalars t ≡ true → Holds p n t → chars_between p 0 n ≡ t
-between_is (Utf8 bytes) n t h k = bytes_text t (take (n - 0) (drop 0 bytes.now)) h (from_start n bytes.now ∙ k.1)
-between_is (Utf16 units) n t h k = units_text t (take (n - 0) (drop 0 units.now)) h (from_start n units.now ∙ k.1)
+between_is (Utf8 bytes) n t h k = text_of utf8 t (take (n - 0) (drop 0 bytes.now)) h (from_start n bytes.now ∙ k.1)
+between_is (Utf16 units) n t h k = text_of utf16 t (take (n - 0) (drop 0 units.now)) h (from_start n units.now ∙ k.1)
 
 pub holds_between : (p : Pivot) (n : ℕ) → HoldsText p n → HoldsBetween p 0 n
 holds_between (Utf8 bytes) n h =
-    let k = text_of_bytes h.0 (take (n - 0) (drop 0 bytes.now)) h.1 (from_start n bytes.now ∙ h.2.1) in
+    let k = spelled utf8 h.0 (take (n - 0) (drop 0 bytes.now)) h.1 (from_start n bytes.now ∙ h.2.1) in
     record { order = omega arith; within = h.2.0; scalars = k.0; whole = k.1 }
 holds_between (Utf16 units) n h =
-    let k = text_of_units h.0 (take (n - 0) (drop 0 units.now)) h.1 (from_start n units.now ∙ h.2.1) in
+    let k = spelled utf16 h.0 (take (n - 0) (drop 0 units.now)) h.1 (from_start n units.now ∙ h.2.1) in
     record { order = omega arith; within = h.2.0; scalars = k.0; whole = k.1 }
 
 -- ---- a call of the decoder
@@ -128,23 +128,23 @@ tail_between l from to n a b order within is long =
     ∙ ap (drop (length a)) is
     ∙ drop_at a b (length a) refl
 
+-- what is left of a stretch of text
+left_between : {spell read : List ℕ → List ℕ} (form : IsForm spell read) (l : List ℕ) (from to : ℕ) (cp r : List ℕ) → from ≤ to → to ≤ length l → take (to - from) (drop from l) ≡ spell (read (take (to - from) (drop from l)))
+    → read (take (to - from) (drop from l)) ≡ cp ++ read r → r ≡ spell (read r) → (length r ≤ to) × (take (to - (to - length r)) (drop (to - length r) l) ≡ r)
+left_between {spell} {read} form l from to cp r order within whole parts rest =
+    let is : take (to - from) (drop from l) ≡ spell cp ++ r = whole ∙ ap spell parts ∙ form.both cp (read r) ∙ ap (λ x. spell cp ++ x) (sym rest) in
+    let few : length r ≤ to = omega (arith, ap length is, length-append (spell cp) r, length-take-le (to - from) (drop from l) (omega (arith, length-drop from l, order, within)), order) in
+    (few, tail_between l from to (length r) (spell cp) r order within is refl)
+
 -- so much of it is left
 pub left_in_pivot : (p : Pivot) (from to : ℕ) (text read rest : PivotText) → HoldsBetween p from to → pivot_chars text ≡ chars_between p from to → is_in_units text ≡ is_wide p → element_count text ≡ to - from → IsWholeText text → IsCutInto text read rest
     → (element_count rest ≤ to) × (chars_between p (to - element_count rest) to ≡ pivot_chars rest) × HoldsBetween p (to - element_count rest) to
 left_in_pivot (Utf8 bytes) from to (InText.Utf8 x) (InText.Utf8 read) (InText.Utf8 rest) h same form count whole cut =
-    let parts : chars_between (Utf8 bytes) from to ≡ chars read.now ++ chars rest.now = sym same ∙ cut.parts in
-    let spelled : take (to - from) (drop from bytes.now) ≡ encode_utf8_all (chars read.now) ++ rest.now =
-    h.whole ∙ ap encode_utf8_all parts ∙ encodes-append (chars read.now) (chars rest.now) ∙ ap (λ l. encode_utf8_all (chars read.now) ++ l) (sym cut.rest_text.whole) in
-    let few : length rest.now ≤ to = omega (arith, ap length spelled, length-append (encode_utf8_all (chars read.now)) rest.now, length-take-le (to - from) (drop from bytes.now) (omega (arith, length-drop from bytes.now, h.order, h.within)), h.order) in
-    let is = tail_between bytes.now from to (length rest.now) (encode_utf8_all (chars read.now)) rest.now h.order h.within spelled refl in
-    (few, ap chars is, record { order = omega (arith, few); within = h.within; scalars = rw (sym is) at cut.rest_text.scalars; whole = rw (sym is) at cut.rest_text.whole })
+    let k = left_between utf8 bytes.now from to (chars read.now) rest.now h.order h.within h.whole (sym same ∙ cut.parts) cut.rest_text.whole in
+    (k.0, ap chars k.1, record { order = omega (arith, k.0); within = h.within; scalars = rw (sym k.1) at cut.rest_text.scalars; whole = rw (sym k.1) at cut.rest_text.whole })
 left_in_pivot (Utf16 units) from to (InText.Utf16 x) (InText.Utf16 read) (InText.Utf16 rest) h same form count whole cut =
-    let parts : chars_between (Utf16 units) from to ≡ utf16_lossy_chars read.now ++ utf16_lossy_chars rest.now = sym same ∙ cut.parts in
-    let spelled : take (to - from) (drop from units.now) ≡ encode_utf16_all (utf16_lossy_chars read.now) ++ rest.now =
-    h.whole ∙ ap encode_utf16_all parts ∙ encode_utf16_all-append (utf16_lossy_chars read.now) (utf16_lossy_chars rest.now) ∙ ap (λ l. encode_utf16_all (utf16_lossy_chars read.now) ++ l) (sym cut.rest_text.whole) in
-    let few : length rest.now ≤ to = omega (arith, ap length spelled, length-append (encode_utf16_all (utf16_lossy_chars read.now)) rest.now, length-take-le (to - from) (drop from units.now) (omega (arith, length-drop from units.now, h.order, h.within)), h.order) in
-    let is = tail_between units.now from to (length rest.now) (encode_utf16_all (utf16_lossy_chars read.now)) rest.now h.order h.within spelled refl in
-    (few, ap utf16_lossy_chars is, record { order = omega (arith, few); within = h.within; scalars = rw (sym is) at cut.rest_text.scalars; whole = rw (sym is) at cut.rest_text.whole })
+    let k = left_between utf16 units.now from to (utf16_lossy_chars read.now) rest.now h.order h.within h.whole (sym same ∙ cut.parts) cut.rest_text.whole in
+    (k.0, ap utf16_lossy_chars k.1, record { order = omega (arith, k.0); within = h.within; scalars = rw (sym k.1) at cut.rest_text.scalars; whole = rw (sym k.1) at cut.rest_text.whole })
 left_in_pivot (Utf8 bytes) from to (InText.Utf16 x) read rest h same form count whole cut = absurd (true≢false form)
 left_in_pivot (Utf16 units) from to (InText.Utf8 x) read rest h same form count whole cut = absurd (true≢false (sym form))
 left_in_pivot (Utf8 bytes) from to (InText.Utf8 x) (InText.Utf16 read) rest h same form count whole cut = absurd (true≢false cut.read_form)
@@ -279,12 +279,6 @@ wrote_into old xs ys w k n size long p q = record {
 -- a turn after others
 pub turn_after : (c0 c1 c2 : Standing) (last : Bool) (src : List ℕ) (read taken : ℕ) (a b : List Item) (m l : ℕ) → TakesTurns c0 c1 last src (drop read src) a 0 0 → TakesTurns c1 c2 last (drop read src) (drop taken (drop read src)) b m l → TakesTurns c0 c2 last src (drop (read + taken) src) (a ++ b) m l
 turn_after c0 c1 c2 last src read taken a b m l p q = subst (λ z. TakesTurns c0 c2 last src z (a ++ b) m l) (drop-drop taken read src) (turns_more m l (omega arith) (omega arith) p q)
-
-pub bytes_from_start : (x : List ℕ) (n : ℕ) (t : List ℕ) → all_scalars t ≡ true → take n x ≡ encode_utf8_all t → chars (take (n - 0) (drop 0 x)) ≡ t
-bytes_from_start x n t h e = bytes_text t (take (n - 0) (drop 0 x)) h (from_start n x ∙ e)
-
-pub units_from_start : (x : List ℕ) (n : ℕ) (t : List ℕ) → all_scalars t ≡ true → take n x ≡ encode_utf16_all t → utf16_lossy_chars (take (n - 0) (drop 0 x)) ≡ t
-units_from_start x n t h e = units_text t (take (n - 0) (drop 0 x)) h (from_start n x ∙ e)
 
 -- the bytes that are held last
 pub last_is : (buffer room : List ℕ) (n m : ℕ) → n ≤ length buffer → m ≤ length room → take m (drop ((n + m) - m) (put_mid n (length buffer - n) buffer room)) ≡ take m room
