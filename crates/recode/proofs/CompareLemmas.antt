@@ -1,5 +1,5 @@
 -- What is read back is compared with its text part by part.
-use Rattle.std.proofs.Common.{◌≡◌, ◌⊎◌, ℕ, Bool, true, false, List, [], ◌∷◌, ◌++◌, IsTrue, Some, drop, refl, sym, ◌∙◌, ap, subst, append_assoc, append-nil, inl, inr, ◌↔◌}
+use Rattle.std.proofs.Common.{◌≡◌, ◌⊎◌, ℕ, Bool, true, false, List, [], ◌++◌, IsTrue, Some, drop, refl, sym, ◌∙◌, ap, subst, append_assoc, append-nil, inl, inr, ◌↔◌}
 use Rattle.std.specs.Bool.{MatchBool}
 use Rattle.std.proofs.lemmas.Bool.{false≢true}
 use Rattle.std.proofs.lemmas.List.{append_cancel_left}

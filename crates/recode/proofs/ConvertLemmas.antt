@@ -1,13 +1,13 @@
 -- What the calls of an engine are, as turns.
-use Rattle.std.proofs.Common.{◌^◌, IsSome, true≢false, ◌≡◌, ℕ, ◌+◌, ◌-◌, ◌*◌, ◌≤◌, ◌<◌, Bool, true, false, List, [], ◌∷◌, ◌++◌, map, length, drop, take, Option, None, Some, refl, sym, ◌∙◌, ap, subst, arith, append_assoc, length-append, length-drop}
+use Rattle.std.proofs.Common.{◌^◌, IsSome, true≢false, ◌≡◌, ℕ, ◌+◌, ◌-◌, ◌*◌, ◌≤◌, ◌<◌, Bool, true, false, List, [], ◌++◌, map, length, drop, take, Option, None, Some, refl, sym, ◌∙◌, ap, subst, arith, append_assoc, length-append, length-drop}
 use Rattle.std.proofs.lemmas.Bool.{false≢true}
-use Rattle.std.specs.Str.{all_scalars, chars, encode_utf8_all}
+use Rattle.std.specs.Str.{all_scalars, chars}
 use Rattle.std.specs.Char.Utf16.{utf16_lossy_chars}
 use Rattle.encoding_front.specs.calls.Stream.{finishes}
 use Rattle.encoding_front.specs.declared.encoding.Encoding.{Encoding}
 use Rattle.encoding_mem.specs.Piece.{sizes}
 use Rattle.encoding_mem.specs.Items.{Byte, Item}
-use Rattle.encoding_mem.specs.calls.Decoding.{DecoderState, StateLaw}
+use Rattle.encoding_mem.specs.calls.Decoding.{DecoderState}
 use Rattle.encoding_mem.specs.declared.decoder_result.DecoderResult.{DecoderResult}
 use Rattle.encoding_mem.specs.declared.decoder_result.DecoderResult.TheVariants.{InputEmpty, Malformed, OutputFull}
 use Rattle.recode.specs.State.{State}
@@ -19,13 +19,10 @@ use Rattle.recode.specs.calls.Buffers.{is_wide}
 use Rattle.recode.specs.calls.PivotText.{Holds, HoldsText, IsCutInto, IsWholeText, element_count, is_in_units, pivot_chars}
 use Rattle.recode.specs.declared.codec_calls.PivotText.{PivotText}
 use Rattle.recode.specs.declared.codec_calls.PivotText.TheVariants as InText
-use Rattle.encoding_mem.specs.calls.Writing.{encode_utf16_all}
-use Rattle.encoding_mem.specs.laws.Writing.{encode_utf16_all-append}
 use Rattle.std.proofs.lemmas.List.{drop-drop, drop-take, drop_at, length-take-le, map-append}
 use borrow.Rule.Slice.PartMut.{post_of, put_mid}
 use Rattle.encoding_mem.specs.calls.EncoderRule.{WritesBytes}
 use Rattle.encoding_mem.proofs.DestinationLemmas.{drop_into, take_into}
-use Rattle.std.proofs.lemmas.Str.{encodes-append}
 use Rattle.recode.specs.calls.Turns.{AreCountedSoundly, CanGoOn, EncodesOnce, EncodesTurn, IsOpenFor, Standing, TakesTurns, is_last_text, reported}
 use Rattle.recode.specs.calls.Verdict.{CanTell}
 use Rattle.recode.specs.declared.job.Pivot.{Pivot}
@@ -33,11 +30,10 @@ use Rattle.recode.specs.declared.job.Pivot.TheVariants.{Utf8, Utf16}
 use Rattle.recode.proofs.DecoderCallLemmas.{IsDecoded, end_nothing, none_owed}
 use Rattle.recode.proofs.LatencyLemmas.{settled_of}
 use Rattle.recode.proofs.PivotLemmas.{IsForm, spelled, text_of, utf16, utf8}
-use Rattle.recode.proofs.TurnLemmas.{after_encoder, decode_turn, decoded_state, encode_turn, nothing_waits, standing_is, target_of_state, turns_more, waiting_size}
+use Rattle.recode.proofs.TurnLemmas.{after_encoder, decode_turn, decoded_state, encode_turn, standing_is, target_of_state, turns_more, waiting_size}
 use Rattle.encoding_front.specs.calls.Stream.{DecoderView}
 use Rattle.encoding_mem.specs.calls.EncoderRule.{EncoderParts}
 use Rattle.encoding_mem.specs.Coding.{Coding}
-use Rattle.encoding_mem.specs.Items.{MalformedAt}
 use Rattle.recode.specs.Work.{ended_count}
 use Rattle.recode.specs.calls.EngineView.{engine_state}
 use Rattle.recode.specs.calls.Text.{IsEncoded}

@@ -2,8 +2,8 @@
 use Rattle.std.proofs.Math.Bool.{and-false, and-true}
 use Rattle.std.proofs.lemmas.Bool.{false_from_ne_true, true_from_ne_false}
 use Rattle.std.proofs.lemmas.List.{nil_from_length}
-use Rattle.recode.proofs.ConvertLemmas.{IsAtEnd, end_open, none_open}
-use Rattle.std.proofs.Common.{◌≡◌, ℕ, ◌+◌, ◌-◌, ◌≤◌, ◌^◌, Bool, true, false, List, [], ◌∷◌, ◌++◌, length, Option, None, Some, inl, refl, sym, ◌∙◌, ap, subst, arith}
+use Rattle.recode.proofs.ConvertLemmas.{end_open, none_open}
+use Rattle.std.proofs.Common.{◌≡◌, ℕ, ◌+◌, ◌-◌, ◌≤◌, ◌^◌, Bool, true, false, List, [], ◌++◌, length, Option, None, Some, inl, refl, sym, ◌∙◌, ap, subst, arith}
 use Rattle.std.specs.Prelude.{◌&&◌}
 use Rattle.encoding_mem.specs.Items.{Item, trace_from}
 use Rattle.encoding_mem.specs.Piece.{Piece, sizes}
@@ -19,7 +19,7 @@ use Rattle.encoding_mem.specs.calls.EncoderRule.{EncoderParts}
 use Rattle.recode.specs.declared.engine.Engine.{Engine}
 use Rattle.recode.specs.declared.job.Policy.{Policy}
 use Rattle.recode.specs.calls.Buffers.{is_wide}
-use Rattle.recode.specs.calls.Turns.{AreCountedSoundly, CanGoOn, ConvertEndsWith, IsBetweenCalls, IsOpenFor, Standing, TakesTurns, is_last_text, reported, settled, pieces_of_text, waiting}
+use Rattle.recode.specs.calls.Turns.{CanGoOn, ConvertEndsWith, IsBetweenCalls, IsOpenFor, Standing, TakesTurns, is_last_text, reported, settled, pieces_of_text, waiting}
 use Rattle.recode.specs.declared.converter.ConverterResult.{ConverterResult}
 use Rattle.recode.specs.declared.converter.ConverterResult.TheVariants.{Found, InputEmpty, OutputFull}
 use Rattle.recode.specs.declared.job.Job.{Job}

@@ -5,9 +5,9 @@ use lib.Utf8.{scalar}
 use Rattle.std.proofs.lemmas.Bool.{and_parts, false≢true}
 use Rattle.std.specs.Str.{all_scalars}
 use Rattle.encoding_mem.specs.declared.reference.Reference.{Reference}
-use Rattle.encoding_mem.specs.Piece.{IsPiece, Piece, well_formed, malformed, piece_scalars, sizes, scalars, AreWellFormed, ArePieces, piece_len}
+use Rattle.encoding_mem.specs.Piece.{IsPiece, Piece, well_formed, malformed, piece_scalars, sizes, scalars, AreWellFormed, ArePieces}
 use Rattle.encoding_mem.specs.Coding.{Coding, last_set, IsCoding}
-use Rattle.encoding_mem.specs.Items.{Item, Byte, MalformedAt, closing, form_items, open_items, trace_from}
+use Rattle.encoding_mem.specs.Items.{Byte, closing, form_items, open_items, trace_from}
 use Rattle.encoding_mem.specs.declared.form.EscapeState.{EscapeState}
 use Rattle.encoding_mem.specs.calls.Decoding.{DecoderState, Takes, StateLaw}
 use Rattle.encoding_mem.specs.declared.form.EscapeState.TheVariants.{Ascii}

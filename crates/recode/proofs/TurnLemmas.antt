@@ -4,7 +4,7 @@ use Rattle.std.proofs.lemmas.Bool.{false≢true}
 use Rattle.encoding_front.specs.declared.encoding.Encoding.{Encoding}
 use Rattle.encoding_mem.specs.Coding.{Coding, last_set}
 use Rattle.encoding_mem.specs.Items.{Item, MalformedAt, open_items, trace_from, whole_items}
-use Rattle.encoding_mem.specs.Piece.{AreWellFormed, Piece, malformed, malformed_count, scalars, sizes, text, well_formed}
+use Rattle.encoding_mem.specs.Piece.{AreWellFormed, Piece, malformed_count, scalars, sizes, text}
 use Rattle.encoding_mem.specs.calls.Decoding.{DecoderState}
 use Rattle.encoding_mem.specs.calls.ReadCalls.{ReadsWhole}
 use Rattle.encoding_mem.specs.declared.decoder_result.DecoderResult.{DecoderResult}

@@ -1,4 +1,4 @@
-use Rattle.std.proofs.Common.{Bool, false, [], append_assoc, ◌≡◌, ℕ, ◌+◌, ◌-◌, ◌≤◌, ◌∙◌, ◌++◌, arith, refl, sym, ap, length, length-append, map, inl, inr, true≢false, take}
+use Rattle.std.proofs.Common.{false, [], append_assoc, ◌≡◌, ◌+◌, ◌-◌, ◌≤◌, ◌∙◌, ◌++◌, arith, refl, sym, ap, length, length-append, map, inl, inr, true≢false, take}
 use Rattle.recode.proofs.ConvertLemmas.{items_of_bytes, items_of_lost, left_in_pivot, lost_less}
 use Rattle.recode.proofs.EncoderCallLemmas.{items_less, turn_items}
 use Rattle.recode.specs.Policy.{reference_form}
@@ -6,7 +6,7 @@ use Rattle.recode.specs.declared.job.Policy.{Policy}
 use Rattle.encoding_mem.specs.calls.EncoderRule.{EncoderParts}
 use Rattle.encoding_mem.specs.laws.EncoderCalls.{encoded_items}
 use Rattle.encoding_mem.specs.calls.EncoderCalls.{TextGoesOn, reported_item}
-use Rattle.encoding_mem.specs.declared.encoder_result.EncoderResult.TheVariants.{InputEmpty, OutputFull, Unmappable}
+use Rattle.encoding_mem.specs.declared.encoder_result.EncoderResult.TheVariants.{Unmappable}
 use Rattle.encoding_mem.specs.Items.{Byte, whole_items}
 use Rattle.encoding_mem.specs.calls.ReadCalls.{IsNotUnmappable}
 use Rattle.recode.specs.Work.{ended_count}

@@ -1,4 +1,4 @@
-use Rattle.std.proofs.Common.{◌≡◌, ℕ, ◌<◌, List, length, None, arith, length-drop, refl, rules}
+use Rattle.std.proofs.Common.{◌≡◌, ◌<◌, length, None, arith, length-drop, refl, rules}
 use Rattle.encoding_mem.specs.declared.decoder_result.DecoderResult.TheVariants.{OutputFull}
 use Rattle.recode.specs.calls.EngineView.{chars_between, standing}
 use Rattle.recode.specs.declared.job.Policy.{Policy}

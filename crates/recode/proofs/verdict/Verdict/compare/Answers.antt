@@ -1,7 +1,6 @@
-use Rattle.std.proofs.Common.{◌≡◌, ◌∙◌, ℕ, false, ◌<◌, List, length, ap, arith, length-append, refl, sym}
+use Rattle.std.proofs.Common.{◌≡◌, ◌∙◌, false, ◌<◌, length, ap, arith, length-append, refl, sym}
 use Rattle.std.proofs.lemmas.List.{take_rest}
 use Rattle.encoding_mem.specs.declared.decoder_result.DecoderResult.TheVariants.{OutputFull}
-use Rattle.recode.specs.calls.Buffers.{KeepsRoom}
 use Rattle.recode.specs.calls.PivotText.{pivot_chars}
 use Rattle.recode.proofs.BufferLemmas.{room_on, room_start}
 use Rattle.recode.proofs.CompareLemmas.{compares_differing, compares_end, compares_malformed, compares_more, compares_start}
