@@ -127,10 +127,7 @@ turns_more {c} {c1} {c2} {last} {x} {y} {z} {a} {b} most least up down p q = rec
       record {
         taken = f.taken ++ g.taken;
         rest_is = λ r. f.rest_is r ∙ ap (λ l. f.taken ++ l) (g.rest_is r) ∙ sym (append_assoc f.taken g.taken (c2.state.decoder.pieces (z ++ r)));
-        set = subst (λ (e : Coding). last_set e c2.state.set (text (waiting c2)) ≡ last_set e (last_set e c1.state.set (text (waiting c1))) (text g.taken)) p.target g.set
-            ∙ ap (λ (s : EscapeState). last_set e s (text g.taken)) f.set
-            ∙ sym (last_set-append e (last_set e c.state.set (text (waiting c))) (text f.taken) (text g.taken))
-            ∙ ap (last_set e (last_set e c.state.set (text (waiting c)))) (sym (text-append f.taken g.taken));
+        set = rw p.target at g.set ∙ rw (text-append f.taken g.taken, last_set-append e (last_set e c.state.set (text (waiting c))) (text f.taken) (text g.taken), f.set) refl;
         index = omega (arith, f.index, g.index, ap length (text-append f.taken g.taken), length-append (text f.taken) (text g.taken));
       };
 }

@@ -1,6 +1,6 @@
 use Rattle.std.proofs.Common.{false, [], append_assoc, ◌≡◌, ◌+◌, ◌-◌, ◌≤◌, ◌∙◌, ◌++◌, arith, refl, sym, ap, length, length-append, map, inl, inr, true≢false, take}
 use Rattle.recode.proofs.ConvertLemmas.{items_of_bytes, items_of_lost, left_in_pivot, lost_less}
-use Rattle.recode.proofs.EncoderCallLemmas.{items_less, turn_items}
+use Rattle.recode.proofs.EncoderCallLemmas.{items_less, one_taken, turn_items}
 use Rattle.recode.specs.Policy.{reference_form}
 use Rattle.recode.specs.declared.job.Policy.{Policy}
 use Rattle.encoding_mem.specs.calls.EncoderRule.{EncoderParts}
@@ -14,7 +14,6 @@ use Rattle.recode.specs.calls.CodecCalls.{writes_all}
 use Rattle.recode.specs.calls.EngineView.{HoldsBetween, chars_between}
 use Rattle.recode.specs.calls.PivotText.{element_count, pivot_chars}
 use Rattle.recode.specs.calls.VerdictView.{verdict_view}
-use Rattle.recode.proofs.TextLemmas.{one_taken}
 use Rattle.recode.proofs.VerdictLemmas.{end_tells, lost_tells, read_keeps, still_tells, unmapped_keeps}
 use Rattle.recode.proofs.engine.Engine.encode.Goals.{After-encode_from_pivot-call}
 use Rattle.recode.proofs.engine.Engine.encode.Given.{Over}
