@@ -19,24 +19,15 @@ begins_lead b h = rw (le-ltb b 0x80 (omega arith)) (rw (le-leb 0xC0 b h) refl)
 begins_none : (b : ℕ) → 0x80 ≤ b → b < 0xC0 → begins_character b ≡ false
 begins_none b h k = rw (le-ltb b 0x80 h) (rw (lt-leb 0xC0 b k) refl)
 
-one_of_two : (a b : ℕ) → 0xC0 ≤ a → 0x80 ≤ b → b < 0xC0 → count_by begins_character (a ∷ b ∷ []) ≡ 1
-one_of_two a b h i j = rw (begins_lead a h, begins_none b i j) refl
-
-one_of_three : (a b d : ℕ) → 0xC0 ≤ a → 0x80 ≤ b → b < 0xC0 → 0x80 ≤ d → d < 0xC0 → count_by begins_character (a ∷ b ∷ d ∷ []) ≡ 1
-one_of_three a b d h i j k l = rw (begins_lead a h, begins_none b i j, begins_none d k l) refl
-
-one_of_four : (a b d e : ℕ) → 0xC0 ≤ a → 0x80 ≤ b → b < 0xC0 → 0x80 ≤ d → d < 0xC0 → 0x80 ≤ e → e < 0xC0 → count_by begins_character (a ∷ b ∷ d ∷ e ∷ []) ≡ 1
-one_of_four a b d e h i j k l m n = rw (begins_lead a h, begins_none b i j, begins_none d k l, begins_none e m n) refl
-
 one_begins : (c : ℕ) → count_by begins_character (encode_utf8 c) ≡ 1
 unfolding encode_utf8
 one_begins c = elim (cases_lt c 0x80) [
   | inl low ↦ rw (lt-ltb c 0x80 low) (rw (begins_low c low) refl)
   | inr high ↦ rw (le-ltb c 0x80 high) (elim (cases_lt c 0x800) [
-    | inl low ↦ rw (lt-ltb c 0x800 low) (one_of_two (192 + c / 64) (128 + c % 64) (omega arith) (omega arith) (omega arith))
+    | inl low ↦ rw (lt-ltb c 0x800 low) (rw (begins_lead (192 + c / 64) (omega arith), begins_none (128 + c % 64) (omega arith) (omega arith)) refl)
     | inr higher ↦ rw (le-ltb c 0x800 higher) (elim (cases_lt c 0x10000) [
-      | inl low ↦ rw (lt-ltb c 0x10000 low) (one_of_three (224 + c / 4096) (128 + c / 64 % 64) (128 + c % 64) (omega arith) (omega arith) (omega arith) (omega arith) (omega arith))
-      | inr highest ↦ rw (le-ltb c 0x10000 highest) (one_of_four (240 + c / 262144) (128 + c / 4096 % 64) (128 + c / 64 % 64) (128 + c % 64) (omega arith) (omega arith) (omega arith) (omega arith) (omega arith) (omega arith) (omega arith))
+      | inl low ↦ rw (lt-ltb c 0x10000 low) (rw (begins_lead (224 + c / 4096) (omega arith), begins_none (128 + c / 64 % 64) (omega arith) (omega arith), begins_none (128 + c % 64) (omega arith) (omega arith)) refl)
+      | inr highest ↦ rw (le-ltb c 0x10000 highest) (rw (begins_lead (240 + c / 262144) (omega arith), begins_none (128 + c / 4096 % 64) (omega arith) (omega arith), begins_none (128 + c / 64 % 64) (omega arith) (omega arith), begins_none (128 + c % 64) (omega arith) (omega arith)) refl)
     ])
   ])
 ]

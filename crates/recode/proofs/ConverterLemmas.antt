@@ -1,5 +1,9 @@
 -- What the calls of a converter are, by those of its engine.
-use Rattle.std.proofs.Common.{◌≡◌, ℕ, ◌+◌, ◌-◌, ◌≤◌, ◌^◌, Bool, true, false, List, [], ◌∷◌, ◌++◌, length, Option, None, Some, inl, refl, sym, ◌∙◌, ap, subst, arith}
+use Rattle.std.proofs.Math.Bool.{and-false, and-true}
+use Rattle.std.proofs.lemmas.Bool.{false_from_ne_true, true_from_ne_false}
+use Rattle.std.proofs.lemmas.List.{nil_from_length}
+use Rattle.recode.proofs.ConvertLemmas.{end_open, none_open}
+use Rattle.std.proofs.Common.{◌≡◌, ℕ, ◌+◌, ◌-◌, ◌≤◌, ◌^◌, Bool, true, false, List, [], ◌++◌, length, Option, None, Some, inl, refl, sym, ◌∙◌, ap, subst, arith}
 use Rattle.std.specs.Prelude.{◌&&◌}
 use Rattle.encoding_mem.specs.Items.{Item, trace_from}
 use Rattle.encoding_mem.specs.Piece.{Piece, sizes}
@@ -15,7 +19,7 @@ use Rattle.encoding_mem.specs.calls.EncoderRule.{EncoderParts}
 use Rattle.recode.specs.declared.engine.Engine.{Engine}
 use Rattle.recode.specs.declared.job.Policy.{Policy}
 use Rattle.recode.specs.calls.Buffers.{is_wide}
-use Rattle.recode.specs.calls.Turns.{AreCountedSoundly, CanGoOn, ConvertEndsWith, IsBetweenCalls, IsOpenFor, Standing, TakesTurns, is_last_text, reported, settled, pieces_of_text, waiting}
+use Rattle.recode.specs.calls.Turns.{CanGoOn, ConvertEndsWith, IsBetweenCalls, IsOpenFor, Standing, TakesTurns, is_last_text, reported, settled, pieces_of_text, waiting}
 use Rattle.recode.specs.declared.converter.ConverterResult.{ConverterResult}
 use Rattle.recode.specs.declared.converter.ConverterResult.TheVariants.{Found, InputEmpty, OutputFull}
 use Rattle.recode.specs.declared.job.Job.{Job}
@@ -38,27 +42,15 @@ view_at j c ended over = record { job = j; state = c.state; waiting = waiting c;
 
 -- ---- when a call can be made
 
-not_ended : (ended : Bool) → (ended ≡ true → ⊥) → ended ≡ false
-not_ended true h = absurd (h refl)
-not_ended false h = refl
-
-is_ended : (ended : Bool) → (ended ≡ false → ⊥) → ended ≡ true
-is_ended true h = refl
-is_ended false h = absurd (h refl)
-
-empty_of : (ps : List Piece) → length ps ≡ 0 → ps ≡ []
-empty_of [] e = refl
-empty_of (p ∷ ps) e = absurd (omega (arith, e))
-
 open_from : (a : Option DecoderResult) (c : Standing) (ended : Bool) (src : List ℕ) (last : Bool) → c.answer ≡ a → IsBetweenCalls c ended → (ended ≡ true → (src ≡ []) × (last ≡ true)) → IsOpenFor a c src last
-open_from None c ended src last is h with_end = (h.none is, h.finished ∙ not_ended ended (λ e. absurd (cc (sym is ∙ (h.end e).0))))
-open_from (Some decoded.OutputFull) c ended src last is h with_end = h.finished ∙ not_ended ended (λ e. absurd (cc (sym is ∙ (h.end e).0)))
+open_from None c ended src last is h with_end = (h.none is, h.finished ∙ false_from_ne_true ended (λ e. absurd (cc (sym is ∙ (h.end e).0))))
+open_from (Some decoded.OutputFull) c ended src last is h with_end = h.finished ∙ false_from_ne_true ended (λ e. absurd (cc (sym is ∙ (h.end e).0)))
 open_from (Some (decoded.Malformed a b)) c ended src last is h with_end =
     let size = h.malformed a b is in
-    (h.finished ∙ not_ended ended (λ e. absurd (cc (sym is ∙ (h.end e).0))), size.0, size.1, size.2)
+    (h.finished ∙ false_from_ne_true ended (λ e. absurd (cc (sym is ∙ (h.end e).0))), size.0, size.1, size.2)
 open_from (Some decoded.InputEmpty) c ended src last is h with_end =
-    let end : ended ≡ true = is_ended ended (λ e. absurd (cc (sym (ap (λ x. is_last_text x true) is) ∙ h.more e))) in
-    let none = empty_of (c.state.decoder.pieces []) (h.end end).2 in
+    let end : ended ≡ true = true_from_ne_false ended (λ e. absurd (cc (sym (ap (λ x. is_last_text x true) is) ∙ h.more e))) in
+    let none = nil_from_length (c.state.decoder.pieces []) (h.end end).2 in
     ((with_end end).0, h.finished ∙ end ∙ sym (with_end end).1, inl ((h.end end).1, none), λ _. ((h.end end).1, none))
 
 pub can_go_on : (c : Standing) (ended : Bool) (src : List ℕ) (last : Bool) → IsBetweenCalls c ended → (ended ≡ true → (src ≡ []) × (last ≡ true)) → c.state.counts.read + length src ≤ 2 ^ 48 → CanGoOn c src last
@@ -71,94 +63,60 @@ can_go_on c ended src last h with_end limit = record {
 
 -- ---- what is left by a call
 
-same_reported : (a : Option DecoderResult) (last : Bool) → reported (settled a last) ≡ reported a
-same_reported None last = refl
-same_reported (Some decoded.InputEmpty) true = refl
-same_reported (Some decoded.InputEmpty) false = refl
-same_reported (Some decoded.OutputFull) last = refl
-same_reported (Some (decoded.Malformed a b)) last = refl
+-- what a settled answer says of the one before
+record IsSettled (a b : Option DecoderResult) (last : Bool) : Type 0 where
+  pub reported : reported b ≡ reported a
+  pub none : b ≡ None → a ≡ None
+  pub malformed : (m n : ℕ) → b ≡ Some (decoded.Malformed m n) → a ≡ Some (decoded.Malformed m n)
+  pub more : is_last_text a last ≡ false → is_last_text b true ≡ false
+  pub end : is_last_text a last ≡ true → b ≡ Some decoded.InputEmpty
+
+settles : (a : Option DecoderResult) (last : Bool) → IsSettled a (settled a last) last
+settles None last = record { reported = refl; none = λ e. refl; malformed = λ m n e. absurd (cc); more = λ e. refl; end = λ e. absurd (cc) }
+settles (Some decoded.InputEmpty) true = record { reported = refl; none = λ e. absurd (cc); malformed = λ m n e. absurd (cc); more = λ e. absurd (cc); end = λ e. refl }
+settles (Some decoded.InputEmpty) false = record { reported = refl; none = λ e. absurd (cc); malformed = λ m n e. absurd (cc); more = λ e. refl; end = λ e. absurd (cc) }
+settles (Some decoded.OutputFull) last = record { reported = refl; none = λ e. absurd (cc); malformed = λ m n e. absurd (cc); more = λ e. refl; end = λ e. absurd (cc) }
+settles (Some (decoded.Malformed a b)) last = record { reported = refl; none = λ e. absurd (cc); malformed = λ m n e. e; more = λ e. refl; end = λ e. absurd (cc) }
 
 -- an engine after a call
 abbrev pub after_call : Standing → Bool → Standing
 after_call c last = record { state = c.state; answer = settled c.answer last; text = c.text }
 
 pub view_after : (j : Job) (c : Standing) (last e o : Bool) → view_at j (after_call c last) e o ≡ view_at j c e o
-view_after j c last e o = ap (λ (ps : List Piece). record { job = j; state = c.state; waiting = pieces_of_text c.text ++ ps; ended = e; over = o }) (same_reported c.answer last)
+view_after j c last e o = ap (λ (ps : List Piece). record { job = j; state = c.state; waiting = pieces_of_text c.text ++ ps; ended = e; over = o }) (settles c.answer last).reported
 
-sound_after : (c : Standing) (last : Bool) → AreCountedSoundly c → AreCountedSoundly (after_call c last)
-sound_after c last h = record { index = omega (arith, h.index, ap (λ ps. sizes (pieces_of_text c.text ++ ps)) (same_reported c.answer last)); bad = h.bad; lost = h.lost }
-
-never_ends : (a : Option DecoderResult) (last : Bool) → is_last_text a last ≡ false → is_last_text (settled a last) true ≡ false
-never_ends None last e = refl
-never_ends (Some decoded.InputEmpty) true e = absurd (cc)
-never_ends (Some decoded.InputEmpty) false e = refl
-never_ends (Some decoded.OutputFull) last e = refl
-never_ends (Some (decoded.Malformed a b)) last e = refl
-
-none_before : (a : Option DecoderResult) (last : Bool) → settled a last ≡ None → a ≡ None
-none_before None last e = refl
-none_before (Some decoded.InputEmpty) true e = absurd (cc)
-none_before (Some decoded.InputEmpty) false e = absurd (cc)
-none_before (Some decoded.OutputFull) last e = absurd (cc)
-none_before (Some (decoded.Malformed a b)) last e = absurd (cc)
-
-malformed_before : (o : Option DecoderResult) (last : Bool) (a b : ℕ) → settled o last ≡ Some (decoded.Malformed a b) → o ≡ Some (decoded.Malformed a b)
-malformed_before None last a b e = absurd (cc)
-malformed_before (Some decoded.InputEmpty) true a b e = absurd (cc)
-malformed_before (Some decoded.InputEmpty) false a b e = absurd (cc)
-malformed_before (Some decoded.OutputFull) last a b e = absurd (cc)
-malformed_before (Some (decoded.Malformed c d)) last a b e = e
-
-end_after : (a : Option DecoderResult) (last : Bool) → is_last_text a last ≡ true → settled a last ≡ Some decoded.InputEmpty
-end_after None last e = absurd (cc)
-end_after (Some decoded.InputEmpty) true e = refl
-end_after (Some decoded.InputEmpty) false e = absurd (cc)
-end_after (Some decoded.OutputFull) last e = absurd (cc)
-end_after (Some (decoded.Malformed a b)) last e = absurd (cc)
-
--- what a call may go on with, by how the decoder's call ended
-none_open : (o : Option DecoderResult) (c : Standing) (x : List ℕ) (last : Bool) → o ≡ None → IsOpenFor o c x last → c.text ≡ []
-none_open None c x last e h = h.0
-none_open (Some a) c x last e h = absurd (cc)
-
-malformed_open : (o : Option DecoderResult) (c : Standing) (x : List ℕ) (last : Bool) (a b : ℕ) → o ≡ Some (decoded.Malformed a b) → IsOpenFor o c x last → (1 ≤ a) × (a ≤ 4) × (c.state.decoder.pending ≡ b)
-malformed_open o c x last a b e h = let found = subst (λ z. IsOpenFor z c x last) e h in (found.1, found.2, found.3)
-
+-- what a call may go on with
 finished_open : (o : Option DecoderResult) (c : Standing) (x : List ℕ) (last : Bool) → IsOpenFor o c x last → c.state.finished ≡ is_last_text o last
 finished_open None c x last h = h.1
 finished_open (Some decoded.InputEmpty) c x last h = h.1
 finished_open (Some decoded.OutputFull) c x last h = h
 finished_open (Some (decoded.Malformed a b)) c x last h = h.0
 
-end_open : (o : Option DecoderResult) (c : Standing) (x : List ℕ) (last : Bool) → is_last_text o last ≡ true → IsOpenFor o c x last
-    → (o ≡ Some decoded.InputEmpty) × (c.state.decoder.pending ≡ 0) × (length (c.state.decoder.pieces []) ≡ 0) × (last ≡ true) × (x ≡ [])
-end_open None c x last e h = absurd (cc)
-end_open (Some decoded.OutputFull) c x last e h = absurd (cc)
-end_open (Some (decoded.Malformed a b)) c x last e h = absurd (cc)
-end_open (Some decoded.InputEmpty) c x last e h = (refl, (h.3 e).0, ap length (h.3 e).1, e, h.0)
-
 pub rests_after : (c : Standing) (x : List ℕ) (last : Bool) → CanGoOn c x last → IsBetweenCalls (after_call c last) (is_last_text c.answer last)
-rests_after c x last h = record {
-  sound = sound_after c last h.sound;
-  tells = h.tells;
-  finished = finished_open c.answer c x last h.open_;
-  none = λ e. none_open c.answer c x last (none_before c.answer last e) h.open_;
-  malformed = λ a b e. malformed_open c.answer c x last a b (malformed_before c.answer last a b e) h.open_;
-  end = λ e. let is = end_open c.answer c x last e h.open_ in (end_after c.answer last e, is.1, is.2);
-  more = never_ends c.answer last;
-}
+rests_after c x last h =
+    let k = settles c.answer last in
+    let sound = h.sound in
+    record {
+      sound = record { index = omega (arith, sound.index, ap (λ ps. sizes (pieces_of_text c.text ++ ps)) k.reported); bad = sound.bad; lost = sound.lost };
+      tells = h.tells;
+      finished = finished_open c.answer c x last h.open_;
+      none = λ e. (none_open c x last c.answer (k.none e) h.open_).0;
+      malformed = λ a b e. let o = rw (k.malformed a b e) at h.open_ in (o.1, o.2, o.3);
+      end = λ e. let is = end_open c.answer c x last e h.open_ in (k.end e, is.pending, ap length is.none);
+      more = k.more;
+    }
 
 -- ---- how a call ends
 
 pub ended_with : (c : Standing) (x : List ℕ) (last : Bool) (free : ℕ) (result : ConverterResult) → ConvertEndsWith c x last free result → is_last_text c.answer last ≡ true → (last ≡ true) × (x ≡ [])
 ended_with c x last free InputEmpty h e = absurd (cc (sym e ∙ ap (λ a. is_last_text a last) h.1))
-ended_with c x last free OutputFull h e = let end = end_open c.answer c x last e h.1.open_ in (end.3, end.4)
-ended_with c x last free (Found line) h e = let end = end_open c.answer c x last e h.1.open_ in (end.3, end.4)
+ended_with c x last free OutputFull h e = let end = end_open c.answer c x last e h.1.open_ in (end.last, end.read)
+ended_with c x last free (Found line) h e = let end = end_open c.answer c x last e h.1.open_ in (end.last, end.read)
 
 -- the law of a converter's call, by that of its engine
 pub part_of : (j : Job) (c c' : Standing) (e o e' o' last : Bool) (bytes rest : List ℕ) (items : List Item) (m l free : ℕ) (result : ConverterResult) → TakesTurns c c' last bytes rest items m l → ConvertEndsWith c' rest last free result → e' ≡ is_last_text c'.answer last
     → ConvertsPart (view_at j c e o) (view_at j (after_call c' last) e' o') last bytes rest items
-part_of j c c' e o e' o' last bytes rest items m l free result t ends is = subst (λ v. ConvertsPart (view_at j c e o) v last bytes rest items) (sym (view_after j c' last e' o')) (record {
+part_of j c c' e o e' o' last bytes rest items m l free result t ends is = rw (view_after j c' last e' o') (record {
   job = refl;
   owed = t.owes;
   verdict = t.verdict;
@@ -167,14 +125,6 @@ part_of j c c' e o e' o' last bytes rest items m l free result t ends is = subst
   lines = t.lines;
   ended = λ end. ended_with c' rest last free result ends (sym is ∙ end);
 })
-
-and_true : (t : Bool) → (t && true) ≡ t
-and_true true = refl
-and_true false = refl
-
-and_false : (t : Bool) → (t && false) ≡ false
-and_false true = refl
-and_false false = refl
 
 none_waits : (c : Standing) → c.answer ≡ None → c.text ≡ [] → waiting c ≡ []
 none_waits c none empty = rw (none, empty) refl
@@ -187,33 +137,27 @@ ends_in j c x last free InputEmpty h = record {
   all = h.0;
   none = none_waits c h.1 h.2;
   settled = h.3.settled;
-  over = and_true last;
+  over = and-true last;
   ended = ap (λ a. is_last_text a last) h.1;
   whole = λ e. record { written = rw (none_waits c h.1 h.2) (none_owed c.state (h.3.end e)); told = rw (none_waits c h.1 h.2) (h.3.told e) };
 }
-ends_in j c x last free OutputFull h = (h.0, and_false last)
-ends_in j c x last free (Found line) h = (h.0, and_false last)
+ends_in j c x last free OutputFull h = (h.0, and-false last)
+ends_in j c x last free (Found line) h = (h.0, and-false last)
 
 pub ends_of : (j : Job) (c : Standing) (x : List ℕ) (last : Bool) (free : ℕ) (result : ConverterResult) (e o : Bool) → ConvertEndsWith c x last free result → e ≡ is_last_text c.answer last → o ≡ (last && is_all_converted result)
     → ConverterEndsWith (view_at j (after_call c last) e o) x last free result
 ends_of j c x last free result e o h is all =
-    subst (λ v. ConverterEndsWith v x last free result) (sym (view_after j c last e o))
-    (subst (λ (e : Bool). ConverterEndsWith (view_at j c e o) x last free result) (sym is)
-    (subst (λ (o : Bool). ConverterEndsWith (view_at j c (is_last_text c.answer last) o) x last free result) (sym all) (ends_in j c x last free result h)))
-
-open_last : (last : Bool) → (last && true) ≡ false → last ≡ false
-open_last true e = absurd (cc)
-open_last false e = refl
+    rw (view_after j c last e o, is, all) (ends_in j c x last free result h)
 
 goes_on : (c : Standing) (x : List ℕ) (last : Bool) (free : ℕ) (result : ConverterResult) → c.state.counts.read ≤ 2 ^ 48 → ConvertEndsWith c x last free result → (last && is_all_converted result) ≡ false → CanGoOn c x last
-goes_on c x last free InputEmpty within h open_ = ready_start c x last h.1 h.2 (omega (arith, within, ap length h.0)) (h.3.ready (open_last last open_))
+goes_on c x last free InputEmpty within h open_ = ready_start c x last h.1 h.2 (omega (arith, within, ap length h.0)) (h.3.ready (sym (and-true last) ∙ open_))
 goes_on c x last free OutputFull within h open_ = h.1
 goes_on c x last free (Found line) within h open_ = h.1
 
 -- a converter rests after a call that did not end it
 pub rests_of : (c : Standing) (x : List ℕ) (last : Bool) (free : ℕ) (result : ConverterResult) (e o : Bool) → c.state.counts.read ≤ 2 ^ 48 → ConvertEndsWith c x last free result → e ≡ is_last_text c.answer last → o ≡ (last && is_all_converted result) → o ≡ false
     → IsBetweenCalls (after_call c last) e
-rests_of c x last free result e o within h is all open_ = subst (IsBetweenCalls (after_call c last)) (sym is) (rests_after c x last (goes_on c x last free result within h (sym all ∙ open_)))
+rests_of c x last free result e o within h is all open_ = rw is (rests_after c x last (goes_on c x last free result within h (sym all ∙ open_)))
 
 -- ---- the standing of an engine over the text that was kept
 pub standing_kept : {D E : Type 0} (view : D → DecoderView) (parts : E → EncoderParts) (p : Policy) (e : Engine D E) (pivot : Pivot) (text : List ℕ) → is_wide pivot ≡ false → text ≡ pivot_bytes pivot

@@ -52,30 +52,19 @@ advances_more d d1 d2 e s s1 s2 c c1 c2 p q =
 log_lines-append : (e : Coding) (offset i : ℕ) (a b : List Piece) → log_lines e offset i (a ++ b) ≡ log_lines e offset i a ++ log_lines e (offset + sizes a) (i + length (text a)) b
 log_lines-append e offset i [] b = ap (λ (n : ℕ). log_lines e n i b) (sym (add-zero offset)) ∙ ap (λ (n : ℕ). log_lines e (offset + 0) n b) (sym (add-zero i))
 log_lines-append e offset i (well_formed n cs ∷ a) b =
-    let at : offset + n + sizes a ≡ offset + (n + sizes a) = omega arith in
-    let index : i + length cs + length (text a) ≡ i + length (cs ++ text a) = omega (arith, length-append cs (text a)) in
-    ap (λ x. lost_log_lines e i cs ++ x)
-    (log_lines-append e (offset + n) (i + length cs) a b
-    ∙ ap (λ (k : ℕ). log_lines e (offset + n) (i + length cs) a ++ log_lines e k (i + length cs + length (text a)) b) at
-    ∙ ap (λ (k : ℕ). log_lines e (offset + n) (i + length cs) a ++ log_lines e (offset + (n + sizes a)) k b) index)
-    ∙ sym (append_assoc (lost_log_lines e i cs) (log_lines e (offset + n) (i + length cs) a) (log_lines e (offset + (n + sizes a)) (i + length (cs ++ text a)) b))
+    let at : offset + (n + sizes a) ≡ offset + n + sizes a = omega arith in
+    let index : i + length (cs ++ text a) ≡ i + length cs + length (text a) = omega (arith, length-append cs (text a)) in
+    rw (at, index, log_lines-append e (offset + n) (i + length cs) a b) (sym (append_assoc (lost_log_lines e i cs) (log_lines e (offset + n) (i + length cs) a) (log_lines e (offset + n + sizes a) (i + length cs + length (text a)) b)))
 log_lines-append e offset i (malformed n ∷ a) b =
-    let at : offset + n + sizes a ≡ offset + (n + sizes a) = omega arith in
-    let index : i + 1 + length (text a) ≡ i + suc (length (text a)) = omega arith in
+    let at : offset + (n + sizes a) ≡ offset + n + sizes a = omega arith in
+    let index : i + suc (length (text a)) ≡ i + 1 + length (text a) = omega arith in
     let lost : List LogLine = lost_log_lines e i (0xFFFD ∷ []) in
-    ap (λ x. Bad offset n ∷ (lost ++ x))
-    (log_lines-append e (offset + n) (i + 1) a b
-    ∙ ap (λ (k : ℕ). log_lines e (offset + n) (i + 1) a ++ log_lines e k (i + 1 + length (text a)) b) at
-    ∙ ap (λ (k : ℕ). log_lines e (offset + n) (i + 1) a ++ log_lines e (offset + (n + sizes a)) k b) index)
-    ∙ ap (λ x. Bad offset n ∷ x) (sym (append_assoc lost (log_lines e (offset + n) (i + 1) a) (log_lines e (offset + (n + sizes a)) (i + suc (length (text a))) b)))
+    rw (at, index, log_lines-append e (offset + n) (i + 1) a b) (ap (λ x. Bad offset n ∷ x) (sym (append_assoc lost (log_lines e (offset + n) (i + 1) a) (log_lines e (offset + n + sizes a) (i + 1 + length (text a)) b))))
 
 line_bytes-append : (e : Coding) (offset i offset1 i1 : ℕ) (a b : List Piece) → offset1 ≡ offset + sizes a → i1 ≡ i + length (text a)
     → flat_map line_bytes (log_lines e offset i (a ++ b)) ≡ flat_map line_bytes (log_lines e offset i a) ++ flat_map line_bytes (log_lines e offset1 i1 b)
 line_bytes-append e offset i offset1 i1 a b at index =
-    ap (flat_map line_bytes) (log_lines-append e offset i a b)
-    ∙ flat_map-append line_bytes (log_lines e offset i a) (log_lines e (offset + sizes a) (i + length (text a)) b)
-    ∙ ap (λ (k : ℕ). flat_map line_bytes (log_lines e offset i a) ++ flat_map line_bytes (log_lines e k (i + length (text a)) b)) (sym at)
-    ∙ ap (λ (k : ℕ). flat_map line_bytes (log_lines e offset i a) ++ flat_map line_bytes (log_lines e offset1 k b)) (sym index)
+    rw (at, index, log_lines-append e offset i a b) (flat_map-append line_bytes (log_lines e offset i a) (log_lines e (offset + sizes a) (i + length (text a)) b))
 
 -- What was written for pieces, while what the others stand for is still to be written.
 module _ (ref : Reference) (e : Coding) (s s1 : EscapeState) (offset i offset1 i1 : ℕ) (taken qs : List Piece) (written_items : List Item)

@@ -23,7 +23,6 @@ pub mod TwoRunLemmas
 pub mod CharacterLemmas
 pub mod PivotLemmas
 pub mod LatencyLemmas
-pub mod TextLemmas
 pub mod LoadLemmas
 pub mod TurnLemmas
 pub mod ConvertLemmas

@@ -31,24 +31,34 @@ some_there false rows flat r f h = ap is_some h
 pub loaded_there : (new : IndexLists) (kind : IndexKind) (text : List ℕ) → Loads new kind text → has new kind ≡ true
 loaded_there new kind text h = some_there (is_ranges kind) new.rows (flat_of new kind) (text_rows text) (text_list (index_size kind) text) h
 
-rows_there : (b : Bool) (rows : Option (List (ℕ × ℕ))) (flat : Option (List ℕ)) (r : List (ℕ × ℕ)) (f : List ℕ)
-    → MatchBool b (rows ≡ Some r) (flat ≡ Some f) → b ≡ true → is_some rows ≡ true
-rows_there true rows flat r f h is = ap is_some h
-rows_there false rows flat r f h is = cc
+-- the ranges are of one kind
+ranges_number : (k : IndexKind) → is_ranges k ≡ true → number k ≡ 30
+ranges_number Gb18030Ranges h = refl
+ranges_number _ h = cc
 
-kept_where : (b c : Bool) (old_rows new_rows : Option (List (ℕ × ℕ))) (old_flat new_flat : Option (List ℕ))
-    → (c ≡ false → new_rows ≡ old_rows) → (c ≡ true → is_some new_rows ≡ true) → new_flat ≡ old_flat
-    → (if b then is_some old_rows else is_some old_flat) ≡ true → (if b then is_some new_rows else is_some new_flat) ≡ true
-kept_where false c old_rows new_rows old_flat new_flat same some flat was = rw flat was
-kept_where true true old_rows new_rows old_flat new_flat same some flat was = some refl
-kept_where true false old_rows new_rows old_flat new_flat same some flat was = rw (same refl) was
+not_ranges : (k kind : IndexKind) → number k ≢ number kind → is_ranges k ≡ true → is_ranges kind ≡ false
+not_ranges k kind apart is = false_from_ne_true (is_ranges kind) (λ yes. apart (ranges_number k is ∙ sym (ranges_number kind yes)))
+
+-- the index of another kind stays as it is
+stays_by : (b c : Bool) {rows rows' : Option (List (ℕ × ℕ))} {flat flat' : Option (List ℕ)} → (b ≡ true → c ≡ false) → (c ≡ false → rows' ≡ rows) → flat' ≡ flat → MatchBool b (rows' ≡ rows) (flat' ≡ flat)
+stays_by true c one same flat = same (one refl)
+stays_by false c one same flat = flat
+
+stays : (old new : IndexLists) (kind k : IndexKind) → number k ≢ number kind → KeepsOtherKinds old new kind → MatchBool (is_ranges k) (new.rows ≡ old.rows) (flat_of new k ≡ flat_of old k)
+stays old new kind k apart keeps = stays_by (is_ranges k) (is_ranges kind) (not_ranges k kind apart) keeps.1 (keeps.0 k (λ e. apart (ap number e)))
+
+there_still : (b : Bool) (rows rows' : Option (List (ℕ × ℕ))) (flat flat' : Option (List ℕ)) → MatchBool b (rows' ≡ rows) (flat' ≡ flat) → (if b then is_some rows' else is_some flat') ≡ (if b then is_some rows else is_some flat)
+there_still true rows rows' flat flat' same = ap is_some same
+there_still false rows rows' flat flat' same = ap is_some same
+
+loaded_still : (b : Bool) (rows rows' : Option (List (ℕ × ℕ))) (flat flat' : Option (List ℕ)) (r : List (ℕ × ℕ)) (f : List ℕ) → MatchBool b (rows' ≡ rows) (flat' ≡ flat) → MatchBool b (rows ≡ Some r) (flat ≡ Some f) → MatchBool b (rows' ≡ Some r) (flat' ≡ Some f)
+loaded_still true rows rows' flat flat' r f same was = same ∙ was
+loaded_still false rows rows' flat flat' r f same was = same ∙ was
 
 pub load_keeps : (old new : IndexLists) (kind : IndexKind) (text : List ℕ) → Loads new kind text → KeepsOtherKinds old new kind → AreKept old new
 load_keeps old new kind text loads keeps k was = elim (cases_eq (number k) (number kind)) [
   | inl same ↦ rw (number-same k kind same) (loaded_there new kind text loads)
-  | inr apart ↦ kept_where (is_ranges k) (is_ranges kind) old.rows new.rows (flat_of old k) (flat_of new k) keeps.1
-      (rows_there (is_ranges kind) new.rows (flat_of new kind) (text_rows text) (text_list (index_size kind) text) loads)
-      (keeps.0 k (λ e. apart (ap number e))) was
+  | inr apart ↦ there_still (is_ranges k) _ _ _ _ (stays old new kind k apart keeps) ∙ was
 ]
 
 -- what is there stays there
@@ -77,27 +87,6 @@ unfolding load_fault
 load_met_no_fault old kind text result value Y ok h =
     no_fault (text_fault kind text) (table_fault old kind text) (ended (load_fault old kind text) result value Y ok h)
 
--- the ranges are of one kind
-ranges_number : (k : IndexKind) → is_ranges k ≡ true → number k ≡ 30
-ranges_number Gb18030Ranges h = refl
-ranges_number _ h = cc
-
--- the index of another kind stays as it is
-was_there : (b c : Bool) (old_rows new_rows : Option (List (ℕ × ℕ))) (old_flat new_flat : Option (List ℕ))
-    → (b ≡ true → c ≡ false) → (c ≡ false → new_rows ≡ old_rows) → new_flat ≡ old_flat
-    → (if b then is_some new_rows else is_some new_flat) ≡ true → (if b then is_some old_rows else is_some old_flat) ≡ true
-was_there false c old_rows new_rows old_flat new_flat one same flat now = rw (← flat) now
-was_there true c old_rows new_rows old_flat new_flat one same flat now = rw (← same (one refl)) now
-
-loaded_still : (b c : Bool) (old_rows new_rows : Option (List (ℕ × ℕ))) (old_flat new_flat : Option (List ℕ)) (r : List (ℕ × ℕ)) (f : List ℕ)
-    → (b ≡ true → c ≡ false) → (c ≡ false → new_rows ≡ old_rows) → new_flat ≡ old_flat
-    → MatchBool b (old_rows ≡ Some r) (old_flat ≡ Some f) → MatchBool b (new_rows ≡ Some r) (new_flat ≡ Some f)
-loaded_still false c old_rows new_rows old_flat new_flat r f one same flat was = flat ∙ was
-loaded_still true c old_rows new_rows old_flat new_flat r f one same flat was = same (one refl) ∙ was
-
-not_ranges : (k kind : IndexKind) → number k ≢ number kind → is_ranges k ≡ true → is_ranges kind ≡ false
-not_ranges k kind apart is = false_from_ne_true (is_ranges kind) (λ yes. apart (ranges_number k is ∙ sym (ranges_number kind yes)))
-
 map_told : (told : Option (List ℕ)) (P Q : List ℕ → Type 0) → ((text : List ℕ) → P text → Q text) → IfSome told P → IfSome told Q
 map_told None P Q f h = tt
 map_told (Some text) P Q f h = f text h
@@ -105,14 +94,10 @@ map_told (Some text) P Q f h = f text h
 other_of_file : (old new : IndexLists) (kind k : IndexKind) (told : Option (List ℕ)) → number k ≢ number kind → KeepsOtherKinds old new kind
     → (has old k ≡ true → IfSome told (IsOfText old k)) → has new k ≡ true → IfSome told (IsOfText new k)
 other_of_file old new kind k told apart keeps was now =
-    let flat : flat_of new k ≡ flat_of old k = keeps.0 k (λ e. apart (ap number e)) in
-    let one : is_ranges k ≡ true → is_ranges kind ≡ false = not_ranges k kind apart in
+    let same = stays old new kind k apart keeps in
     map_told told (IsOfText old k) (IsOfText new k)
-    (λ text of_old. record {
-      faultless = of_old.faultless;
-      loads = loaded_still (is_ranges k) (is_ranges kind) old.rows new.rows (flat_of old k) (flat_of new k) (text_rows text) (text_list (index_size k) text) one keeps.1 flat of_old.loads;
-    })
-    (was (was_there (is_ranges k) (is_ranges kind) old.rows new.rows (flat_of old k) (flat_of new k) one keeps.1 flat now))
+    (λ text of_old. record { faultless = of_old.faultless; loads = loaded_still (is_ranges k) _ _ _ _ (text_rows text) (text_list (index_size k) text) same of_old.loads })
+    (was (sym (there_still (is_ranges k) _ _ _ _ same) ∙ now))
 
 pub load_adds : (holds holds' : FileTexts) (dir : List ℕ) (old new : IndexLists) (kind : IndexKind) (text : List ℕ)
     → ((d f : List ℕ) → holds' d f ≡ holds d f) → IfSome (holds dir (file_name_of kind)) (λ t. text ≡ t) → text_fault kind text ≡ None → Loads new kind text
@@ -145,7 +130,7 @@ adds_to_none holds dir tables flats rows kind now = absurd (none_there (is_range
 pub load_adds_only : (old new : IndexLists) (kind : IndexKind) → KeepsOtherKinds old new kind → AddsOnly old new (kind ∷ [])
 load_adds_only old new kind keeps k now = elim (cases_eq (number k) (number kind)) [
   | inl same ↦ inr (0, omega arith, sym (number-same k kind same))
-  | inr apart ↦ inl (was_there (is_ranges k) (is_ranges kind) old.rows new.rows (flat_of old k) (flat_of new k) (not_ranges k kind apart) keeps.1 (keeps.0 k (λ e. apart (ap number e))) now)
+  | inr apart ↦ inl (sym (there_still (is_ranges k) _ _ _ _ (stays old new kind k apart keeps)) ∙ now)
 ]
 
 -- what two calls put there

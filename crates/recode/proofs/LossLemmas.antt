@@ -47,27 +47,21 @@ losses-form i (Unmapped c) = refl
 
 losses-text : (e : Coding) (i : ℕ) (t : List ℕ) → losses (lost_log_lines e i t) ≡ lost_log_lines e i t
 losses-text e i [] = refl
-losses-text e i (c ∷ t) =
-    losses-append (form_lines i (e.form c)) (lost_log_lines e (i + 1) t) ∙ ap (λ l. l ++ losses (lost_log_lines e (i + 1) t)) (losses-form i (e.form c)) ∙ ap (λ l. form_lines i (e.form c) ++ l) (losses-text e (i + 1) t)
+losses-text e i (c ∷ t) = rw (losses-append (form_lines i (e.form c)) (lost_log_lines e (i + 1) t), losses-form i (e.form c), losses-text e (i + 1) t) refl
 
 lost_in-append : (e : Coding) (i : ℕ) (a b : List ℕ) → lost_log_lines e i (a ++ b) ≡ lost_log_lines e i a ++ lost_log_lines e (i + length a) b
 lost_in-append e i [] b = ap (λ (n : ℕ). lost_log_lines e n b) (omega arith)
 lost_in-append e i (c ∷ a) b =
-    ap (λ l. form_lines i (e.form c) ++ l) (lost_in-append e (i + 1) a b ∙ ap (λ (n : ℕ). lost_log_lines e (i + 1) a ++ lost_log_lines e n b) (omega arith))
-    ∙ sym (append_assoc (form_lines i (e.form c)) (lost_log_lines e (i + 1) a) (lost_log_lines e (i + length (c ∷ a)) b))
+    let at : i + length (c ∷ a) ≡ i + 1 + length a = omega arith in
+    rw (at, lost_in-append e (i + 1) a b) (sym (append_assoc (form_lines i (e.form c)) (lost_log_lines e (i + 1) a) (lost_log_lines e (i + 1 + length a) b)))
 
 losses-lines : (e : Coding) (offset i : ℕ) (ps : List Piece) → losses (log_lines e offset i ps) ≡ lost_log_lines e i (text ps)
 losses-lines e offset i [] = refl
 losses-lines e offset i (well_formed n cs ∷ ps) =
-    losses-append (lost_log_lines e i cs) (log_lines e (offset + n) (i + length cs) ps)
-    ∙ ap (λ l. l ++ losses (log_lines e (offset + n) (i + length cs) ps)) (losses-text e i cs)
-    ∙ ap (λ l. lost_log_lines e i cs ++ l) (losses-lines e (offset + n) (i + length cs) ps)
-    ∙ sym (lost_in-append e i cs (text ps))
+    rw (losses-append (lost_log_lines e i cs) (log_lines e (offset + n) (i + length cs) ps), losses-text e i cs, losses-lines e (offset + n) (i + length cs) ps) (sym (lost_in-append e i cs (text ps)))
 losses-lines e offset i (malformed n ∷ ps) =
     losses-append (lost_log_lines e i (0xFFFD ∷ [])) (log_lines e (offset + n) (i + 1) ps)
-    ∙ ap (λ l. l ++ losses (log_lines e (offset + n) (i + 1) ps)) (losses-text e i (0xFFFD ∷ []))
-    ∙ ap (λ l. lost_log_lines e i (0xFFFD ∷ []) ++ l) (losses-lines e (offset + n) (i + 1) ps)
-    ∙ sym (lost_in-append e i (0xFFFD ∷ []) (text ps))
+    ∙ rw (losses-text e i (0xFFFD ∷ []), losses-lines e (offset + n) (i + 1) ps) (sym (lost_in-append e i (0xFFFD ∷ []) (text ps)))
 
 first_is_left : (s : List Item) → take 1 (losses (noted s)) ≡ losses (noted (up_to_loss s))
 first_is_left [] = refl

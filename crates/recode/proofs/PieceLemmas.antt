@@ -25,15 +25,11 @@ pub input_joined : (j : Job) (x : List ℕ) → IsValidJob j → concat (piece_b
 input_joined j x v = joined (input_pieces j x) x (input_whole j x v)
 
 -- and each has the bytes of its size
-same_cons : (a b : ℕ) (k l : List ℕ) → a ≡ b → k ≡ l → a ∷ k ≡ b ∷ l
-same_cons a b k l h i = cc
-
 covers : (ps : List Piece) (x : List ℕ) → sizes ps ≤ length x → map length (piece_bytes ps x) ≡ map piece_len ps
 covers [] x h = refl
 covers (p ∷ ps) x h =
-    same_cons (length (take (piece_len p) x)) (piece_len p) (map length (piece_bytes ps (drop (piece_len p) x))) (map piece_len ps)
-    (omega (arith, h, length-take (piece_len p) x))
-    (covers ps (drop (piece_len p) x) (omega (arith, h, length-drop (piece_len p) x)))
+    let size : length (take (piece_len p) x) ≡ piece_len p = omega (arith, h, length-take (piece_len p) x) in
+    rw (size, covers ps (drop (piece_len p) x) (omega (arith, h, length-drop (piece_len p) x))) refl
 
 pub input_covers : (j : Job) (x : List ℕ) → IsValidJob j → map length (piece_bytes (input_pieces j x) x) ≡ map piece_len (input_pieces j x)
 input_covers j x v = covers (input_pieces j x) x (omega (arith, input_whole j x v))

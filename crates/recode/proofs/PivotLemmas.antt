@@ -1,5 +1,5 @@
 -- The text that a pivot holds.
-use Rattle.std.proofs.Common.{◌≡◌, ℕ, ◌+◌, ◌-◌, ◌<◌, ◌≤◌, Bool, List, [], ◌∷◌, ◌++◌, true, length, take, drop, refl, sym, ◌∙◌, ap, arith, length-append, length-drop, inl, inr, subst, false, ◌==◌, ◌↔◌, IsTrue, true≢false}
+use Rattle.std.proofs.Common.{◌≡◌, ℕ, ◌+◌, ◌-◌, ◌<◌, ◌≤◌, Bool, List, [], ◌∷◌, ◌++◌, append-nil, true, length, take, drop, refl, sym, ◌∙◌, ap, arith, length-append, length-drop, inl, inr, subst, false, ◌==◌, ◌↔◌, IsTrue, true≢false}
 use lib.Dec.{eqb}
 use lib.Utf8.{scalar}
 use Rattle.std.specs.Char.Escape.{encode_utf16}
@@ -11,7 +11,7 @@ use Rattle.std.proofs.str.Utf16.{lone_unit_char_low, lone_unit_char_high}
 use Rattle.std.specs.Cmp.Lexicographic.{pointwise}
 use Rattle.std.proofs.lemmas.Bool.{cases_lt, lt-ltb, le-ltb, and_parts, eqb-true, eq-eqb}
 use Rattle.std.proofs.lemmas.Slice.Eq.{bytes_eq-Decides}
-use Rattle.std.proofs.lemmas.List.{append_cancel_left, take_at, take_rest, take-append-drop, length-take-le, append_assoc}
+use Rattle.std.proofs.lemmas.List.{append_cancel_left, nil_from_length, take_at, take_rest, take-append-drop, length-take-le, append_assoc}
 use Rattle.std.proofs.lemmas.Str.{chars-append, chars-encodes, chars-nil, encodes-append, encodes-chars}
 use Rattle.encoding_mem.specs.Piece.{scalars}
 use Rattle.encoding_mem.specs.calls.Decoding.{DecoderState, StateLaw, EndsWith}
@@ -53,11 +53,8 @@ holds_some (Utf8 bytes) n [] h some = absurd (omega (arith, length-take-le n byt
 holds_some (Utf16 units) n [] h some = absurd (omega (arith, length-take-le n units.now h.0, ap length h.1))
 holds_some p n (c ∷ t) h some = omega arith
 
--- the text of its UTF-8
-pub bytes_text : (t part : List ℕ) → all_scalars t ≡ true → part ≡ encode_utf8_all t → chars part ≡ t
-bytes_text t part h e = ap chars e ∙ chars-encodes t h
+-- ---- the two forms of text
 
--- the text of its UTF-16
 plain : (c : ℕ) → scalar c ≡ true → c < 0x1_0000 → (char_of c ≡ c) × (0xD800 ≤ c → c < 0xDC00 → ⊥)
 plain c is small = elim (scalar_cases c is) [
   | inl low ↦ (ap (λ o. unwrap_or o 0xFFFD) (lone_unit_char_low c low), λ h k. absurd (omega arith))
@@ -72,14 +69,51 @@ scalar_back c units is = elim (cases_lt c 0x1_0000) [
       rw (le-ltb c 0x1_0000 great) (two _ _ units ((omega arith, omega arith), (omega arith, omega arith)) ∙ ap (λ x. x ∷ utf16_lossy_chars units) (omega arith)))
 ]
 
-scalars_back : (cs : List ℕ) → all_scalars cs ≡ true → utf16_lossy_chars (encode_utf16_all cs) ≡ cs
-scalars_back [] h = no_units [] refl
-scalars_back (c ∷ cs) h =
+before_units : (cs units : List ℕ) → all_scalars cs ≡ true → utf16_lossy_chars (encode_utf16_all cs ++ units) ≡ cs ++ utf16_lossy_chars units
+before_units [] units h = refl
+before_units (c ∷ cs) units h =
     let parts = and_parts (scalar c) (all_scalars cs) h in
-    scalar_back c (encode_utf16_all cs) parts.0 ∙ ap (λ l. c ∷ l) (scalars_back cs parts.1)
+    ap utf16_lossy_chars (append_assoc (encode_utf16 c) (encode_utf16_all cs) units) ∙ scalar_back c (encode_utf16_all cs ++ units) parts.0 ∙ ap (λ l. c ∷ l) (before_units cs units parts.1)
 
-pub units_text : (t part : List ℕ) → all_scalars t ≡ true → part ≡ encode_utf16_all t → utf16_lossy_chars part ≡ t
-units_text t part h e = ap utf16_lossy_chars e ∙ scalars_back t h
+-- how characters are spelled, and how what spells them is read
+pub record IsForm (spell read : List ℕ → List ℕ) : Type 0 where
+  pub both : (a b : List ℕ) → spell (a ++ b) ≡ spell a ++ spell b
+  pub before : (cs xs : List ℕ) → all_scalars cs ≡ true → read (spell cs ++ xs) ≡ cs ++ read xs
+  pub none : read [] ≡ []
+
+pub utf8 : IsForm encode_utf8_all chars
+utf8 = record { both = encodes-append; before = λ cs xs h. chars-append (encode_utf8_all cs) xs (cs, (h, refl)) ∙ ap (λ l. l ++ chars xs) (chars-encodes cs h); none = chars-nil }
+
+pub utf16 : IsForm encode_utf16_all utf16_lossy_chars
+utf16 = record { both = encode_utf16_all-append; before = before_units; none = no_units [] refl }
+
+module _ {spell read : List ℕ → List ℕ} (form : IsForm spell read) where
+  pub text_of : (t part : List ℕ) → all_scalars t ≡ true → part ≡ spell t → read part ≡ t
+  text_of t part h e = ap read (e ∙ sym (append-nil (spell t))) ∙ form.before t [] h ∙ ap (λ l. t ++ l) form.none ∙ append-nil t
+
+  -- what spells scalars is a text
+  pub spelled : (t part : List ℕ) → all_scalars t ≡ true → part ≡ spell t → (all_scalars (read part) ≡ true) × (part ≡ spell (read part))
+  spelled t part h e = rw (text_of t part h e) (h, e)
+
+  -- it has no characters if it has no elements
+  pub empty : (x : List ℕ) (b : Bool) → b ≡ (length x == 0) → x ≡ spell (read x) → IsTrue b ↔ (read x ≡ [])
+  empty x b is whole =
+      let nothing : length (spell []) ≡ 0 = omega (arith, ap length (form.both [] []), length-append (spell []) (spell [])) in
+      (λ h. ap read (nil_from_length x (eqb-true (length x) 0 (sym is ∙ h))) ∙ form.none, λ h. is ∙ eq-eqb (length x) 0 (ap length (whole ∙ ap spell h) ∙ nothing))
+
+  -- how what follows a text is spelled
+  rest_spelled : (x p r cp d : List ℕ) → x ≡ spell (read x) → p ≡ spell cp → x ≡ p ++ r → read x ≡ cp ++ d → r ≡ spell d
+  rest_spelled x p r cp d whole start cut parts = append_cancel_left (spell cp) r (spell d) (ap (λ l. l ++ r) (sym start) ∙ sym cut ∙ whole ∙ ap spell parts ∙ form.both cp d)
+
+  -- What is left after a text with which another begins: how both are spelled says how it is.
+  pub left_behind : (x p r : List ℕ) → all_scalars (read x) ≡ true → x ≡ spell (read x) → all_scalars (read p) ≡ true → p ≡ spell (read p) → x ≡ p ++ r → (read x ≡ read p ++ read r) × (all_scalars (read r) ≡ true) × (r ≡ spell (read r))
+  left_behind x p r are whole starts start cut =
+      let parts : read x ≡ read p ++ read r = ap read (cut ∙ ap (λ l. l ++ r) start) ∙ form.before (read p) r starts in
+      (parts, (scalars_parts (read p) (read r) (rw parts at are)).1, rest_spelled x p r (read p) (read r) whole start cut parts)
+
+  -- If its characters begin with another's, so does what it is spelled with.
+  pub begins_spelled : (x p more : List ℕ) → x ≡ spell (read x) → p ≡ spell (read p) → read x ≡ read p ++ more → x ≡ p ++ spell more
+  begins_spelled x p more whole start is = whole ∙ ap spell is ∙ form.both (read p) more ∙ ap (λ l. l ++ spell more) (sym start)
 
 -- the characters of a prefix that was read, and of the rest
 pub bytes_passed : (text prefix back : List ℕ) (n m : ℕ) → IsUtf8 prefix → m ≡ length (chars prefix) → prefix ≡ take n text → back ≡ drop n text → m + length (chars back) ≡ length (chars text)
@@ -94,40 +128,6 @@ units_passed units prefix n m is e =
     omega (arith, e, ap length is, length-append prefix (utf16_lossy_chars (drop n units)), ap length (reads_text units prefix n is), ap (λ x. length (utf16_lossy_chars x)) (take_rest units n))
 
 -- ---- a text that is cut
-
-left_spelled : (enc : List ℕ → List ℕ) (x p r t cp d : List ℕ) → ((a b : List ℕ) → enc (a ++ b) ≡ enc a ++ enc b) → x ≡ enc t → p ≡ enc cp → x ≡ p ++ r → t ≡ cp ++ d → r ≡ enc d
-left_spelled enc x p r t cp d both whole start cut parts =
-    append_cancel_left (enc cp) r (enc d) (ap (λ l. l ++ r) (sym start) ∙ sym cut ∙ whole ∙ ap enc parts ∙ both cp d)
-
-before_units : (cs units : List ℕ) → all_scalars cs ≡ true → utf16_lossy_chars (encode_utf16_all cs ++ units) ≡ cs ++ utf16_lossy_chars units
-before_units [] units h = refl
-before_units (c ∷ cs) units h =
-    let parts = and_parts (scalar c) (all_scalars cs) h in
-    ap utf16_lossy_chars (append_assoc (encode_utf16 c) (encode_utf16_all cs) units) ∙ scalar_back c (encode_utf16_all cs ++ units) parts.0 ∙ ap (λ l. c ∷ l) (before_units cs units parts.1)
-
--- What is left after a text with which another begins: how both are spelled says how it is.
-pub bytes_left : (x p r : List ℕ) → all_scalars (chars x) ≡ true → x ≡ encode_utf8_all (chars x) → all_scalars (chars p) ≡ true → p ≡ encode_utf8_all (chars p) → IsUtf8 p → x ≡ p ++ r
-    → (chars x ≡ chars p ++ chars r) × (all_scalars (chars r) ≡ true) × (r ≡ encode_utf8_all (chars r))
-bytes_left x p r are whole starts start text cut =
-    let parts : chars x ≡ chars p ++ chars r = ap chars cut ∙ chars-append p r text in (
-      parts,
-      (scalars_parts (chars p) (chars r) (subst (λ l. all_scalars l ≡ true) parts are)).1,
-      left_spelled encode_utf8_all x p r (chars x) (chars p) (chars r) encodes-append whole start cut parts,
-    )
-
-pub units_left : (x p r : List ℕ) → all_scalars (utf16_lossy_chars x) ≡ true → x ≡ encode_utf16_all (utf16_lossy_chars x) → all_scalars (utf16_lossy_chars p) ≡ true → p ≡ encode_utf16_all (utf16_lossy_chars p) → x ≡ p ++ r
-    → (utf16_lossy_chars x ≡ utf16_lossy_chars p ++ utf16_lossy_chars r) × (all_scalars (utf16_lossy_chars r) ≡ true) × (r ≡ encode_utf16_all (utf16_lossy_chars r))
-units_left x p r are whole starts start cut =
-    let parts : utf16_lossy_chars x ≡ utf16_lossy_chars p ++ utf16_lossy_chars r =
-    ap utf16_lossy_chars (cut ∙ ap (λ l. l ++ r) start) ∙ before_units (utf16_lossy_chars p) r starts in (
-      parts,
-      (scalars_parts (utf16_lossy_chars p) (utf16_lossy_chars r) (subst (λ l. all_scalars l ≡ true) parts are)).1,
-      left_spelled encode_utf16_all x p r (utf16_lossy_chars x) (utf16_lossy_chars p) (utf16_lossy_chars r) encode_utf16_all-append whole start cut parts,
-    )
-
--- If its characters begin with another's, so does what it is spelled with.
-pub begins_spelled : (enc : List ℕ → List ℕ) (x p t cp more : List ℕ) → ((a b : List ℕ) → enc (a ++ b) ≡ enc a ++ enc b) → x ≡ enc t → p ≡ enc cp → t ≡ cp ++ more → x ≡ p ++ enc more
-begins_spelled enc x p t cp more both whole start is = whole ∙ ap enc is ∙ both cp more ∙ ap (λ l. l ++ enc more) (sym start)
 
 -- units are no more than what their characters are spelled with, so a text that is cut between characters is cut into two
 encode_some : (c : ℕ) → 1 ≤ length (encode_utf16 c)
@@ -166,31 +166,7 @@ units_cut x a b are whole cut parts =
 pub bytes_cut : (x a b : List ℕ) → IsUtf8 a → x ≡ encode_utf8_all (chars x) → x ≡ a ++ b → a ≡ encode_utf8_all (chars a) → (chars x ≡ chars a ++ chars b) × (b ≡ encode_utf8_all (chars b))
 bytes_cut x a b text whole cut start =
     let parts : chars x ≡ chars a ++ chars b = ap chars cut ∙ chars-append a b text in
-    (parts, left_spelled encode_utf8_all x a b (chars x) (chars a) (chars b) encodes-append whole start cut parts)
-
--- what a pivot holds is a text
-pub text_of_bytes : (t part : List ℕ) → all_scalars t ≡ true → part ≡ encode_utf8_all t → (all_scalars (chars part) ≡ true) × (part ≡ encode_utf8_all (chars part))
-text_of_bytes t part h e =
-    let is = bytes_text t part h e in
-    (subst (λ l. all_scalars l ≡ true) (sym is) h, e ∙ ap encode_utf8_all (sym is))
-
-pub text_of_units : (t part : List ℕ) → all_scalars t ≡ true → part ≡ encode_utf16_all t → (all_scalars (utf16_lossy_chars part) ≡ true) × (part ≡ encode_utf16_all (utf16_lossy_chars part))
-text_of_units t part h e =
-    let is = units_text t part h e in
-    (subst (λ l. all_scalars l ≡ true) (sym is) h, e ∙ ap encode_utf16_all (sym is))
-
--- it has no characters if it has no elements
-bytes_none : (x : List ℕ) → length x ≡ 0 → chars x ≡ []
-bytes_none [] h = chars-nil
-bytes_none (b ∷ x) h = absurd (omega (arith, h))
-
-pub bytes_empty : (x : List ℕ) (b : Bool) → b ≡ (length x == 0) → x ≡ encode_utf8_all (chars x) → IsTrue b ↔ (chars x ≡ [])
-bytes_empty x b is whole =
-    (λ h. bytes_none x (eqb-true (length x) 0 (sym is ∙ h)), λ h. is ∙ eq-eqb (length x) 0 (ap length (whole ∙ ap encode_utf8_all h)))
-
-pub units_empty : (x : List ℕ) (b : Bool) → b ≡ (length x == 0) → x ≡ encode_utf16_all (utf16_lossy_chars x) → IsTrue b ↔ (utf16_lossy_chars x ≡ [])
-units_empty x b is whole =
-    (λ h. no_units x (eqb-true (length x) 0 (sym is ∙ h)), λ h. is ∙ eq-eqb (length x) 0 (ap length (whole ∙ ap encode_utf16_all h)))
+    (parts, rest_spelled utf8 x a b (chars a) (chars b) whole start cut parts)
 
 -- what `strip_prefix` of a slice returns
 pub no_start : (x p : List ℕ) → pointwise eqb (take (length p) x) p ≡ false → (rest : List ℕ) → x ≡ p ++ rest → ⊥

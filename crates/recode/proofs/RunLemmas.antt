@@ -55,26 +55,7 @@ is_report j x v w p b t same read_is malformed_is lost_is told valid within call
     let bads : p.bad ≡ malformed_count (input_pieces j x) = omega (arith, t.bad, malformed_is, b.bad, bad_line_count-trace (reference_form j.policy) e Ascii 0 0 (input_pieces j x)) in
     let losts : p.lost ≡ lost_count e (input_text j x) = omega (arith, t.lost, lost_is, b.lost, lost_line_count-trace (reference_form j.policy) e Ascii 0 0 (input_pieces j x)) in
     let read : p.read ≡ length x = omega (arith, t.read, read_is, b.read) in
-    let most : p.calls ≤ 37 * p.read + 9 = omega (
-      arith,
-      t.calls,
-      t.read,
-      calls,
-      b.calls,
-      b.index,
-      b.read,
-      b.bad,
-      b.lost,
-      read_is,
-      malformed_is,
-      lost_is,
-      sound.index,
-      sound.bad,
-      sound.lost,
-      ap length (b.owes_trace x),
-      items_split (whole_trace j x),
-      whole_within j x valid,
-    ) in
+    let most : p.calls ≤ 37 * p.read + 9 = omega (arith, t.calls, t.read, calls, b.calls, b.index, b.read, b.bad, b.lost, read_is, malformed_is, lost_is, sound.index, sound.bad, sound.lost, ap length (b.owes_trace x), items_split (whole_trace j x), whole_within j x valid) in
     record {
       read = read;
       bad = bads;

@@ -27,10 +27,9 @@ use Rattle.recode.specs.declared.job.Policy.{Policy}
 use Rattle.recode.specs.declared.writers.Writers.{Writers}
 use Rattle.recode.specs.laws.Items.{lost_line_count-bytes, spared_append, spared_nil}
 use Rattle.recode.proofs.BufferLemmas.{view_none}
-use Rattle.recode.proofs.ConvertLemmas.{as_nothing_waits}
 use Rattle.recode.proofs.HandsLemmas.{err_map, hands_start, hands_then}
 use Rattle.recode.proofs.HeldLemmas.{left_for_of}
-use Rattle.recode.proofs.TurnLemmas.{nothing_waits, turns_more, turns_start}
+use Rattle.recode.proofs.TurnLemmas.{nothing_waits, standing_is, turns_more, turns_start}
 
 -- What was passed so far, and what turns it was.
 pub record Pumps {W L : Type 0} (contents : W → Option (List ℕ)) (logged : L → Option (List ℕ)) (before after : Writers W L) (c c' : Standing) (last : Bool) (bytes rest : List ℕ) (most least : ℕ) : Type 0 where
@@ -44,7 +43,7 @@ owed_none : (s : State) (r : List ℕ) → owed (nothing_waits s) r ≡ to_write
 owed_none s r = ap (λ (n : ℕ). trace_from (reference_form s.policy) s.coding s.set (s.counts.read - n) s.counts.index (s.decoder.pieces r)) (omega arith)
 
 owed_first : (c : Standing) (r : List ℕ) → c.answer ≡ None → c.text ≡ [] → owed c r ≡ to_write c.state r
-owed_first c r none empty = ap (λ (z : Standing). owed z r) (as_nothing_waits c none empty) ∙ owed_none c.state r
+owed_first c r none empty = ap (λ (z : Standing). owed z r) (standing_is c none empty) ∙ owed_none c.state r
 
 pub spared_only : (p : Policy) (bytes : List ℕ) → IsSpared p (map Byte bytes)
 spared_only p bytes = λ stops. lost_line_count-bytes bytes
@@ -66,15 +65,7 @@ module _ {W L : Type 0} {contents : W → Option (List ℕ)} {logged : L → Opt
   pub pumps_more : {w1 w2 : Writers W L} {c1 c2 : Standing} {y z : List ℕ} {items : List Item} {m l : ℕ} → Pumps contents logged w0 w1 c0 c1 last x y 0 0 → HandsOn {T = Unit {0}} contents logged w1 w2 items (Ok tt)
       → IsSpared w0.policy items → TakesTurns c1 c2 last y z items m l → Pumps contents logged w0 w2 c0 c2 last x z m l
   pumps_more {w1} {w2} {c1} {c2} {y} {z} {items} {m} {l} h k spared t =
-      let most : 0 + m ≡ m = omega arith in
-      let least : 0 + l ≡ l = omega arith in
-      record {
-        items = h.items ++ items;
-        hands = hands_then h.spared h.hands k;
-        spared = spared_append w0.policy h.items items h.spared spared;
-        turns = subst (λ (n : ℕ). TakesTurns c0 c2 last x z (h.items ++ items) n l) most
-            (subst (λ (n : ℕ). TakesTurns c0 c2 last x z (h.items ++ items) (0 + m) n) least (turns_more c0 c1 c2 last x y z h.items items 0 m 0 l h.turns t));
-      }
+      record { items = h.items ++ items; hands = hands_then h.spared h.hands k; spared = spared_append w0.policy h.items items h.spared spared; turns = turns_more m l (omega arith) (omega arith) h.turns t }
 
   -- the same, if nothing was found
   pub pumps_bytes : {w1 w2 : Writers W L} {c1 c2 : Standing} {y z : List ℕ} {m l : ℕ} (bytes : List ℕ) → Pumps contents logged w0 w1 c0 c1 last x y 0 0 → HandsOn {T = Unit {0}} contents logged w1 w2 (map Byte bytes) (Ok tt)
@@ -112,8 +103,8 @@ module _ {W L : Type 0} {contents : W → Option (List ℕ)} {logged : L → Opt
   pumps_done {r = Err f} none empty none' empty' is nothing done h k after = tt
   pumps_done {T} {w1} {w2} {c1} {r = Ok u} none empty none' empty' is nothing done h k after =
       let t : TakesTurns (nothing_waits c0.state) (nothing_waits c1.state) last x [] h.items 3 2 =
-      subst (λ (a : Standing). TakesTurns a (nothing_waits c1.state) last x [] h.items 3 2) (as_nothing_waits c0 none empty)
-      (subst (λ (a : Standing). TakesTurns c0 a last x [] h.items 3 2) (as_nothing_waits c1 none' empty') h.turns) in
+      subst (λ (a : Standing). TakesTurns a (nothing_waits c1.state) last x [] h.items 3 2) (standing_is c0 none empty)
+      (subst (λ (a : Standing). TakesTurns c0 a last x [] h.items 3 2) (standing_is c1 none' empty') h.turns) in
       let passes : Passes (writers_view w0) (writers_view w2) (h.items ++ []) = (hands_then h.spared h.hands k).ok in
       let all : h.items ≡ passes.delivered =
       sym (append-nil h.items) ∙ ap (λ (v : WritersView). held_items v ++ (h.items ++ [])) (sym (view_none w0 nothing)) ∙ passes.in_order
@@ -160,10 +151,10 @@ holds_none (Utf8 bytes) = record { order = omega arith; within = omega arith; sc
 holds_none (Utf16 units) = record { order = omega arith; within = omega arith; scalars = ap all_scalars (no_units [] refl); whole = sym (ap encode_utf16_all (no_units [] refl)) }
 
 pub sound_start : (c : Standing) → c.answer ≡ None → c.text ≡ [] → AreSound c.state.decoder.pending c.state.counts → AreCountedSoundly c
-sound_start c none empty h = subst AreCountedSoundly (sym (as_nothing_waits c none empty)) (record { index = omega (arith, h.index); bad = omega (arith, h.bad); lost = h.lost })
+sound_start c none empty h = subst AreCountedSoundly (sym (standing_is c none empty)) (record { index = omega (arith, h.index); bad = omega (arith, h.bad); lost = h.lost })
 
 pub ready_start : (c : Standing) (src : List ℕ) (last : Bool) → c.answer ≡ None → c.text ≡ [] → c.state.counts.read + length src ≤ 2 ^ 48 → CanConvert c.state → CanGoOn c src last
-ready_start c src last none empty limit h = subst (λ (z : Standing). CanGoOn z src last) (sym (as_nothing_waits c none empty)) (record {
+ready_start c src last none empty limit h = subst (λ (z : Standing). CanGoOn z src last) (sym (standing_is c none empty)) (record {
   sound = record { index = omega (arith, h.sound.index); bad = omega (arith, h.sound.bad); lost = h.sound.lost };
   limit = limit;
   tells = h.tells;

@@ -106,8 +106,7 @@ to_loss-append e s [] b behind = refl
 to_loss-append e s (c ∷ a) b behind = ap (λ l. e.escape s (e.set s c) ++ form_to_loss (e.form c) l) (to_loss-append e (e.set s c) a b behind)
 
 cut_bytes : (bs : List ℕ) (rest : List Item) → item_bytes (up_to_loss (map Byte bs ++ rest)) ≡ bs ++ item_bytes (up_to_loss rest)
-cut_bytes bs rest =
-    ap item_bytes (cut_spared (map Byte bs) rest (lost_line_count-bytes bs)) ∙ item_bytes-append (map Byte bs) (up_to_loss rest) ∙ ap (λ l. l ++ item_bytes (up_to_loss rest)) (item_bytes-bytes bs)
+cut_bytes bs rest = rw (cut_spared (map Byte bs) rest (lost_line_count-bytes bs), item_bytes-append (map Byte bs) (up_to_loss rest), item_bytes-bytes bs) refl
 
 cut_form : (ref : Reference) (i : ℕ) (f : Form) (rest : List Item) → item_bytes (up_to_loss (form_items ref i f ++ rest)) ≡ form_to_loss f (item_bytes (up_to_loss rest))
 cut_form ref i (Mapped bs) rest = cut_bytes bs rest
@@ -119,18 +118,14 @@ cut_open ref e s i (c ∷ t) rest =
     let escape : List ℕ = e.escape s (e.set s c) in
     let form : List Item = form_items ref i (e.form c) in
     let more : List Item = open_items ref e (e.set s c) (i + 1) t in
-    ap (λ l. item_bytes (up_to_loss l)) (append_assoc (map Byte escape) (form ++ more) rest ∙ ap (λ l. map Byte escape ++ l) (append_assoc form more rest))
-    ∙ cut_bytes escape (form ++ (more ++ rest))
-    ∙ ap (λ l. escape ++ l) (cut_form ref i (e.form c) (more ++ rest) ∙ ap (form_to_loss (e.form c)) (cut_open ref e (e.set s c) (i + 1) t rest))
+    rw (append_assoc (map Byte escape) (form ++ more) rest, append_assoc form more rest, cut_bytes escape (form ++ (more ++ rest)), cut_form ref i (e.form c) (more ++ rest), cut_open ref e (e.set s c) (i + 1) t rest) refl
 
 -- the same after the text of a piece, of which the rest is known
 cut_more : (ref : Reference) (e : Coding) (s : EscapeState) (i : ℕ) (cs t : List ℕ) (rest : List Item)
     → item_bytes (up_to_loss rest) ≡ to_loss e (last_set e s cs) t (e.escape (last_set e (last_set e s cs) t) Ascii)
     → item_bytes (up_to_loss (open_items ref e s i cs ++ rest)) ≡ to_loss e s (cs ++ t) (e.escape (last_set e s (cs ++ t)) Ascii)
 cut_more ref e s i cs t rest known =
-    cut_open ref e s i cs rest
-    ∙ ap (to_loss e s cs) (known ∙ ap (λ (q : EscapeState). to_loss e (last_set e s cs) t (e.escape q Ascii)) (sym (last_set-append e s cs t)))
-    ∙ sym (to_loss-append e s cs t (e.escape (last_set e s (cs ++ t)) Ascii))
+    rw (last_set-append e s cs t) (cut_open ref e s i cs rest ∙ ap (to_loss e s cs) known ∙ sym (to_loss-append e s cs t (e.escape (last_set e (last_set e s cs) t) Ascii)))
 
 cut_trace : (ref : Reference) (e : Coding) (s : EscapeState) (offset i : ℕ) (ps : List Piece) → item_bytes (up_to_loss (trace_from ref e s offset i ps)) ≡ to_loss e s (text ps) (e.escape (last_set e s (text ps)) Ascii)
 cut_trace ref e s offset i [] =
@@ -151,9 +146,7 @@ at_loss e s (d ∷ before) c m rest behind h is =
     let escape : List ℕ = e.escape s (e.set s d) in
     let own : List ℕ = bytes_from e (e.set s d) before in
     let last : List ℕ = e.escape (last_set e (e.set s d) before) (e.set (last_set e (e.set s d) before) c) in
-    ap (λ l. escape ++ l)
-    (mapped_to_loss (e.form d) (to_loss e (e.set s d) (before ++ c ∷ rest) behind) h.0 ∙ ap (λ l. mapped_bytes (e.form d) ++ l) (at_loss e (e.set s d) before c m rest behind h.1 is) ∙ sym (append_assoc (mapped_bytes (e.form d)) own last))
-    ∙ sym (append_assoc escape (mapped_bytes (e.form d) ++ own) last)
+    rw (mapped_to_loss (e.form d) (to_loss e (e.set s d) (before ++ c ∷ rest) behind) h.0, at_loss e (e.set s d) before c m rest behind h.1 is, append_assoc escape (mapped_bytes (e.form d) ++ own) last, append_assoc (mapped_bytes (e.form d)) own last) refl
 
 -- the first character without bytes
 pub first_unmapped : (e : Coding) (t : List ℕ) → AllMapped e t ⊎ ((before : List ℕ) × (c : ℕ) × (m : ℕ) × (rest : List ℕ) × (t ≡ before ++ c ∷ rest) × AllMapped e before × (e.form c ≡ Unmapped m))

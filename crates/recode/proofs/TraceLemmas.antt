@@ -4,7 +4,7 @@ use Rattle.std.proofs.Common.{arith, inl, inr, ◌⊎◌, ◌<◌, ◌+◌, Resu
 use Rattle.std.proofs.lemmas.List.{map-append}
 use Rattle.recode.proofs.GrowLemmas.{Grew-nil, Grew-trans}
 use Rattle.encoding_mem.specs.declared.reference.Reference.{Reference}
-use Rattle.encoding_mem.specs.Items.{Item, Byte, MalformedAt, LostAt, whole_items, closing, item_bytes, open_items, form_items, trace_from}
+use Rattle.encoding_mem.specs.Items.{Item, Byte, MalformedAt, LostAt, item_bytes, open_items, form_items, trace_from}
 use Rattle.recode_log.specs.Line.{line_bytes}
 use Rattle.recode.specs.laws.Items.{output_bytes-append, log_bytes-append, output_bytes-bytes, log_bytes-bytes, output_bytes-lines, log_bytes-lines, tagged-append, lost_line_count-append, written_spared, spared_nil, spared_bytes}
 use Rattle.recode.specs.Devices.{Grew, Written}
@@ -14,7 +14,7 @@ use Rattle.recode.specs.WrittenItems.{WritesPrefix, WritesItemsFor, WritesPrefix
 use Rattle.recode.specs.declared.job.Fault.{Fault}
 use Rattle.recode.specs.declared.job.Fault.TheVariants.{Read, Write, Log, TooLong, Unmappable}
 use Rattle.recode.specs.declared.job.Policy.{Policy}
-use Rattle.encoding_mem.specs.Coding.{Coding, IsCoding, open_from, whole_from, last_set, reference_bytes, AllMapped, IsMapped}
+use Rattle.encoding_mem.specs.Coding.{Coding, open_from, whole_from, last_set, reference_bytes, AllMapped, IsMapped}
 use Rattle.encoding_mem.specs.declared.form.EscapeState.{EscapeState}
 use Rattle.encoding_mem.specs.declared.form.EscapeState.TheVariants.{Ascii}
 use Rattle.recode.specs.declared.counts.Counts.{Counts}
@@ -114,9 +114,6 @@ left_front p f taken total rest a e k =
       stopped = stop_is p f taken _ _ (sym is) (stop_front p f taken total rest k.stopped);
     }
 
-pub left_is : (p : Policy) (f : Fault) (taken : List TaggedByte) (a a' : List Item) → a' ≡ a → IsLeft p f taken a → IsLeft p f taken a'
-left_is p f taken a a' e k = subst (IsLeft p f taken) (sym e) k
-
 -- if the fault is a writer's
 none_stopped : (p : Policy) (f : Fault) (taken : List TaggedByte) (written : List Item) → (f ≡ Write) ⊎ (f ≡ Log) → IsStop p f taken written
 none_stopped p f taken written (inl is) = subst (λ (g : Fault). IsStop p g taken written) (sym is) tt
@@ -168,14 +165,6 @@ pub handed_on : {T : Type 0} (P : Fault → Type 0) (r : Result T Fault) (e : Fa
 handed_on P (Ok x) e same h = tt
 handed_on P (Err x) e same h = subst P (sym same) h
 
--- after the last escape nothing is left to write for an empty text
-closed_nil : (ref : Reference) (need : ℕ) (e : Coding) (last : Bool) (s : EscapeState) (i : ℕ) → IsCoding need e → (last ≡ true → s ≡ Ascii) → whole_items ref e last s i [] ≡ []
-closed_nil _ need e true s i k h = ap (closing e) (h refl) ∙ ap (map Byte) (k.same Ascii)
-closed_nil _ need e false s i k h = refl
-
-pub whole_end : (ref : Reference) {need : ℕ} (e : Coding) (last : Bool) (s : EscapeState) (i : ℕ) (t : List ℕ) → IsCoding need e → t ≡ [] → (last ≡ true → s ≡ Ascii) → whole_items ref e last s i t ≡ []
-whole_end ref {need} e last s i t k none h = ap (whole_items ref e last s i) none ∙ closed_nil ref need e last s i k h
-
 -- For every continuation.
 pub WritesPrefixFor-of : (w w' : Written) (p : Policy) (f : Fault) (last : Bool) (total : List Item) (a : List ℕ → List Item) → WritesPrefix w w' p f total
     → ((r : List ℕ) → (last ≡ true → r ≡ []) → (rest : List Item) × (a r ≡ total ++ rest)) → WritesPrefixFor w w' p f last a
@@ -194,29 +183,21 @@ WritesItemsFor-start w x p last a = record { written_items = []; wrote = Wrote-n
 pub output_bytes-tagged : (t : List Item) → output_bytes (tagged t) ≡ item_bytes t
 output_bytes-tagged [] = refl
 output_bytes-tagged (Byte b ∷ t) = ap (λ x. b ∷ x) (output_bytes-tagged t)
-output_bytes-tagged (MalformedAt offset size ∷ t) =
-    output_bytes-append (map Line (line_bytes (LogLine.Bad offset size))) (tagged t) ∙ ap (λ x. x ++ output_bytes (tagged t)) (output_bytes-lines (line_bytes (LogLine.Bad offset size))) ∙ output_bytes-tagged t
-output_bytes-tagged (LostAt index scalar ∷ t) =
-    output_bytes-append (map Line (line_bytes (LogLine.Lost index scalar))) (tagged t) ∙ ap (λ x. x ++ output_bytes (tagged t)) (output_bytes-lines (line_bytes (LogLine.Lost index scalar))) ∙ output_bytes-tagged t
+output_bytes-tagged (MalformedAt offset size ∷ t) = rw (output_bytes-append (map Line (line_bytes (LogLine.Bad offset size))) (tagged t), output_bytes-lines (line_bytes (LogLine.Bad offset size))) (output_bytes-tagged t)
+output_bytes-tagged (LostAt index scalar ∷ t) = rw (output_bytes-append (map Line (line_bytes (LogLine.Lost index scalar))) (tagged t), output_bytes-lines (line_bytes (LogLine.Lost index scalar))) (output_bytes-tagged t)
 
 pub whole_from-append : (ref : Reference) (e : Coding) (s : EscapeState) (a b : List ℕ) → whole_from ref e s (a ++ b) ≡ open_from ref e s a ++ whole_from ref e (last_set e s a) b
-whole_from-append ref e s a b =
-    ap (λ x. x ++ e.escape (last_set e s (a ++ b)) Ascii) (open_from-append ref e s a b)
-    ∙ ap (λ q. (open_from ref e s a ++ open_from ref e (last_set e s a) b) ++ e.escape q Ascii) (last_set-append e s a b)
-    ∙ append_assoc (open_from ref e s a) (open_from ref e (last_set e s a) b) (e.escape (last_set e (last_set e s a) b) Ascii)
+whole_from-append ref e s a b = rw (open_from-append ref e s a b, last_set-append e s a b) (append_assoc (open_from ref e s a) (open_from ref e (last_set e s a) b) (e.escape (last_set e (last_set e s a) b) Ascii))
 
 item_bytes-trace : (ref : Reference) (e : Coding) (s : EscapeState) (offset i : ℕ) (ps : List Piece) → item_bytes (trace_from ref e s offset i ps) ≡ whole_from ref e s (text ps)
 item_bytes-trace ref e s offset i [] = item_bytes-bytes (e.escape s Ascii)
 item_bytes-trace ref e s offset i (well_formed n cs ∷ ps) =
-    item_bytes-append (open_items ref e s i cs) (trace_from ref e (last_set e s cs) (offset + n) (i + length cs) ps)
-    ∙ ap (λ x. x ++ item_bytes (trace_from ref e (last_set e s cs) (offset + n) (i + length cs) ps)) (item_bytes-open_items ref e s i cs)
-    ∙ ap (λ x. open_from ref e s cs ++ x) (item_bytes-trace ref e (last_set e s cs) (offset + n) (i + length cs) ps)
-    ∙ sym (whole_from-append ref e s cs (text ps))
+    let rest = trace_from ref e (last_set e s cs) (offset + n) (i + length cs) ps in
+    rw (item_bytes-append (open_items ref e s i cs) rest, item_bytes-open_items ref e s i cs, item_bytes-trace ref e (last_set e s cs) (offset + n) (i + length cs) ps) (sym (whole_from-append ref e s cs (text ps)))
 item_bytes-trace ref e s offset i (malformed n ∷ ps) =
-    item_bytes-append (open_items ref e s i (0xFFFD ∷ [])) (trace_from ref e (e.set s 0xFFFD) (offset + n) (i + 1) ps)
-    ∙ ap (λ x. x ++ item_bytes (trace_from ref e (e.set s 0xFFFD) (offset + n) (i + 1) ps)) (item_bytes-open_items ref e s i (0xFFFD ∷ []))
-    ∙ ap (λ x. open_from ref e s (0xFFFD ∷ []) ++ x) (item_bytes-trace ref e (e.set s 0xFFFD) (offset + n) (i + 1) ps)
-    ∙ sym (whole_from-append ref e s (0xFFFD ∷ []) (text ps))
+    let rest = trace_from ref e (e.set s 0xFFFD) (offset + n) (i + 1) ps in
+    item_bytes-append (open_items ref e s i (0xFFFD ∷ [])) rest
+    ∙ rw (item_bytes-open_items ref e s i (0xFFFD ∷ []), item_bytes-trace ref e (e.set s 0xFFFD) (offset + n) (i + 1) ps) (sym (whole_from-append ref e s (0xFFFD ∷ []) (text ps)))
 
 pub output_bytes-trace : (ref : Reference) (e : Coding) (s : EscapeState) (offset i : ℕ) (ps : List Piece) → output_bytes (tagged (trace_from ref e s offset i ps)) ≡ whole_from ref e s (text ps)
 output_bytes-trace ref e s offset i ps = output_bytes-tagged (trace_from ref e s offset i ps) ∙ item_bytes-trace ref e s offset i ps
@@ -255,25 +236,14 @@ noted-open : (ref : Reference) (e : Coding) (s : EscapeState) (i : ℕ) (t : Lis
 noted-open ref e s i [] = refl
 noted-open ref e s i (c ∷ t) =
     let rest : List Item = open_items ref e (e.set s c) (i + 1) t in
-    noted-append (map Byte (e.escape s (e.set s c))) (form_items ref i (e.form c) ++ rest)
-    ∙ ap (λ x. x ++ noted (form_items ref i (e.form c) ++ rest)) (noted-bytes (e.escape s (e.set s c)))
-    ∙ noted-append (form_items ref i (e.form c)) rest
-    ∙ ap (λ x. x ++ noted rest) (noted-form ref i (e.form c))
-    ∙ ap (λ x. form_lines i (e.form c) ++ x) (noted-open ref e (e.set s c) (i + 1) t)
+    rw (noted-append (map Byte (e.escape s (e.set s c))) (form_items ref i (e.form c) ++ rest), noted-bytes (e.escape s (e.set s c)), noted-append (form_items ref i (e.form c)) rest, noted-form ref i (e.form c), noted-open ref e (e.set s c) (i + 1) t) refl
 
 pub noted-trace : (ref : Reference) (e : Coding) (s : EscapeState) (offset i : ℕ) (ps : List Piece) → noted (trace_from ref e s offset i ps) ≡ log_lines e offset i ps
 noted-trace ref e s offset i [] = noted-bytes (e.escape s Ascii)
 noted-trace ref e s offset i (well_formed n cs ∷ ps) =
-    let rest : List Item = trace_from ref e (last_set e s cs) (offset + n) (i + length cs) ps in
-    noted-append (open_items ref e s i cs) rest
-    ∙ ap (λ x. x ++ noted rest) (noted-open ref e s i cs)
-    ∙ ap (λ x. lost_log_lines e i cs ++ x) (noted-trace ref e (last_set e s cs) (offset + n) (i + length cs) ps)
-noted-trace ref e s offset i (malformed n ∷ ps) =
-    let rest : List Item = trace_from ref e (e.set s 0xFFFD) (offset + n) (i + 1) ps in
-    ap (λ x. Bad offset n ∷ x)
-    (noted-append (open_items ref e s i (0xFFFD ∷ [])) rest
-    ∙ ap (λ x. x ++ noted rest) (noted-open ref e s i (0xFFFD ∷ []))
-    ∙ ap (λ x. lost_log_lines e i (0xFFFD ∷ []) ++ x) (noted-trace ref e (e.set s 0xFFFD) (offset + n) (i + 1) ps))
+    rw (noted-append (open_items ref e s i cs) (trace_from ref e (last_set e s cs) (offset + n) (i + length cs) ps), noted-open ref e s i cs, noted-trace ref e (last_set e s cs) (offset + n) (i + length cs) ps) refl
+noted-trace ref e s offset i (malformed n ∷ ps) = ap (λ x. Bad offset n ∷ x)
+    (noted-append (open_items ref e s i (0xFFFD ∷ [])) (trace_from ref e (e.set s 0xFFFD) (offset + n) (i + 1) ps) ∙ rw (noted-open ref e s i (0xFFFD ∷ []), noted-trace ref e (e.set s 0xFFFD) (offset + n) (i + 1) ps) refl)
 
 pub log_bytes-trace : (ref : Reference) (e : Coding) (s : EscapeState) (offset i : ℕ) (ps : List Piece) → log_bytes (tagged (trace_from ref e s offset i ps)) ≡ flat_map line_bytes (log_lines e offset i ps)
 log_bytes-trace ref e s offset i ps = log_bytes-noted (trace_from ref e s offset i ps) ∙ ap (flat_map line_bytes) (noted-trace ref e s offset i ps)

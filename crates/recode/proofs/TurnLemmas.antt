@@ -1,10 +1,10 @@
 -- How turns of an engine add up, and what each is.
-use Rattle.std.proofs.Common.{◌≡◌, ◌↔◌, inl, inr, ℕ, ◌+◌, ◌-◌, ◌*◌, ◌≤◌, Bool, true, false, IsTrue, List, [], ◌∷◌, ◌++◌, length, drop, None, Some, refl, sym, ◌∙◌, ap, subst, arith, append_assoc, append-nil, length-append, length-drop}
+use Rattle.std.proofs.Common.{◌≡◌, ◌↔◌, inl, inr, ℕ, ◌+◌, ◌-◌, ◌*◌, ◌<◌, ◌≤◌, Bool, true, false, IsTrue, List, [], ◌∷◌, ◌++◌, length, drop, Option, None, Some, refl, sym, ◌∙◌, ap, subst, arith, append_assoc, append-nil, length-append, length-drop}
 use Rattle.std.proofs.lemmas.Bool.{false≢true}
 use Rattle.encoding_front.specs.declared.encoding.Encoding.{Encoding}
 use Rattle.encoding_mem.specs.Coding.{Coding, last_set}
 use Rattle.encoding_mem.specs.Items.{Item, MalformedAt, open_items, trace_from, whole_items}
-use Rattle.encoding_mem.specs.Piece.{AreWellFormed, Piece, malformed, malformed_count, scalars, sizes, text, well_formed}
+use Rattle.encoding_mem.specs.Piece.{AreWellFormed, Piece, malformed_count, scalars, sizes, text}
 use Rattle.encoding_mem.specs.calls.Decoding.{DecoderState}
 use Rattle.encoding_mem.specs.calls.ReadCalls.{ReadsWhole}
 use Rattle.encoding_mem.specs.declared.decoder_result.DecoderResult.{DecoderResult}
@@ -12,7 +12,8 @@ use Rattle.encoding_mem.specs.declared.decoder_result.DecoderResult.TheVariants.
 use Rattle.encoding_mem.specs.declared.form.EscapeState.{EscapeState}
 use Rattle.encoding_mem.specs.declared.reference.Reference.{Reference}
 use Rattle.encoding_mem.specs.laws.EncoderCalls.{last_set-append}
-use Rattle.encoding_mem.specs.laws.Piece.{sizes-append, text-append}
+use Rattle.encoding_mem.specs.laws.Agreement.{well_formed_parts}
+use Rattle.encoding_mem.specs.laws.Piece.{AreWellFormed-append, sizes-append, text-append, well_formed_text}
 use Rattle.recode.specs.Policy.{reference_form}
 use Rattle.recode.specs.State.{State}
 use Rattle.recode.specs.Work.{IsCounted}
@@ -20,7 +21,7 @@ use Rattle.recode.specs.calls.Text.{TargetState, text_items}
 use Rattle.recode.specs.calls.Turns.{AreCountedSoundly, EncodesTurn, Standing, TakesTurns, WillBeKept, due_calls, owed, reported, spare_calls, pieces_of_text, waiting}
 use Rattle.recode.specs.calls.Verdict.{IsFaithfulFor, VerdictIsKept, VerdictView, to_read}
 use Rattle.recode.specs.declared.counts.Counts.{Counts}
-use Rattle.recode.proofs.DecoderCallLemmas.{trace_well_formed}
+use Rattle.recode.proofs.DecoderCallLemmas.{IsDecoded, trace_well_formed}
 use Rattle.recode.specs.laws.Items.{AreCounted-trans}
 use Rattle.recode.proofs.VerdictLemmas.{both_ways, true_or_false}
 
@@ -35,8 +36,7 @@ text_pieces_scalars [] = refl
 text_pieces_scalars (c ∷ t) = ap (λ x. c ∷ x) (text_pieces_scalars t)
 
 pub text_pieces_text : (t : List ℕ) → text (pieces_of_text t) ≡ t
-text_pieces_text [] = refl
-text_pieces_text (c ∷ t) = ap (λ x. c ∷ x) (text_pieces_text t)
+text_pieces_text t = well_formed_text (pieces_of_text t) (text_pieces_fine t) ∙ text_pieces_scalars t
 
 pub text_pieces_size : (t : List ℕ) → sizes (pieces_of_text t) ≡ length t
 text_pieces_size [] = refl
@@ -56,18 +56,11 @@ pub waiting_bad : (t : List ℕ) (ps : List Piece) → malformed_count (pieces_o
 waiting_bad [] ps = refl
 waiting_bad (c ∷ t) ps = waiting_bad t ps
 
-waiting_fine : (t : List ℕ) (ps : List Piece) → AreWellFormed (pieces_of_text t ++ ps) ↔ AreWellFormed ps
-waiting_fine [] ps = (λ h. h, λ h. h)
-waiting_fine (c ∷ t) ps = let more = waiting_fine t ps in (λ h. more.0 h.1, λ h. (tt, more.1 h))
-
 fine_before : (ps qs : List Piece) → AreWellFormed ps → AreWellFormed (ps ++ qs) ↔ AreWellFormed qs
-fine_before [] qs h = (λ h. h, λ h. h)
-fine_before (p ∷ ps) qs h = let more = fine_before ps qs h.1 in (λ k. more.0 k.1, λ k. (h.0, more.1 k))
+fine_before ps qs h = (λ k. (well_formed_parts ps qs k).1, AreWellFormed-append ps qs h)
 
-fine_text : (ps : List Piece) → AreWellFormed ps → text ps ≡ scalars ps
-fine_text [] h = refl
-fine_text (well_formed n cs ∷ ps) h = ap (λ x. cs ++ x) (fine_text ps h.1)
-fine_text (malformed n ∷ ps) h = absurd h.0
+waiting_fine : (t : List ℕ) (ps : List Piece) → AreWellFormed (pieces_of_text t ++ ps) ↔ AreWellFormed ps
+waiting_fine t ps = fine_before (pieces_of_text t) ps (text_pieces_fine t)
 
 -- ---- traces
 
@@ -112,8 +105,8 @@ turns_start c last bytes sound = record {
   advances = λ on. record { taken = []; rest_is = λ r. refl; set = refl; index = omega arith };
 }
 
-pub turns_more : (c c1 c2 : Standing) (last : Bool) (x y z : List ℕ) (a b : List Item) (m n k l : ℕ) → TakesTurns c c1 last x y a m k → TakesTurns c1 c2 last y z b n l → TakesTurns c c2 last x z (a ++ b) (m + n) (k + l)
-turns_more c c1 c2 last x y z a b m n k l p q = record {
+pub turns_more : {c c1 c2 : Standing} {last : Bool} {x y z : List ℕ} {a b : List Item} {m n k l : ℕ} (most least : ℕ) → m + n ≤ most → least ≤ k + l → TakesTurns c c1 last x y a m k → TakesTurns c1 c2 last y z b n l → TakesTurns c c2 last x z (a ++ b) most least
+turns_more {c} {c1} {c2} {last} {x} {y} {z} {a} {b} most least up down p q = record {
   counted = omega (arith, p.counted, q.counted);
   target = q.target ∙ p.target;
   policy = q.policy ∙ p.policy;
@@ -122,10 +115,10 @@ turns_more c c1 c2 last x y z a b m n k l p q = record {
   source = λ r h. p.source r h ∙ q.source r h;
   owes = λ r h. p.owes r h ∙ ap (λ l. a ++ l) (q.owes r h) ∙ sym (append_assoc a b (owed c2 (z ++ r)));
   verdict = λ r h. both_ways (p.verdict r h) (q.verdict r h);
-  calls = λ r h. omega (arith, p.calls r h, q.calls r h);
+  calls = λ r h. omega (arith, p.calls r h, q.calls r h, up);
   least_calls = λ under.
       let later = q.least_calls under in
-      omega (arith, later, p.least_calls (omega (arith, under, q.grows under)));
+      omega (arith, later, p.least_calls (omega (arith, under, q.grows under)), down);
   grows = λ under. let later = q.grows under in omega (arith, later, p.grows (omega (arith, under, later)));
   advances = λ on.
       let f = p.advances on in
@@ -134,10 +127,7 @@ turns_more c c1 c2 last x y z a b m n k l p q = record {
       record {
         taken = f.taken ++ g.taken;
         rest_is = λ r. f.rest_is r ∙ ap (λ l. f.taken ++ l) (g.rest_is r) ∙ sym (append_assoc f.taken g.taken (c2.state.decoder.pieces (z ++ r)));
-        set = subst (λ (e : Coding). last_set e c2.state.set (text (waiting c2)) ≡ last_set e (last_set e c1.state.set (text (waiting c1))) (text g.taken)) p.target g.set
-            ∙ ap (λ (s : EscapeState). last_set e s (text g.taken)) f.set
-            ∙ sym (last_set-append e (last_set e c.state.set (text (waiting c))) (text f.taken) (text g.taken))
-            ∙ ap (last_set e (last_set e c.state.set (text (waiting c)))) (sym (text-append f.taken g.taken));
+        set = rw p.target at g.set ∙ rw (text-append f.taken g.taken, last_set-append e (last_set e c.state.set (text (waiting c))) (text f.taken) (text g.taken), f.set) refl;
         index = omega (arith, f.index, g.index, ap length (text-append f.taken g.taken), length-append (text f.taken) (text g.taken));
       };
 }
@@ -152,20 +142,19 @@ decoded_state s d finished source read calls = record s { decoder = d; finished 
 abbrev pub nothing_waits : State → Standing
 nothing_waits s = record { state = s; answer = None; text = [] }
 
--- what a call of the decoder took: pieces with this text, then what it reported
-pub record IsDecoded (before after : DecoderState) (src : List ℕ) (last : Bool) (read : ℕ) (answer : DecoderResult) (t : List ℕ) : Type 0 where
-  pub front : List Piece
-  pub fine : AreWellFormed front
-  pub text_is : t ≡ scalars front
-  pub within : read ≤ length src
-  pub fits : length t ≤ sizes front
-  pub counted : before.pending + read ≡ sizes front + sizes (reported (Some answer)) + after.pending
-  pub rest : (r : List ℕ) → (last ≡ true → r ≡ []) → before.pieces (src ++ r) ≡ front ++ (reported (Some answer) ++ after.pieces (drop read src ++ r))
-  pub spared : spare_calls (Some answer) ≤ 3 * (length t + length (text (reported (Some answer))))
-  pub owing : 3 * malformed_count (reported (Some answer)) ≤ due_calls (Some answer)
+-- for the text and what was reported as many calls are set aside, and sure to come, as are spare and due
+spared : (answer : DecoderResult) (t : List ℕ) → (answer ≡ OutputFull → 0 < length t) → spare_calls (Some answer) ≤ 3 * (length t + length (text (reported (Some answer))))
+spared InputEmpty t some = omega arith
+spared OutputFull t some = omega (arith, some refl)
+spared (Malformed a b) t some = omega arith
+
+owing : (answer : DecoderResult) → 3 * malformed_count (reported (Some answer)) ≤ due_calls (Some answer)
+owing InputEmpty = omega arith
+owing OutputFull = omega arith
+owing (Malformed a b) = omega arith
 
 module _ (s : State) (d : DecoderState) (finished : Bool) (source : List ℕ → Encoding) (src : List ℕ) (last : Bool) (read calls : ℕ) (answer : DecoderResult) (t : List ℕ)
-    (sound : AreCountedSoundly (nothing_waits s)) (k : IsDecoded s.decoder d src last read answer t) (one : IsCounted 1 1 s.counts.calls calls)
+    (sound : AreCountedSoundly (nothing_waits s)) (k : IsDecoded s.decoder d src last read answer t) (some : answer ≡ OutputFull → 0 < length t) (one : IsCounted 1 1 s.counts.calls calls)
     (same_source : (r : List ℕ) → (last ≡ true → r ≡ []) → s.source (src ++ r) ≡ source (drop read src ++ r)) where
   turn_owes : (r : List ℕ) → (last ≡ true → r ≡ []) → owed (nothing_waits s) (src ++ r) ≡ owed (record { state = decoded_state s d finished source read calls; answer = Some answer; text = t }) (drop read src ++ r)
   turn_owes r h =
@@ -182,10 +171,8 @@ module _ (s : State) (d : DecoderState) (finished : Bool) (source : List ℕ →
       let tail = reported (Some answer) ++ d.pieces (drop read src ++ r) in
       let now = append_assoc (pieces_of_text t) (reported (Some answer)) (d.pieces (drop read src ++ r)) in
       same_faithful (reference_form s.policy) s.verdict s.coding s.set (s.decoder.pieces (src ++ r)) ((pieces_of_text t ++ reported (Some answer)) ++ d.pieces (drop read src ++ r))
-      (subst (λ ps. AreWellFormed ps ↔ AreWellFormed ((pieces_of_text t ++ reported (Some answer)) ++ d.pieces (drop read src ++ r))) (sym (k.rest r h))
-      (subst (λ ps. AreWellFormed (k.front ++ tail) ↔ AreWellFormed ps) (sym now)
-      (both_ways (fine_before k.front tail k.fine) (let w = waiting_fine t tail in (w.1, w.0)))))
-      (ap text (k.rest r h) ∙ text-append k.front tail ∙ ap (λ x. x ++ text tail) (fine_text k.front k.fine ∙ sym k.text_is) ∙ sym (waiting_text t tail) ∙ ap text (sym now))
+      (rw (k.rest r h, now) (both_ways (fine_before k.front tail k.fine) (let w = waiting_fine t tail in (w.1, w.0))))
+      (ap text (k.rest r h) ∙ text-append k.front tail ∙ ap (λ x. x ++ text tail) (well_formed_text k.front k.fine ∙ sym k.text_is) ∙ sym (waiting_text t tail) ∙ ap text (sym now))
 
   pub decode_turn : TakesTurns (nothing_waits s) (record { state = decoded_state s d finished source read calls; answer = Some answer; text = t }) last src (drop read src) [] 0 0
   decode_turn = record {
@@ -201,14 +188,14 @@ module _ (s : State) (d : DecoderState) (finished : Bool) (source : List ℕ →
     source = same_source;
     owes = turn_owes;
     verdict = turn_verdict;
-    calls = λ r h. omega (arith, one.at_most, k.spared, waiting_count t (reported (Some answer)), ap length (turn_owes r h));
+    calls = λ r h. omega (arith, one.at_most, spared answer t some, waiting_count t (reported (Some answer)), ap length (turn_owes r h));
     grows = λ under. omega (arith, one.at_least under);
-    least_calls = λ under. omega (arith, one.at_least under, k.owing, waiting_bad t (reported (Some answer)));
+    least_calls = λ under. omega (arith, one.at_least under, owing answer, waiting_bad t (reported (Some answer)));
     advances = λ on. record {
       taken = k.front ++ reported (Some answer);
       rest_is = λ r. k.rest r (λ last_one. absurd (false≢true (sym on ∙ last_one))) ∙ sym (append_assoc k.front (reported (Some answer)) (d.pieces (drop read src ++ r)));
-      set = ap (last_set s.coding s.set) (waiting_text t (reported (Some answer)) ∙ ap (λ x. x ++ text (reported (Some answer))) (k.text_is ∙ sym (fine_text k.front k.fine)) ∙ sym (text-append k.front (reported (Some answer))));
-      index = omega (arith, waiting_count t (reported (Some answer)), ap length (text-append k.front (reported (Some answer))), length-append (text k.front) (text (reported (Some answer))), ap length (k.text_is ∙ sym (fine_text k.front k.fine)));
+      set = ap (last_set s.coding s.set) (waiting_text t (reported (Some answer)) ∙ ap (λ x. x ++ text (reported (Some answer))) (k.text_is ∙ sym (well_formed_text k.front k.fine)) ∙ sym (text-append k.front (reported (Some answer))));
+      index = omega (arith, waiting_count t (reported (Some answer)), ap length (text-append k.front (reported (Some answer))), length-append (text k.front) (text (reported (Some answer))), ap length (k.text_is ∙ sym (well_formed_text k.front k.fine)));
     };
   }
 
@@ -236,58 +223,49 @@ front_owed : (ref : Reference) (e : Coding) (ended : Bool) (s s' : EscapeState) 
     → i' + length rest ≡ i + length t → o + length t ≡ o' + length rest → (ended ≡ false → last_set e s t ≡ last_set e s' rest) → (ended ≡ true → tail ≡ [])
     → trace_from ref e s o i (pieces_of_text t ++ tail) ≡ items ++ trace_from ref e s' o' i' (pieces_of_text rest ++ tail)
 front_owed ref e false s s' i i' o o' t rest tail items owes index at set none =
-    let open_ : open_items ref e s i t ≡ items ++ open_items ref e s' i' rest =
-    sym (append-nil (open_items ref e s i t)) ∙ owes ∙ ap (λ l. items ++ l) (append-nil (open_items ref e s' i' rest)) in
-    let end_ = trace_from ref e (last_set e s' rest) (o' + length rest) (i' + length rest) tail in
-    front_trace ref e s o i t tail
-    ∙ ap (λ (q : EscapeState). open_items ref e s i t ++ trace_from ref e q (o + length t) (i + length t) tail) (set refl)
-    ∙ ap (λ (n : ℕ). open_items ref e s i t ++ trace_from ref e (last_set e s' rest) n (i + length t) tail) at
-    ∙ ap (λ (n : ℕ). open_items ref e s i t ++ trace_from ref e (last_set e s' rest) (o' + length rest) n tail) (sym index)
-    ∙ ap (λ l. l ++ end_) open_
-    ∙ append_assoc items (open_items ref e s' i' rest) end_
-    ∙ ap (λ l. items ++ l) (sym (front_trace ref e s' o' i' rest tail))
-front_owed ref e true s s' i i' o o' t rest tail items owes index at set none =
-    ap (λ l. trace_from ref e s o i (pieces_of_text t ++ l)) (none refl)
-    ∙ front_trace ref e s o i t []
-    ∙ owes
-    ∙ ap (λ l. items ++ l) (sym (front_trace ref e s' o' i' rest []) ∙ ap (λ l. trace_from ref e s' o' i' (pieces_of_text rest ++ l)) (sym (none refl)))
+    let open_ : open_items ref e s i t ≡ items ++ open_items ref e s' i' rest = sym (append-nil (open_items ref e s i t)) ∙ owes ∙ ap (λ l. items ++ l) (append-nil (open_items ref e s' i' rest)) in
+    rw (front_trace ref e s o i t tail, front_trace ref e s' o' i' rest tail, set refl, at, sym index, open_) (append_assoc items (open_items ref e s' i' rest) (trace_from ref e (last_set e s' rest) (o' + length rest) (i' + length rest) tail))
+front_owed ref e true s s' i i' o o' t rest tail items owes index at set none = rw (none refl, front_trace ref e s o i t [], front_trace ref e s' o' i' rest []) owes
 
 abbrev pub target_with : State → EscapeState → VerdictView → Counts → TargetState
 target_with s set verdict counts = record { coding = s.coding; set = set; policy = s.policy; verdict = verdict; counts = counts }
 
--- one call of the encoder on the text that waits
-module _ (s : State) (answer : DecoderResult) (set : EscapeState) (v : VerdictView) (x : Counts) (ended last : Bool) (src t rest : List ℕ) (items : List Item) (n : ℕ)
-    (sound : AreCountedSoundly (record { state = s; answer = Some answer; text = t })) (e : EncodesTurn (target_of_state s) (target_with s set v x) ended t rest items n)
-    (tail_is : ended ≡ true → (r : List ℕ) → (last ≡ true → r ≡ []) → reported (Some answer) ++ s.decoder.pieces (src ++ r) ≡ []) (ends : ended ≡ true → last ≡ true) where
-  encode_owes : (r : List ℕ) → (last ≡ true → r ≡ []) → owed (record { state = s; answer = Some answer; text = t }) (src ++ r) ≡ items ++ owed (record { state = record s { set = set; verdict = v; counts = x }; answer = Some answer; text = rest }) (src ++ r)
-  encode_owes r h =
-      let ref = reference_form s.policy in
-      let tail = reported (Some answer) ++ s.decoder.pieces (src ++ r) in
-      let o = s.counts.read - (sizes (pieces_of_text t ++ reported (Some answer)) + s.decoder.pending) in
-      let o' = x.read - (sizes (pieces_of_text rest ++ reported (Some answer)) + s.decoder.pending) in
-      ap (trace_from ref s.coding s.set o s.counts.index) (append_assoc (pieces_of_text t) (reported (Some answer)) (s.decoder.pieces (src ++ r)))
-      ∙ front_owed ref s.coding ended s.set set s.counts.index x.index o o' t rest tail items e.owes e.index
-      (omega (arith, sound.index, waiting_size t (reported (Some answer)), waiting_size rest (reported (Some answer)), e.read, e.index)) e.set (λ end. tail_is end r h)
-      ∙ ap (λ ps. items ++ trace_from ref s.coding set o' x.index ps) (sym (append_assoc (pieces_of_text rest) (reported (Some answer)) (s.decoder.pieces (src ++ r))))
+-- where an engine stands after a call of the encoder
+abbrev pub after_encoder : Standing → EscapeState → VerdictView → Counts → (rest : List ℕ) → Standing
+after_encoder c set v x rest = record { state = record c.state { set = set; verdict = v; counts = x }; answer = c.answer; text = rest }
 
-  encode_verdict : (r : List ℕ) → (last ≡ true → r ≡ []) → WillBeKept (record { state = s; answer = Some answer; text = t }) (src ++ r) ↔ WillBeKept (record { state = record s { set = set; verdict = v; counts = x }; answer = Some answer; text = rest }) (src ++ r)
+-- one call of the encoder on the text that waits
+module _ (c : Standing) (set : EscapeState) (v : VerdictView) (x : Counts) (rest : List ℕ) (ended last : Bool) (src : List ℕ) (items : List Item) (n : ℕ)
+    (sound : AreCountedSoundly c) (e : EncodesTurn (target_of_state c.state) (target_with c.state set v x) ended c.text rest items n)
+    (tail_is : ended ≡ true → (r : List ℕ) → (last ≡ true → r ≡ []) → reported c.answer ++ c.state.decoder.pieces (src ++ r) ≡ []) (ends : ended ≡ true → last ≡ true) where
+  encode_owes : (r : List ℕ) → (last ≡ true → r ≡ []) → owed c (src ++ r) ≡ items ++ owed (after_encoder c set v x rest) (src ++ r)
+  encode_owes r h =
+      let ref = reference_form c.state.policy in
+      let tail = reported c.answer ++ c.state.decoder.pieces (src ++ r) in
+      let o = c.state.counts.read - (sizes (pieces_of_text c.text ++ reported c.answer) + c.state.decoder.pending) in
+      let o' = x.read - (sizes (pieces_of_text rest ++ reported c.answer) + c.state.decoder.pending) in
+      ap (trace_from ref c.state.coding c.state.set o c.state.counts.index) (append_assoc (pieces_of_text c.text) (reported c.answer) (c.state.decoder.pieces (src ++ r)))
+      ∙ front_owed ref c.state.coding ended c.state.set set c.state.counts.index x.index o o' c.text rest tail items e.owes e.index
+      (omega (arith, sound.index, waiting_size c.text (reported c.answer), waiting_size rest (reported c.answer), e.read, e.index)) e.set (λ end. tail_is end r h)
+      ∙ ap (λ ps. items ++ trace_from ref c.state.coding set o' x.index ps) (sym (append_assoc (pieces_of_text rest) (reported c.answer) (c.state.decoder.pieces (src ++ r))))
+
+  encode_verdict : (r : List ℕ) → (last ≡ true → r ≡ []) → WillBeKept c (src ++ r) ↔ WillBeKept (after_encoder c set v x rest) (src ++ r)
   encode_verdict r h =
-      let ref = reference_form s.policy in
-      let tail = reported (Some answer) ++ s.decoder.pieces (src ++ r) in
-      subst (λ ps. IsFaithfulFor ref s.verdict s.coding s.set ps ↔ IsFaithfulFor ref v s.coding set ((pieces_of_text rest ++ reported (Some answer)) ++ s.decoder.pieces (src ++ r))) (sym (append_assoc (pieces_of_text t) (reported (Some answer)) (s.decoder.pieces (src ++ r))))
-      (subst (λ ps. IsFaithfulFor ref s.verdict s.coding s.set (pieces_of_text t ++ tail) ↔ IsFaithfulFor ref v s.coding set ps) (sym (append_assoc (pieces_of_text rest) (reported (Some answer)) (s.decoder.pieces (src ++ r))))
-      (front_faithful ref s.coding ended s.verdict v s.set set t rest tail e.verdict (λ end. ap text (tail_is end r h))))
+      let ref = reference_form c.state.policy in
+      let tail = reported c.answer ++ c.state.decoder.pieces (src ++ r) in
+      rw (append_assoc (pieces_of_text c.text) (reported c.answer) (c.state.decoder.pieces (src ++ r)), append_assoc (pieces_of_text rest) (reported c.answer) (c.state.decoder.pieces (src ++ r)))
+      (front_faithful ref c.state.coding ended c.state.verdict v c.state.set set c.text rest tail e.verdict (λ end. ap text (tail_is end r h)))
 
   not_ended : last ≡ false → ended ≡ false
   not_ended on = elim (true_or_false ended) [ inl end ↦ absurd (false≢true (sym on ∙ ends end)) | inr not ↦ not ]
 
-  pub encode_turn : TakesTurns (record { state = s; answer = Some answer; text = t }) (record { state = record s { set = set; verdict = v; counts = x }; answer = Some answer; text = rest }) last src src items (2 * n) n
+  pub encode_turn : TakesTurns c (after_encoder c set v x rest) last src src items (2 * n) n
   encode_turn = record {
     counted = omega (arith, e.read);
     target = refl;
     policy = refl;
     sound = record {
-      index = omega (arith, sound.index, waiting_size t (reported (Some answer)), waiting_size rest (reported (Some answer)), e.read, e.index);
+      index = omega (arith, sound.index, waiting_size c.text (reported c.answer), waiting_size rest (reported c.answer), e.read, e.index);
       bad = omega (arith, sound.bad, e.bad, e.index);
       lost = e.lost;
     };
@@ -295,92 +273,69 @@ module _ (s : State) (answer : DecoderResult) (set : EscapeState) (v : VerdictVi
     source = λ r h. refl;
     owes = encode_owes;
     verdict = encode_verdict;
-    calls = λ r h. omega (
-      arith,
-      e.calls,
-      e.index,
-      waiting_count t (reported (Some answer)),
-      waiting_count rest (reported (Some answer)),
-      ap length (encode_owes r h),
-      ap length e.owes,
-      length-append items (owed (record { state = record s { set = set; verdict = v; counts = x }; answer = Some answer; text = rest }) (src ++ r)),
-      length-append items (text_items (target_with s set v x) ended rest),
-    );
+    calls = λ r h. omega (arith, e.calls, e.index, waiting_count c.text (reported c.answer), waiting_count rest (reported c.answer), ap length (encode_owes r h), ap length e.owes, length-append items (owed (after_encoder c set v x rest) (src ++ r)), length-append items (text_items (target_with c.state set v x) ended rest));
     grows = λ under. omega (arith, e.least under, e.lines.lost);
-    least_calls = λ under. omega (arith, e.least under, e.bad, waiting_bad t (reported (Some answer)), waiting_bad rest (reported (Some answer)));
+    least_calls = λ under. omega (arith, e.least under, e.bad, waiting_bad c.text (reported c.answer), waiting_bad rest (reported c.answer));
     advances = λ on. record {
       taken = [];
       rest_is = λ r. refl;
-      set = ap (last_set s.coding set) (waiting_text rest (reported (Some answer)))
-          ∙ last_set-append s.coding set rest (text (reported (Some answer)))
-          ∙ ap (λ (q : EscapeState). last_set s.coding q (text (reported (Some answer)))) (sym (e.set (not_ended on)))
-          ∙ sym (last_set-append s.coding s.set t (text (reported (Some answer))))
-          ∙ ap (last_set s.coding s.set) (sym (waiting_text t (reported (Some answer))));
-      index = omega (arith, e.index, waiting_count t (reported (Some answer)), waiting_count rest (reported (Some answer)));
+      set = rw (waiting_text rest (reported c.answer), waiting_text c.text (reported c.answer), last_set-append c.state.coding set rest (text (reported c.answer)), last_set-append c.state.coding c.state.set c.text (text (reported c.answer)), e.set (not_ended on)) refl;
+      index = omega (arith, e.index, waiting_count c.text (reported c.answer), waiting_count rest (reported c.answer));
     };
   }
 
--- ---- the end of a text
+-- ---- what comes after a text that is encoded
 
--- all of it is encoded, and the decoder is asked next
-pub finish_full : (c : Standing) (s : State) (last : Bool) (x y : List ℕ) (items : List Item) → TakesTurns c (record { state = s; answer = Some OutputFull; text = [] }) last x y items 2 1 → TakesTurns c (record { state = s; answer = None; text = [] }) last x y items 0 0
-finish_full c s last x y items p = record {
-  counted = p.counted;
-  target = p.target;
-  policy = p.policy;
-  sound = record { index = p.sound.index; bad = p.sound.bad; lost = p.sound.lost };
-  lines = p.lines;
-  source = p.source;
-  owes = p.owes;
-  verdict = p.verdict;
-  calls = λ r h. omega (arith, p.calls r h);
-  grows = p.grows;
-  least_calls = λ under. omega (arith, p.least_calls under);
-  advances = λ on. let a = p.advances on in record { taken = a.taken; rest_is = a.rest_is; set = a.set; index = a.index };
-}
+-- a standing, by its answer and its text
+pub standing_is : (c : Standing) {a : Option DecoderResult} {t : List ℕ} → c.answer ≡ a → c.text ≡ t → c ≡ record { state = c.state; answer = a; text = t }
+standing_is c answer text = rw (sym answer, sym text) refl
 
--- or all is read
-pub finish_empty : (c : Standing) (s : State) (last : Bool) (x y : List ℕ) (items : List Item) → TakesTurns c (record { state = s; answer = Some InputEmpty; text = [] }) last x y items 2 1 → TakesTurns c (record { state = s; answer = None; text = [] }) last x y items 3 2
-finish_empty c s last x y items p = record {
-  counted = p.counted;
-  target = p.target;
-  policy = p.policy;
-  sound = record { index = p.sound.index; bad = p.sound.bad; lost = p.sound.lost };
-  lines = p.lines;
-  source = p.source;
-  owes = p.owes;
-  verdict = p.verdict;
-  calls = λ r h. omega (arith, p.calls r h);
-  grows = p.grows;
-  least_calls = λ under. omega (arith, p.least_calls under);
-  advances = λ on. let a = p.advances on in record { taken = a.taken; rest_is = a.rest_is; set = a.set; index = a.index };
-}
-
--- ---- a malformed sequence
+-- the decoder is asked next, or all is read
+pub finish_turn : (c c1 : Standing) (a : DecoderResult) (last : Bool) (x y : List ℕ) (items : List Item) (m l : ℕ) → c1.answer ≡ Some a → c1.text ≡ [] → reported (Some a) ≡ [] → 3 ≤ spare_calls (Some a) + m → l + due_calls (Some a) ≤ 2
+    → TakesTurns c c1 last x y items 2 1 → TakesTurns c (record c1 { answer = None }) last x y items m l
+finish_turn c c1 a last x y items m l answer empty none most least turned =
+    let p = subst (λ (z : Standing). TakesTurns c z last x y items 2 1) (standing_is c1 answer empty) turned in
+    subst (λ (t : List ℕ). TakesTurns c (record { state = c1.state; answer = None; text = t }) last x y items m l) (sym empty) (record {
+      counted = p.counted;
+      target = p.target;
+      policy = p.policy;
+      sound = record { index = omega (arith, p.sound.index); bad = p.sound.bad; lost = p.sound.lost };
+      lines = p.lines;
+      source = p.source;
+      owes = λ r h. rw none at (p.owes r h);
+      verdict = λ r h. rw none at (p.verdict r h);
+      calls = λ r h. omega (arith, rw none at (p.calls r h), most);
+      grows = p.grows;
+      least_calls = λ under. omega (arith, rw none at (p.least_calls under), least);
+      advances = λ on. let f = p.advances on in record { taken = f.taken; rest_is = f.rest_is; set = rw none at f.set; index = rw none at f.index };
+    })
 
 -- something is lost, and U+FFFD waits
 abbrev pub replaced_state : State → State
 replaced_state s = record s { verdict = record s.verdict { faithful = false }; counts = record s.counts { bad = s.counts.bad + 1 } }
 
-pub replace_turn : (c : Standing) (s : State) (a b : ℕ) (last : Bool) (x y : List ℕ) (items : List Item) → 1 ≤ a → TakesTurns c (record { state = s; answer = Some (Malformed a b); text = [] }) last x y items 2 1
-    → TakesTurns c (record { state = replaced_state s; answer = Some OutputFull; text = 0xFFFD ∷ [] }) last x y (items ++ MalformedAt (s.counts.read - s.decoder.pending - a) a ∷ []) 0 0
-replace_turn c s a b last x y items some p =
+-- the line of a malformed sequence is found
+pub replace_turn : (c c1 : Standing) (a b : ℕ) (last : Bool) (x y : List ℕ) (items : List Item) → c1.answer ≡ Some (Malformed a b) → c1.text ≡ [] → 1 ≤ a → c1.state.decoder.pending ≡ b → TakesTurns c c1 last x y items 2 1
+    → TakesTurns c (record { state = replaced_state c1.state; answer = Some OutputFull; text = 0xFFFD ∷ [] }) last x y (items ++ MalformedAt (c1.state.counts.read - b - a) a ∷ []) 0 0
+replace_turn c c1 a b last x y items bad empty some pending turned =
+    let s = c1.state in
     let now : Standing = record { state = s; answer = Some (Malformed a b); text = [] } in
     let next : Standing = record { state = replaced_state s; answer = Some OutputFull; text = 0xFFFD ∷ [] } in
-    let ref = reference_form s.policy in
-    let owes : (r : List ℕ) → owed now (y ++ r) ≡ (MalformedAt (s.counts.read - s.decoder.pending - a) a ∷ []) ++ owed next (y ++ r) = λ r.
-    let at : s.counts.read - (a + 0 + s.decoder.pending) ≡ s.counts.read - s.decoder.pending - a = omega (arith, p.sound.index) in
+    let p = subst (λ (z : Standing). TakesTurns c z last x y items 2 1) (standing_is c1 bad empty) turned in
+    let line : List Item = MalformedAt (s.counts.read - b - a) a ∷ [] in
+    let owes : (r : List ℕ) → owed now (y ++ r) ≡ line ++ owed next (y ++ r) = λ r.
+    let at : s.counts.read - (a + 0 + s.decoder.pending) ≡ s.counts.read - b - a = omega (arith, p.sound.index, pending) in
     let next_at : s.counts.read - (a + 0 + s.decoder.pending) + a ≡ s.counts.read - (1 + 0 + s.decoder.pending) + 1 = omega (arith, p.sound.index, some) in
-    ap (λ (n : ℕ). MalformedAt n a ∷ (open_items ref s.coding s.set s.counts.index (0xFFFD ∷ []) ++ trace_from ref s.coding (s.coding.set s.set 0xFFFD) (s.counts.read - (a + 0 + s.decoder.pending) + a) (s.counts.index + 1) (s.decoder.pieces (y ++ r)))) at
-    ∙ ap (λ (n : ℕ). MalformedAt (s.counts.read - s.decoder.pending - a) a ∷ (open_items ref s.coding s.set s.counts.index (0xFFFD ∷ []) ++ trace_from ref s.coding (s.coding.set s.set 0xFFFD) n (s.counts.index + 1) (s.decoder.pieces (y ++ r)))) next_at in
+    let after : ℕ → List Item = λ n. open_items (reference_form s.policy) s.coding s.set s.counts.index (0xFFFD ∷ []) ++ trace_from (reference_form s.policy) s.coding (s.coding.set s.set 0xFFFD) n (s.counts.index + 1) (s.decoder.pieces (y ++ r)) in
+    ap (λ (n : ℕ). MalformedAt n a ∷ after (s.counts.read - (a + 0 + s.decoder.pending) + a)) at ∙ ap (λ n. line ++ after n) next_at in
     record {
       counted = p.counted;
       target = p.target;
       policy = p.policy;
       sound = record { index = omega (arith, p.sound.index, some); bad = omega (arith, p.sound.bad); lost = p.sound.lost };
-      lines = AreCounted-trans c.state.counts s.counts (replaced_state s).counts items (MalformedAt (s.counts.read - s.decoder.pending - a) a ∷ []) p.lines (record { bad = omega arith; lost = omega arith });
+      lines = AreCounted-trans c.state.counts s.counts (replaced_state s).counts items line p.lines (record { bad = omega arith; lost = omega arith });
       source = p.source;
-      owes = λ r h. p.owes r h ∙ ap (λ l. items ++ l) (owes r) ∙ sym (append_assoc items (MalformedAt (s.counts.read - s.decoder.pending - a) a ∷ []) (owed next (y ++ r)));
+      owes = λ r h. p.owes r h ∙ ap (λ l. items ++ l) (owes r) ∙ sym (append_assoc items line (owed next (y ++ r)));
       verdict = λ r h. both_ways (p.verdict r h) (λ never. absurd never.1.0, λ never. absurd (false≢true never.0));
       calls = λ r h. omega (arith, p.calls r h, ap length (owes r));
       grows = p.grows;

@@ -2,12 +2,12 @@
 use Rattle.std.proofs.Common.{◌≡◌, ◌⊎◌, ◌↔◌, ℕ, Bool, true, false, IsTrue, IsFalse, List, [], ◌∷◌, ◌++◌, refl, sym, ◌∙◌, ap, subst, inl, inr}
 use Rattle.std.proofs.Math.Logic.{∥∥₁_elim, ∥∥₁_map}
 use Rattle.std.proofs.Props.{props}
-use Rattle.std.specs.Bool.{MatchBool}
 use Rattle.std.specs.Str.{all_scalars}
 use Rattle.std.proofs.lemmas.Bool.{false≢true}
 use Rattle.encoding_mem.specs.Coding.{Coding, IsCoding}
 use Rattle.encoding_mem.specs.calls.EncoderCalls.{Encodes}
 use Rattle.encoding_mem.specs.Piece.{Piece, well_formed, malformed, text, AreWellFormed}
+use Rattle.encoding_mem.specs.ReadBack.{ReadsAs}
 use Rattle.encoding_mem.specs.calls.ReadCalls.{CallsAlong, HoldsAfter, KeepsVerdict, IsNotUnmappable, ReadsAlong}
 use Rattle.encoding_mem.specs.laws.ReadCalls.{begins_along, differing_part_never_reads, ends_along, lost_never_reads, next_along, verdict_of_call}
 use Rattle.encoding_mem.specs.laws.Verdict.{keeps_agreed, keeps_false, keeps_lost}
@@ -15,7 +15,7 @@ use Rattle.encoding_mem.specs.declared.form.EscapeState.{EscapeState}
 use Rattle.encoding_mem.specs.declared.form.EscapeState.TheVariants.{Ascii}
 use Rattle.encoding_mem.specs.declared.reference.Reference.{Reference}
 use Rattle.encoding_mem.specs.declared.encoder_result.EncoderResult.{EncoderResult}
-use Rattle.encoding_mem.specs.declared.encoder_result.EncoderResult.TheVariants.{InputEmpty, OutputFull, Unmappable}
+use Rattle.encoding_mem.specs.declared.encoder_result.EncoderResult.TheVariants.{Unmappable}
 use Rattle.recode.specs.calls.Verdict.{CanTell, IsFaithfulFor, IsReadAlong, IsReadBack, IsToldAtEnd, IsToldByLog, VerdictIsKept, ReadsAsOther, ReadsAsText, VerdictView, to_read}
 
 -- ---- facts that have one proof
@@ -39,37 +39,30 @@ module _ (e : Coding) (need : ℕ) (coding : IsCoding need e) (last : Bool) (out
 
   other_keeps : (k : IsReadAlong v e s t) → IsTrue v.faithful → ReadsAsOther (to_read v) (to_read v') w read → v'.faithful ≡ false → VerdictIsKept e last v s t v' s' rest
   other_keeps k faithful (inl part) is =
-      subst (λ b. KeepsVerdict e last v.faithful (to_read v) s t b (to_read v') s' rest) (sym is)
-      (keeps_lost e last v.faithful (to_read v) (to_read v') s t s' rest
+      rw is (keeps_lost e last v.faithful (to_read v) (to_read v') s t s' rest
       (differing_part_never_reads e k.pieces_from (to_read v) last outcome s t w s' rest (calls_along k faithful) kept read split part.0 (λ r bytes. part.1 r) part.2))
   other_keeps k faithful (inr whole) is =
-      subst (λ b. KeepsVerdict e last v.faithful (to_read v) s t b (to_read v') s' rest) (sym is)
-      (keeps_lost e last v.faithful (to_read v) (to_read v') s t s' rest
+      rw is (keeps_lost e last v.faithful (to_read v) (to_read v') s t s' rest
       ((verdict_of_call e k.pieces_from (to_read v) last outcome s t w s' rest (calls_along k faithful) kept read split (to_read v') whole.0 whole.1).differs whole.2))
 
   text_keeps : (k : IsReadAlong v e s t) → IsTrue v.faithful → ReadsAsText (to_read v) (to_read v') w read → v'.faithful ≡ true → VerdictIsKept e last v s t v' s' rest
   text_keeps k faithful h is =
-      subst (λ b. KeepsVerdict e last b (to_read v) s t v'.faithful (to_read v') s' rest) (sym faithful)
-      (subst (λ b. KeepsVerdict e last true (to_read v) s t b (to_read v') s' rest) (sym is)
-      (keeps_agreed e last (to_read v) (to_read v') s t s' rest
-      ((verdict_of_call e k.pieces_from (to_read v) last outcome s t w s' rest (calls_along k faithful) kept read split (to_read v') h.taken h.has).agrees h.well_formed h.same)))
+      rw (faithful, is) (keeps_agreed e last (to_read v) (to_read v') s t s' rest
+      ((verdict_of_call e k.pieces_from (to_read v) last outcome s t w s' rest (calls_along k faithful) kept read split (to_read v') h.taken h.has).agrees h.well_formed h.same))
 
   compared_keeps : (k : IsReadAlong v e s t) → IsFalse v.by_log → IsTrue v.faithful → VerdictIsKept e last v s t v' s' rest
   compared_keeps k no_log faithful = elim (true_or_false v'.faithful) [
-    | inl is ↦ text_keeps k faithful (subst (λ b. MatchBool b (ReadsAsText (to_read v) (to_read v') w read) (ReadsAsOther (to_read v) (to_read v') w read)) is (back.compared no_log faithful)) is
-    | inr is ↦ other_keeps k faithful (subst (λ b. MatchBool b (ReadsAsText (to_read v) (to_read v') w read) (ReadsAsOther (to_read v) (to_read v') w read)) is (back.compared no_log faithful)) is
+    | inl is ↦ text_keeps k faithful (rw is at (back.compared no_log faithful)) is
+    | inr is ↦ other_keeps k faithful (rw is at (back.compared no_log faithful)) is
   ]
 
   lost_keeps : v.faithful ≡ false → v' ≡ v → VerdictIsKept e last v s t v' s' rest
   lost_keeps lost same =
-      subst (λ u. VerdictIsKept e last v s t u s' rest) (sym same)
-      (subst (λ b. KeepsVerdict e last b (to_read v) s t b (to_read v) s' rest) (sym lost) (keeps_false e last (to_read v) (to_read v) s t s' rest))
+      rw (same, lost) (keeps_false e last (to_read v) (to_read v) s t s' rest)
 
   logged_keeps : (k : IsReadAlong v e s t) → IsTrue v.by_log → v.faithful ≡ true → v' ≡ v → VerdictIsKept e last v s t v' s' rest
   logged_keeps k by_log faithful same =
-      subst (λ u. VerdictIsKept e last v s t u s' rest) (sym same)
-      (subst (λ b. KeepsVerdict e last b (to_read v) s t b (to_read v) s' rest) (sym faithful)
-      ((k.told by_log).keeps last outcome s t w s' rest scalars encodes kept))
+      rw (same, faithful) ((k.told by_log).keeps last outcome s t w s' rest scalars encodes kept)
 
   along_keeps : IsReadAlong v e s t → VerdictIsKept e last v s t v' s' rest
   along_keeps k = elim (true_or_false v.faithful) [
@@ -89,14 +82,13 @@ module _ (e : Coding) (need : ℕ) (coding : IsCoding need e) (last : Bool) (out
   read_holds k no_log faithful' = elim (true_or_false v.faithful) [
     | inr lost ↦ absurd (false≢true (sym (ap (λ u. u.faithful) (back.kept (inr lost)) ∙ lost) ∙ faithful'))
     | inl faithful ↦
-        let h : ReadsAsText (to_read v) (to_read v') w read = subst (λ b. MatchBool b (ReadsAsText (to_read v) (to_read v') w read) (ReadsAsOther (to_read v) (to_read v') w read)) faithful' (back.compared no_log faithful) in
+        let h : ReadsAsText (to_read v) (to_read v') w read = rw faithful' at (back.compared no_log faithful) in
         (verdict_of_call e k.pieces_from (to_read v) last outcome s t w s' rest (calls_along k faithful) kept read split (to_read v') h.taken h.has).along h.well_formed h.same
   ]
 
   told_still : (k : IsReadAlong v e s t) → IsTrue v'.by_log → IsToldByLog e k.pieces_from (to_read v')
   told_still k by_log =
-      let was : IsTrue v.by_log = sym back.by_log ∙ by_log in
-      subst (λ u. IsToldByLog e k.pieces_from (to_read u)) (sym (back.kept (inl was))) (k.told was)
+      let was : IsTrue v.by_log = sym back.by_log ∙ by_log in rw (back.kept (inl was)) (k.told was)
 
   along_still : (k : IsReadAlong v e s t) → ((IsFalse v.by_log) → IsTrue v'.faithful → ReadsAlong e k.pieces_from (to_read v') s' rest) → IsTrue v'.faithful → ReadsAlong e k.pieces_from (to_read v') s' rest
   along_still k holds faithful' = elim (true_or_false v.by_log) [
@@ -115,35 +107,18 @@ module _ (e : Coding) (need : ℕ) (coding : IsCoding need e) (last : Bool) (out
     });
   }
 
--- if the room was full, or the text was read that is not the last
-pub full_tells : (e : Coding) (need : ℕ) → IsCoding need e → (last : Bool) (v v' : VerdictView) (s : EscapeState) (t w : List ℕ) (s' : EscapeState) (rest read : List ℕ)
-    → all_scalars t ≡ true → Encodes e last OutputFull s t w s' rest → t ≡ read ++ rest → IsReadBack v v' w read → CanTell v e s t → CanTell v' e s' rest
-full_tells e need coding last v v' s t w s' rest read scalars encodes split back h =
-    can_tell_still e need coding last OutputFull v v' s t w s' rest read scalars encodes full_kept split back h (read_holds e need coding last OutputFull v v' s t w s' rest read scalars encodes full_kept split back)
-  where
-    full_kept : IsNotUnmappable OutputFull
-    full_kept m = λ h. cc
+  -- if there is more to read, the verdict can be known still
+  pub still_tells : ((from : EscapeState → List ℕ → List Piece) → HoldsAfter e from last outcome s' rest (to_read v') → ReadsAlong e from (to_read v') s' rest) → CanTell v e s t → CanTell v' e s' rest
+  still_tells along h = can_tell_still h (λ k no_log faithful'. along k.pieces_from (read_holds k no_log faithful'))
 
-pub read_tells : (e : Coding) (need : ℕ) → IsCoding need e → (v v' : VerdictView) (s : EscapeState) (t w : List ℕ) (s' : EscapeState) (rest read : List ℕ)
-    → all_scalars t ≡ true → Encodes e false InputEmpty s t w s' rest → t ≡ read ++ rest → IsReadBack v v' w read → CanTell v e s t → CanTell v' e s' rest
-read_tells e need coding v v' s t w s' rest read scalars encodes split back h =
-    can_tell_still e need coding false InputEmpty v v' s t w s' rest read scalars encodes read_kept split back h (read_holds e need coding false InputEmpty v v' s t w s' rest read scalars encodes read_kept split back)
-  where
-    read_kept : IsNotUnmappable InputEmpty
-    read_kept m = λ h. cc
-
--- and if it is the last
-pub end_tells : (e : Coding) (need : ℕ) → IsCoding need e → (v v' : VerdictView) (s : EscapeState) (t w : List ℕ) (s' : EscapeState) (rest read : List ℕ)
-    → all_scalars t ≡ true → Encodes e true InputEmpty s t w s' rest → t ≡ read ++ rest → IsReadBack v v' w read → CanTell v e s t → IsToldAtEnd v'
-end_tells e need coding v v' s t w s' rest read scalars encodes split back h faithful' = ∥∥₁_elim h.along (hlevel (props, are_well_formed_prop)) (λ (k : IsReadAlong v e s t). elim (true_or_false v.by_log) [
-  | inl by_log ↦
-      let none : to_read v' [] ≡ [] = ap (λ u. to_read u []) (back.kept (inl by_log)) ∙ ap (λ P. P []) (sym ((k.told by_log).anywhere s)) ∙ k.steps.nothing s in
-      record { well_formed = subst AreWellFormed (sym none) tt; same = ap text none }
-  | inr no_log ↦ read_holds e need coding true InputEmpty v v' s t w s' rest read scalars encodes read_kept split back k no_log faithful'
-])
-  where
-    read_kept : IsNotUnmappable InputEmpty
-    read_kept m = λ h. cc
+  -- and if the text was the last, what is pending in the reader is no text
+  pub end_tells : ((from : EscapeState → List ℕ → List Piece) → HoldsAfter e from last outcome s' rest (to_read v') → ReadsAs (to_read v') [] []) → CanTell v e s t → IsToldAtEnd v'
+  end_tells ends h faithful' = ∥∥₁_elim h.along (hlevel (props, are_well_formed_prop)) (λ (k : IsReadAlong v e s t). elim (true_or_false v.by_log) [
+    | inl by_log ↦
+        let none : to_read v' [] ≡ [] = ap (λ u. to_read u []) (back.kept (inl by_log)) ∙ ap (λ P. P []) (sym ((k.told by_log).anywhere s)) ∙ k.steps.nothing s in
+        record { well_formed = subst AreWellFormed (sym none) tt; same = ap text none }
+    | inr no_log ↦ ends k.pieces_from (read_holds k no_log faithful')
+  ])
 
 -- ---- something is lost
 

@@ -1,24 +1,26 @@
-use Rattle.std.proofs.Common.{◌∙◌, ap, arith, length, length-append, refl, sym}
-use Rattle.recode.proofs.DecoderCallLemmas.{empty_call, full_call, full_left, full_some, malformed_call, some_written}
+use Rattle.std.proofs.Common.{◌≡◌, ◌∙◌, false, ◌<◌, length, ap, arith, length-append, refl, sym}
 use Rattle.std.proofs.lemmas.List.{take_rest}
+use Rattle.encoding_mem.specs.declared.decoder_result.DecoderResult.TheVariants.{OutputFull}
+use Rattle.recode.specs.calls.PivotText.{pivot_chars}
 use Rattle.recode.proofs.BufferLemmas.{room_on, room_start}
 use Rattle.recode.proofs.CompareLemmas.{compares_differing, compares_end, compares_malformed, compares_more, compares_start}
-use Rattle.recode.proofs.WorkLemmas.{counted_more}
+use Rattle.recode.proofs.DecoderCallLemmas.{IsDecoded, decoded_by, fewer_left, some_written, written_some}
 use Rattle.recode.proofs.PivotLemmas.{holds_some}
-use Rattle.recode.specs.calls.PivotText.{pivot_chars}
+use Rattle.recode.proofs.WorkLemmas.{counted_more}
+use Rattle.recode.proofs.verdict.Verdict.compare.Goals.{After-text_in-part}
+use Rattle.recode.proofs.verdict.Verdict.compare.Given.{Over}
 use Rattle.recode.proofs.verdict.Verdict.compare.Goals as goal
 
+-- what the reader took, and that it wrote something if the room is full
+took : (g : Over) (c : After-text_in-part g)
+    → IsDecoded (g.D.StreamDecoder.view c.parts.self.reader).state (g.D.StreamDecoder.view c.decode_to_pivot-call.new.decoder).state c.parts.left.now false c.decode_to_pivot-call.result.read c.decode_to_pivot-call.result.answer (pivot_chars c.text_in-part.result)
+took g c = decoded_by _ _ _ _ _ _ _ c.decode_to_pivot-call.result.answer c.decode_to_pivot-call.ensures.law c.text_in-part.ensures.chars
+
+some : (g : Over) (c : After-text_in-part g) → c.decode_to_pivot-call.result.answer ≡ OutputFull → 0 < length (pivot_chars c.text_in-part.result)
+some g c full = let d = c.decode_to_pivot-call in written_some (g.D.StreamDecoder.view c.parts.self.reader).state (g.D.StreamDecoder.view d.new.decoder).state _ _ _ _ _ d.result.answer d.ensures.law c.text_in-part.ensures.chars (λ t w. holds_some d.new.pivot d.result.written t w (rw full at d.ensures.ends))
+
 pub parts-init : goal.parts-init
-parts-init g c = record {
-  compared = compares_start _ _ _;
-  open_ = c.requires.open_;
-  by_log = refl;
-  expected = c.requires.text;
-  form = c.requires.form;
-  check = room_start _ c.requires.check;
-  least = λ under. omega arith;
-  most = omega arith;
-}
+parts-init g c = record { compared = compares_start _ _ _; open_ = c.requires.open_; by_log = refl; expected = c.requires.text; form = c.requires.form; check = room_start _ c.requires.check; least = λ under. omega arith; most = omega arith }
 
 pub decode_to_pivot-call-requires-clause-pivot : goal.decode_to_pivot-call-requires-clause-pivot
 decode_to_pivot-call-requires-clause-pivot g c = c.parts.invariant.check.roomy
@@ -27,7 +29,7 @@ pub decode_to_pivot-call-requires-clause-open_ : goal.decode_to_pivot-call-requi
 decode_to_pivot-call-requires-clause-open_ g c = c.parts.invariant.open_
 
 pub text_in-part-requires : goal.text_in-part-requires
-text_in-part-requires g c = some_written (g.D.StreamDecoder.view c.parts.self.reader).state (g.D.StreamDecoder.view c.decode_to_pivot-call.new.decoder).state _ _ _ _ _ c.decode_to_pivot-call.ensures.law
+text_in-part-requires g c = let d = c.decode_to_pivot-call in some_written (g.D.StreamDecoder.view c.parts.self.reader).state (g.D.StreamDecoder.view d.new.decoder).state _ _ _ _ d.result.answer d.ensures.law
 
 pub strip_prefix-requires-clause-form : goal.strip_prefix-requires-clause-form
 strip_prefix-requires-clause-form g c = sym c.parts.invariant.form ∙ sym c.decode_to_pivot-call.ensures.pivot.kind ∙ sym c.text_in-part.ensures.form
@@ -35,77 +37,45 @@ strip_prefix-requires-clause-form g c = sym c.parts.invariant.form ∙ sym c.dec
 pub strip_prefix-requires-clause-text : goal.strip_prefix-requires-clause-text
 strip_prefix-requires-clause-text g c = c.parts.invariant.expected
 
-pub returns-in_default-clause-by_log : goal.returns-in_default-clause-by_log
-returns-in_default-clause-by_log g c = c.parts.invariant.by_log
+pub returns-in_default : goal.returns-in_default
+returns-in_default g c =
+    let d = c.decode_to_pivot-call.ensures in
+    let i = c.parts.invariant in
+    let differs = compares_differing _ _ _ _ _ _ _ _ c.decode_to_pivot-call.result.answer _ i.compared (took g (goal.at.returns-in_default g c).After-text_in-part) c.in_default.ensures in
+    record { open_ = d.finished; by_log = i.by_log; verdict = differs; calls = counted_more _ _ _ _ _ i.least i.most d.calls; check = room_on i.check d.pivot }
 
-pub returns-in_default-clause-check : goal.returns-in_default-clause-check
-returns-in_default-clause-check g c = room_on c.parts.invariant.check c.decode_to_pivot-call.ensures.pivot
+pub returns-in-Malformed : goal.returns-in-Malformed
+returns-in-Malformed g c =
+    let d = c.decode_to_pivot-call.ensures in
+    let i = c.parts.invariant in
+    let differs = compares_malformed _ _ _ _ _ _ _ _ _ _ i.compared (took g (goal.at.returns-in-Malformed g c).After-text_in-part) _ _ c.in-Malformed.is in
+    record { open_ = d.finished; by_log = i.by_log; verdict = differs; calls = counted_more _ _ _ _ _ i.least i.most d.calls; check = room_on i.check d.pivot }
 
-pub returns-in_default-clause-verdict : goal.returns-in_default-clause-verdict
-returns-in_default-clause-verdict g c =
-    compares_differing _ (g.D.StreamDecoder.view c.parts.self.reader).state (g.D.StreamDecoder.view c.decode_to_pivot-call.new.decoder).state _ _ _ _ _ _ _ _ c.parts.invariant.compared c.decode_to_pivot-call.ensures.law c.text_in-part.ensures.chars c.in_default.ensures
-
-pub returns-in-InputEmpty-clause-by_log : goal.returns-in-InputEmpty-clause-by_log
-returns-in-InputEmpty-clause-by_log g c = c.parts.invariant.by_log
-
-pub returns-in-InputEmpty-clause-check : goal.returns-in-InputEmpty-clause-check
-returns-in-InputEmpty-clause-check g c = room_on c.parts.invariant.check c.decode_to_pivot-call.ensures.pivot
-
-pub returns-in-InputEmpty-clause-verdict : goal.returns-in-InputEmpty-clause-verdict
-returns-in-InputEmpty-clause-verdict g c =
-    let k = empty_call (g.D.StreamDecoder.view c.parts.self.reader).state (g.D.StreamDecoder.view c.decode_to_pivot-call.new.decoder).state _ _ _ _ _ (rw c.in-InputEmpty.is at c.decode_to_pivot-call.ensures.law) c.text_in-part.ensures.chars in
-    let h = compares_more _ (g.D.StreamDecoder.view c.parts.self.reader).state (g.D.StreamDecoder.view c.decode_to_pivot-call.new.decoder).state _ _ _ _ _ _ c.parts.invariant.compared k _ c.in-Some.ensures.parts in
-    compares_end _ (g.D.StreamDecoder.view c.decode_to_pivot-call.new.decoder).state _ _ _ _ _ c.is_empty-self.ensures h (rw c.in-InputEmpty.is at c.decode_to_pivot-call.ensures.ends)
-
-pub returns-in-Malformed-clause-by_log : goal.returns-in-Malformed-clause-by_log
-returns-in-Malformed-clause-by_log g c = c.parts.invariant.by_log
-
-pub returns-in-Malformed-clause-check : goal.returns-in-Malformed-clause-check
-returns-in-Malformed-clause-check g c = room_on c.parts.invariant.check c.decode_to_pivot-call.ensures.pivot
-
-pub returns-in-Malformed-clause-verdict : goal.returns-in-Malformed-clause-verdict
-returns-in-Malformed-clause-verdict g c =
-    let k = malformed_call (g.D.StreamDecoder.view c.parts.self.reader).state (g.D.StreamDecoder.view c.decode_to_pivot-call.new.decoder).state _ _ _ _ _ _ _ (rw c.in-Malformed.is at c.decode_to_pivot-call.ensures.law) c.text_in-part.ensures.chars in
-    compares_malformed _ (g.D.StreamDecoder.view c.parts.self.reader).state (g.D.StreamDecoder.view c.decode_to_pivot-call.new.decoder).state _ _ _ _ _ _ c.parts.invariant.compared _ _ k
+pub returns-in-InputEmpty : goal.returns-in-InputEmpty
+returns-in-InputEmpty g c =
+    let d = c.decode_to_pivot-call.ensures in
+    let i = c.parts.invariant in
+    let more = compares_more _ _ _ _ _ _ _ _ _ _ i.compared (took g (goal.at.returns-in-InputEmpty g c).After-text_in-part) (rw c.in-InputEmpty.is refl) _ c.in-Some.ensures.parts in
+    let ends = compares_end _ (g.D.StreamDecoder.view c.decode_to_pivot-call.new.decoder).state _ _ _ _ _ c.is_empty-self.ensures more (rw c.in-InputEmpty.is at d.ends) in
+    record { open_ = d.finished; by_log = i.by_log; verdict = ends; calls = counted_more _ _ _ _ _ i.least i.most d.calls; check = room_on i.check d.pivot }
 
 pub parts-smaller : goal.parts-smaller
 parts-smaller g c =
-    let k = full_call (g.D.StreamDecoder.view c.parts.self.reader).state (g.D.StreamDecoder.view c.decode_to_pivot-call.new.decoder).state _ _ _ _ _ (rw c.in-OutputFull.is at c.decode_to_pivot-call.ensures.law) c.text_in-part.ensures.chars in
-    let ends = rw c.in-OutputFull.is at c.decode_to_pivot-call.ensures.ends in
-    rw (take_rest c.parts.left.now c.decode_to_pivot-call.result.read) (full_left _ _ _ _ _ _ k
-    (full_some (g.D.StreamDecoder.view c.parts.self.reader).state (g.D.StreamDecoder.view c.decode_to_pivot-call.new.decoder).state _ _ _ _ _ _ c.decode_to_pivot-call.ensures.law c.text_in-part.ensures.chars
-    (λ t w. holds_some c.decode_to_pivot-call.new.pivot c.decode_to_pivot-call.result.written t w ends)))
+    let at = (goal.at.parts-smaller g c).After-text_in-part in
+    rw (take_rest c.parts.left.now c.decode_to_pivot-call.result.read) (fewer_left _ _ _ _ _ _ _ (took g at) (some g at c.in-OutputFull.is))
 
 pub parts-preserved : goal.parts-preserved
 parts-preserved g c =
-    let k = full_call (g.D.StreamDecoder.view c.parts.self.reader).state (g.D.StreamDecoder.view c.decode_to_pivot-call.new.decoder).state _ _ _ _ _ (rw c.in-OutputFull.is at c.decode_to_pivot-call.ensures.law) c.text_in-part.ensures.chars in
-    let ends = rw c.in-OutputFull.is at c.decode_to_pivot-call.ensures.ends in
+    let at = (goal.at.parts-preserved g c).After-text_in-part in
+    let d = c.decode_to_pivot-call.ensures in
+    let i = c.parts.invariant in
     rw (take_rest c.parts.left.now c.decode_to_pivot-call.result.read) (record {
-      compared = compares_more _ (g.D.StreamDecoder.view c.parts.self.reader).state (g.D.StreamDecoder.view c.decode_to_pivot-call.new.decoder).state _ _ _ _ _ _ c.parts.invariant.compared k _ c.in-Some.ensures.parts;
-      open_ = c.decode_to_pivot-call.ensures.finished;
-      by_log = c.parts.invariant.by_log;
+      compared = compares_more _ _ _ _ _ _ _ _ _ _ i.compared (took g at) (rw c.in-OutputFull.is refl) _ c.in-Some.ensures.parts;
+      open_ = d.finished;
+      by_log = i.by_log;
       expected = c.in-Some.ensures.text;
-      form = c.decode_to_pivot-call.ensures.pivot.kind ∙ c.parts.invariant.form ∙ sym c.in-Some.ensures.form;
-      check = room_on c.parts.invariant.check c.decode_to_pivot-call.ensures.pivot;
-      least = λ under.
-          let call = c.decode_to_pivot-call.ensures.calls.at_least under in
-          omega (arith, call, c.parts.invariant.least (omega (arith, call, under)));
-      most = omega (
-        arith,
-        c.parts.invariant.most,
-        c.decode_to_pivot-call.ensures.calls.at_most,
-        ap length c.in-Some.ensures.parts,
-        length-append (pivot_chars c.text_in-part.result) (pivot_chars c.in-Some.rest),
-        full_some (g.D.StreamDecoder.view c.parts.self.reader).state (g.D.StreamDecoder.view c.decode_to_pivot-call.new.decoder).state _ _ _ _ _ _ c.decode_to_pivot-call.ensures.law c.text_in-part.ensures.chars
-            (λ t w. holds_some c.decode_to_pivot-call.new.pivot c.decode_to_pivot-call.result.written t w ends),
-      );
+      form = d.pivot.kind ∙ i.form ∙ sym c.in-Some.ensures.form;
+      check = room_on i.check d.pivot;
+      least = λ under. omega (arith, d.calls.at_least under, i.least (omega (arith, d.calls.at_least under, under)));
+      most = omega (arith, i.most, d.calls.at_most, ap length c.in-Some.ensures.parts, length-append (pivot_chars c.text_in-part.result) (pivot_chars c.in-Some.rest), some g at c.in-OutputFull.is);
     })
-
-pub returns-in_default-clause-calls : goal.returns-in_default-clause-calls
-returns-in_default-clause-calls g c = counted_more _ _ _ _ _ c.parts.invariant.least c.parts.invariant.most c.decode_to_pivot-call.ensures.calls
-
-pub returns-in-InputEmpty-clause-calls : goal.returns-in-InputEmpty-clause-calls
-returns-in-InputEmpty-clause-calls g c = counted_more _ _ _ _ _ c.parts.invariant.least c.parts.invariant.most c.decode_to_pivot-call.ensures.calls
-
-pub returns-in-Malformed-clause-calls : goal.returns-in-Malformed-clause-calls
-returns-in-Malformed-clause-calls g c = counted_more _ _ _ _ _ c.parts.invariant.least c.parts.invariant.most c.decode_to_pivot-call.ensures.calls
