@@ -197,27 +197,25 @@ module _ {T : Type 0} (r : Result T Fault) (o o' l : List ℕ) (line : Option Ma
       let e : (line_items line ++ map Byte held) ++ (map Byte passed ++ more) ≡ map Byte passed ++ more = ap (λ x. (line_items x ++ map Byte held) ++ (map Byte passed ++ more)) no_line ∙ ap (λ x. map Byte x ++ (map Byte passed ++ more)) none in
       under_bytes o o' l p g passed q.0 _ more same (subst (λ x. Grew o o' (take q.0 x)) is q.4) e)
 
--- a policy that stops, after the line of the character
-stops_at : (w w' : WritersView) (p : Policy) (i c : ℕ) (b : List Item) → p ≡ Policy.Stop → Passes w w' (LostAt i c ∷ []) → held_items w' ≡ [] → LeavesPrefix w w' p (Unmappable i c) (LostAt i c ∷ b)
-stops_at w w' p i c b stops h none =
-    let own : written_under p (LostAt i c ∷ b) ≡ LostAt i c ∷ [] = ap (λ (q : Policy). written_under q (LostAt i c ∷ b)) stops in
-    let all : held_items w ++ (LostAt i c ∷ []) ≡ h.delivered = h.in_order ∙ ap (λ x. h.delivered ++ x) none ∙ append-nil h.delivered in
-    let cut : written_under p (held_items w ++ (LostAt i c ∷ b)) ≡ held_items w ++ (LostAt i c ∷ []) =
-    written_spared p (held_items w) (LostAt i c ∷ b) (λ is. held_spared w) ∙ ap (λ x. held_items w ++ x) own in
-    record {
-      taken = tagged (held_items w ++ (LostAt i c ∷ []));
-      wrote = subst (λ x. Wrote w.written w'.written (tagged x)) (sym all) h.wrote;
-      left = record {
-        prefix = ([], ap tagged cut ∙ sym (append-nil (tagged (held_items w ++ (LostAt i c ∷ [])))));
-        stopped = record { policy = stops; items = held_items w; first = held_spared w; last = cut; whole = ap tagged (sym cut) };
-      };
-    }
-
 -- what a fault leaves is left if a result hands it on, whatever follows
 pub hands_each : {T : Type 0} (r : Result T Fault) (e : Fault) (w w' : Written) (p : Policy) (a : List Item → List Item) → IsErrAnd r (λ (x : Fault). x ≡ e) → ((rest : List Item) → WritesPrefix w w' p e (a rest))
     → IfErr r (λ (g : Fault). (rest : List Item) → WritesPrefix w w' p g (a rest))
 hands_each r e w w' p a same h = handed_on (λ (q : Fault). (rest : List Item) → WritesPrefix w w' p q (a rest)) r e same h
 
--- the fault of a policy that stops
+-- the fault of a policy that stops, after the line of the character
 pub stops_as : (w w' : WritersView) (p : Policy) (f : Fault) (i c : ℕ) (b : List Item) → f ≡ Unmappable i c → p ≡ Policy.Stop → Passes w w' (LostAt i c ∷ []) → held_items w' ≡ [] → LeavesPrefix w w' p f (LostAt i c ∷ b)
-stops_as w w' p f i c b is stops h none = subst (λ (q : Fault). LeavesPrefix w w' p q (LostAt i c ∷ b)) (sym is) (stops_at w w' p i c b stops h none)
+stops_as w w' p f i c b fault stops h none =
+    let own : written_under p (LostAt i c ∷ b) ≡ LostAt i c ∷ [] = ap (λ (q : Policy). written_under q (LostAt i c ∷ b)) stops in
+    let all : held_items w ++ (LostAt i c ∷ []) ≡ h.delivered = h.in_order ∙ ap (λ x. h.delivered ++ x) none ∙ append-nil h.delivered in
+    let cut : written_under p (held_items w ++ (LostAt i c ∷ b)) ≡ held_items w ++ (LostAt i c ∷ []) = written_spared p (held_items w) (LostAt i c ∷ b) (λ is. held_spared w) ∙ ap (λ x. held_items w ++ x) own in
+    record {
+      taken = tagged (held_items w ++ (LostAt i c ∷ []));
+      wrote = rw all h.wrote;
+      left = record {
+        prefix = ([], ap tagged cut ∙ sym (append-nil (tagged (held_items w ++ (LostAt i c ∷ [])))));
+        stopped = λ index scalar is.
+            let first : i ≡ index = cc in
+            let second : c ≡ scalar = cc in
+            rw (sym first, sym second) (record { policy = stops; items = held_items w; first = held_spared w; last = cut; whole = ap tagged (sym cut) });
+      };
+    }

@@ -1,5 +1,5 @@
 -- Laws over whole inputs.
-use Rattle.std.proofs.Common.{◌≡◌, ℕ, ◌<◌, ◌↔◌, List, [], ◌++◌, length, sym, ◌∙◌, ap, subst, arith, append_assoc, append-nil, encode_utf8_all, true, length-append}
+use Rattle.std.proofs.Common.{◌≡◌, ℕ, ◌<◌, ◌↔◌, List, [], ◌++◌, length, refl, sym, ◌∙◌, ap, subst, arith, append_assoc, append-nil, encode_utf8_all, true, length-append}
 use Rattle.std.specs.Str.{chars, IsUtf8}
 use Rattle.std.proofs.lemmas.List.{append_cancel_left}
 use Rattle.std.proofs.lemmas.Str.{encodes-chars}
@@ -72,4 +72,4 @@ known_fails x s t j f is k =
 pub known_too_long : (x : List ℕ) (s t : Devices) (j : Job) → IsOf s.reads t.reads x → Fails s t j Fault.TooLong → j.limit < length x
 known_too_long x s t j is k =
     let front = is.front (k.read.input ++ k.read.refused) k.read.given in
-    omega (arith, ap length front.1, length-append (k.read.input ++ k.read.refused) front.0, k.limited)
+    omega (arith, ap length front.1, length-append (k.read.input ++ k.read.refused) front.0, k.limited refl)

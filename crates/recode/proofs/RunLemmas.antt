@@ -16,7 +16,7 @@ use Rattle.recode.specs.Job.{IsValidJob, Faithful, input_pieces, output_pieces, 
 use Rattle.recode.specs.Latency.{WroteDecided}
 use Rattle.recode.specs.Policy.{reference_form}
 use Rattle.recode.specs.Session.{View, IsNewSession, Tells, IsReport, Completes, Fails}
-use Rattle.recode.specs.Step.{Finishes, PassesLimitIfTooLong}
+use Rattle.recode.specs.Step.{Finishes}
 use Rattle.recode.specs.Devices.{Devices}
 use Rattle.recode.specs.declared.job.Fault.{Fault}
 use Rattle.recode.specs.declared.job.Job.{Job}
@@ -102,7 +102,7 @@ fails before after j v f b s =
     record {
       read = s.read;
       within = omega (arith, s.within, b.read);
-      limited = subst (λ (n : ℕ). PassesLimitIfTooLong n j.limit f) (ap (λ (n : ℕ). n + length (s.read.input ++ s.read.refused)) b.read ∙ zero_plus (length (s.read.input ++ s.read.refused))) s.limited;
+      limited = λ is. omega (arith, s.limited is, b.read);
       taken = s.pays.taken;
       wrote = s.pays.wrote;
       prefix = λ r h. (left r h).prefix;
@@ -117,6 +117,3 @@ fails before after j v f b s =
                 (wrote_decided before k.0 after.written j k.1 ran.chunk ran.advances.taken (stands_run before k.0 j v k.1 b ran) ran.settled k.4),
           );
     }
-  where
-    zero_plus : (n : ℕ) → 0 + n ≡ n
-    zero_plus n = omega arith

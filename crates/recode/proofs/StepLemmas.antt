@@ -7,7 +7,7 @@ use Rattle.recode.specs.Devices.{CountsFault, Devices, Failures, Gave, GaveToEnd
 use Rattle.recode.specs.TaggedByte.{Wrote, tagged, TaggedByte, output_bytes, log_bytes}
 use Rattle.recode.specs.Policy.{written_under}
 use Rattle.recode.specs.WrittenItems.{IsLeft, IsSpared, IsStop, WritesPrefixFor}
-use Rattle.recode.specs.Step.{Advances, Finishes, HasRun, IsNearlyDecided, PassesLimitIfTooLong, StepsOn, Stops, WasRead}
+use Rattle.recode.specs.Step.{Advances, Finishes, HasRun, IsNearlyDecided, StepsOn, Stops, WasRead}
 use Rattle.recode.specs.Fault.{of_other}
 use Rattle.recode.specs.declared.job.Fault.{Fault}
 use Rattle.recode.specs.declared.job.Fault.TheVariants.{Read, Write, Log, TooLong, Unmappable}
@@ -34,8 +34,8 @@ pub stops_unread : (a b : List (List ℕ)) (w : Written) (n m : Failures) (limit
 stops_unread a b w n m limit s p within = record {
   read = record { input = []; refused = []; ended = false; given = Gave-kept a b p; end = λ h. cc; none = λ h. cc; spared = λ h. refl };
   within = omega (arith, within);
-  limited = omega (arith, within);
-  pays = nothing_under w s.policy Read false (to_write s) (λ t. tt);
+  limited = λ is. absurd (cc);
+  pays = nothing_under w s.policy Read false (to_write s) (λ t i c is. absurd (cc));
   untouched = λ h. (refl, keeps_all w);
 }
 
@@ -44,58 +44,34 @@ pub stops_refused : (a b : List (List ℕ)) (w : Written) (n m : Failures) (limi
 stops_refused a b w n m limit s chunk p within past = record {
   read = record { input = []; refused = chunk; ended = false; given = p; end = λ h. cc; none = λ h. cc; spared = λ h. absurd (h refl) };
   within = omega (arith, within);
-  limited = past;
-  pays = nothing_under w s.policy TooLong false (to_write s) (λ t. tt);
+  limited = λ is. past;
+  pays = nothing_under w s.policy TooLong false (to_write s) (λ t i c is. absurd (cc));
   untouched = λ h. (refl, keeps_all w);
 }
 
 -- a fault of a writer, or of the policy
-abbrev pub IsWriting : Fault → Type 0
-IsWriting Read = ⊥
-IsWriting Write = Unit {0}
-IsWriting Log = Unit {0}
-IsWriting TooLong = ⊥
-IsWriting (Unmappable i c) = Unit {0}
-
-within_limit : (n limit : ℕ) (f : Fault) → IsWriting f → n ≤ limit → PassesLimitIfTooLong n limit f
-within_limit n limit Read w h = absurd w
-within_limit n limit Write w h = h
-within_limit n limit Log w h = h
-within_limit n limit TooLong w h = absurd w
-within_limit n limit (Unmappable i c) w h = h
-
-pub is_writing : (T : Type 0) (f : Fault) → of_other {T = T} (Err f) ≡ 0 → IsWriting f
-is_writing T Read h = absurd (omega arith)
-is_writing T Write h = tt
-is_writing T Log h = tt
-is_writing T TooLong h = absurd (omega arith)
-is_writing T (Unmappable i c) h = tt
-
 pub stops_under : (before after : Devices) (limit : ℕ) (last : Bool) (s : State) (chunk : List ℕ) (f : Fault) → Gave before.reads after.reads chunk → (last ≡ true → GaveToEnd before.reads after.reads chunk)
-    → IsWriting f → s.counts.read + length chunk ≤ limit → WritesPrefixFor before.written after.written s.policy f last (λ r. to_write s (chunk ++ r)) → Stops before after limit s f
+    → of_other {T = Unit {0}} (Err f) ≡ 0 → s.counts.read + length chunk ≤ limit → WritesPrefixFor before.written after.written s.policy f last (λ r. to_write s (chunk ++ r)) → Stops before after limit s f
 stops_under before after limit last s chunk f p e writing within q = record {
-  read = record { input = chunk; refused = []; ended = last; given = subst (Gave before.reads after.reads) (sym (append-nil chunk)) p; end = e; none = λ h. refl; spared = λ h. refl };
+  read = record { input = chunk; refused = []; ended = last; given = rw (append-nil chunk) p; end = e; none = λ h. refl; spared = λ h. refl };
   within = within;
-  limited = within_limit _ limit f writing (omega (arith, within, ap length (append-nil chunk)));
+  limited = λ is. absurd (omega (arith, rw is at writing));
   pays = q;
-  untouched = λ h. elim h [
-    | inl reads ↦ absurd (subst IsWriting reads writing)
-    | inr refuses ↦ absurd (subst IsWriting refuses writing)
-  ];
+  untouched = λ h. absurd (elim h [ inl is ↦ omega (arith, rw is at writing) | inr is ↦ omega (arith, rw is at writing) ]);
 }
 
 -- What a run has done that a fault ended.
 pub record HasStopped (before after : Devices) (limit : ℕ) (s : State) (fault : Fault) : Type 0 where
   pub read : WasRead before.reads after.reads fault
   pub within : s.counts.read + length read.input ≤ limit
-  pub limited : PassesLimitIfTooLong (s.counts.read + length (read.input ++ read.refused)) limit fault
+  pub limited : fault ≡ TooLong → limit < s.counts.read + length (read.input ++ read.refused)
   pub pays : WritesPrefixFor before.written after.written s.policy fault read.ended (λ r. to_write s (read.input ++ r))
   -- if no writer failed, what was written is what the steps before wrote
   pub latest : (fault ≡ Read) ⊎ (fault ≡ TooLong) → (t : Devices) × (s' : State) × (ran : HasRun before t limit s s') × (ran.chunk ≡ read.input) × KeepsWritten t.written after.written
 
 -- under the same policy
 spared_as : (p q : Policy) (items : List Item) → p ≡ q → IsSpared p items → IsSpared q items
-spared_as p q items e h = subst (λ (k : Policy). IsSpared k items) e h
+spared_as p q items e h = rw (sym e) h
 
 pub left_as : (p q : Policy) (f : Fault) (taken : List TaggedByte) (to_write : List Item) → p ≡ q → IsLeft p f taken to_write → IsLeft q f taken to_write
 left_as p q f taken to_write e h = subst (λ (k : Policy). IsLeft k f taken to_write) e h
@@ -171,9 +147,6 @@ goes_on_finish a b c limit s s1 s2 p q = record {
   sound = q.sound;
 }
 
-limit_on : (n m limit : ℕ) (f : Fault) → n ≡ m → PassesLimitIfTooLong n limit f → PassesLimitIfTooLong m limit f
-limit_on n m limit f e h = subst (λ (k : ℕ). PassesLimitIfTooLong k limit f) e h
-
 pub goes_on_stop : (a b c : Devices) (limit : ℕ) (s s1 : State) (f : Fault) → HasRun a b limit s s1 → Stops b c limit s1 f → HasStopped a c limit s f
 goes_on_stop a b c limit s s1 f p q = record {
   read = record {
@@ -186,7 +159,7 @@ goes_on_stop a b c limit s s1 f p q = record {
     spared = q.read.spared;
   };
   within = omega (arith, p.counted, length-append p.chunk q.read.input, q.within);
-  limited = limit_on _ _ limit f (omega (arith, p.counted, length-append p.chunk (q.read.input ++ q.read.refused), ap length (append_assoc p.chunk q.read.input q.read.refused))) q.limited;
+  limited = λ is. omega (arith, p.counted, length-append p.chunk (q.read.input ++ q.read.refused), ap length (append_assoc p.chunk q.read.input q.read.refused), q.limited is);
   pays = record {
     taken = tagged p.pays.written_items ++ q.pays.taken;
     wrote = Wrote-trans a.written b.written c.written _ _ p.pays.wrote q.pays.wrote;
@@ -232,22 +205,6 @@ module _ (n k : Devices) (m : Failures) (r : m.reader ≡ k.failures.reader) (w 
   flush_counted p TooLong c h = absurd h
   flush_counted p (Unmappable i d) c h = absurd h
 
--- a flush's fault is of bytes within the limit
-flush_within : (writes writes' logs logs' read limit : ℕ) (f : Fault) → IsFlushCause writes writes' logs logs' f → read ≤ limit → PassesLimitIfTooLong read limit f
-flush_within writes writes' logs logs' read limit Read h within = absurd h
-flush_within writes writes' logs logs' read limit Write h within = within
-flush_within writes writes' logs logs' read limit Log h within = within
-flush_within writes writes' logs logs' read limit TooLong h within = absurd h
-flush_within writes writes' logs logs' read limit (Unmappable i d) h within = absurd h
-
--- and stops nothing
-pub flush_stop : (writes writes' logs logs' : ℕ) (p : Policy) (taken : List TaggedByte) (written : List Item) (f : Fault) → IsFlushCause writes writes' logs logs' f → IsStop p f taken written
-flush_stop writes writes' logs logs' p taken written Read h = tt
-flush_stop writes writes' logs logs' p taken written Write h = tt
-flush_stop writes writes' logs logs' p taken written Log h = tt
-flush_stop writes writes' logs logs' p taken written TooLong h = tt
-flush_stop writes writes' logs logs' p taken written (Unmappable i c) h = absurd h
-
 -- the log with its message, after what was written and flushed
 module _ (before after : Devices) (flushed : Written) (log : List ℕ) (m : Failures) (untold : ℕ) (j : Job) (kept : KeepsWritten after.written flushed) where
   told_log : (taken : List TaggedByte) (message : List ℕ) → Wrote before.written after.written taken → Grew flushed.log log message → Grew before.written.log log (log_bytes taken ++ message)
@@ -283,7 +240,7 @@ module _ (before after : Devices) (flushed : Written) (log : List ℕ) (m : Fail
       record {
         read = record { input = k.input; refused = []; ended = true; given = subst (Gave before.reads after.reads) (sym (append-nil k.input)) (GaveToEnd-is before.reads after.reads k.input k.given); end = λ h. k.given; none = λ h. refl; spared = λ h. refl };
         within = w.within;
-        limited = flush_within writes writes' logs logs' _ j.limit g cause (rw (append-nil k.input) w.within);
+        limited = λ is. absurd (rw is at cause);
         taken = all;
         fault = g;
         untold = untold;
@@ -293,5 +250,5 @@ module _ (before after : Devices) (flushed : Written) (log : List ℕ) (m : Fail
         output = Grew-kept before.written.output after.written.output flushed.output (output_bytes all) w.output kept.output;
         logged = told_log all (take told.0 (message_of g)) (record { output = w.output; lined = w.logged }) told.2;
         prefix = λ r h. ([], ap (λ t. tagged (trace j t)) (ap (λ t. k.input ++ t) (h refl) ∙ append-nil k.input) ∙ sym (append-nil all));
-        stopped = λ r h. flush_stop writes writes' logs logs' j.policy all (trace j (k.input ++ r)) g cause;
+        stopped = λ r h i c is. absurd (rw is at cause);
       }

@@ -73,36 +73,27 @@ written_once Policy.Stop s t is h = cut_once s t h
 
 -- What a fault leaves, after what was written, and of more.
 stop_behind : (p : Policy) (f : Fault) (s : List Item) (taken : List TaggedByte) (written : List Item) → IsSpared p s → IsStop p f taken written → IsStop p f (tagged s ++ taken) (s ++ written)
-stop_behind p Read s taken written h k = tt
-stop_behind p Write s taken written h k = tt
-stop_behind p Log s taken written h k = tt
-stop_behind p TooLong s taken written h k = tt
-stop_behind p (Unmappable i c) s taken written h k = record {
-  policy = k.policy;
-  items = s ++ k.items;
-  first = omega (arith, lost_line_count-append s k.items, h k.policy, k.first);
-  last = ap (λ l. s ++ l) k.last ∙ sym (append_assoc s k.items (LostAt i c ∷ []));
-  whole = ap (λ l. tagged s ++ l) k.whole ∙ sym (tagged-append s written);
-}
-
-stop_is : (p : Policy) (f : Fault) (taken : List TaggedByte) (written written' : List Item) → written ≡ written' → IsStop p f taken written → IsStop p f taken written'
-stop_is p f taken written written' e k = subst (IsStop p f taken) e k
+stop_behind p f s taken written h stop i c is =
+    let k = stop i c is in
+    record {
+      policy = k.policy;
+      items = s ++ k.items;
+      first = omega (arith, lost_line_count-append s k.items, h k.policy, k.first);
+      last = ap (λ l. s ++ l) k.last ∙ sym (append_assoc s k.items (LostAt i c ∷ []));
+      whole = ap (λ l. tagged s ++ l) k.whole ∙ sym (tagged-append s written);
+    }
 
 stop_front : (p : Policy) (f : Fault) (taken : List TaggedByte) (total rest : List Item) → IsStop p f taken (written_under p total) → IsStop p f taken (written_under p (total ++ rest))
-stop_front p Read taken total rest k = tt
-stop_front p Write taken total rest k = tt
-stop_front p Log taken total rest k = tt
-stop_front p TooLong taken total rest k = tt
-stop_front p (Unmappable i c) taken total rest k =
-    stop_is p (Unmappable i c) taken _ _
-    (sym (written_once p total rest k.policy (omega (arith, ap lost_line_count k.last, lost_line_count-append k.items (LostAt i c ∷ []))))) k
+stop_front p f taken total rest stop i c is =
+    let k = stop i c is in
+    rw (written_once p total rest k.policy (omega (arith, ap lost_line_count k.last, lost_line_count-append k.items (LostAt i c ∷ [])))) k
 
 pub left_behind : (p : Policy) (f : Fault) (s : List Item) (taken : List TaggedByte) (a b : List Item) → IsSpared p s → a ≡ s ++ b → IsLeft p f taken b → IsLeft p f (tagged s ++ taken) a
 left_behind p f s taken a b h e k =
     let is : written_under p a ≡ s ++ written_under p b = ap (written_under p) e ∙ written_spared p s b h in
     record {
       prefix = (k.prefix.0, ap tagged is ∙ tagged-append s (written_under p b) ∙ ap (λ l. tagged s ++ l) k.prefix.1 ∙ sym (append_assoc (tagged s) taken k.prefix.0));
-      stopped = stop_is p f (tagged s ++ taken) _ _ (sym is) (stop_behind p f s taken (written_under p b) h k.stopped);
+      stopped = rw is (stop_behind p f s taken (written_under p b) h k.stopped);
     }
 
 left_front : (p : Policy) (f : Fault) (taken : List TaggedByte) (total rest a : List Item) → a ≡ total ++ rest → IsLeft p f taken total → IsLeft p f taken a
@@ -111,13 +102,8 @@ left_front p f taken total rest a e k =
     let is : written_under p a ≡ written_under p (total ++ rest) = ap (written_under p) e in
     record {
       prefix = (k.prefix.0 ++ tagged more.0, ap tagged (is ∙ more.1) ∙ tagged-append (written_under p total) more.0 ∙ ap (λ l. l ++ tagged more.0) k.prefix.1 ∙ append_assoc taken k.prefix.0 (tagged more.0));
-      stopped = stop_is p f taken _ _ (sym is) (stop_front p f taken total rest k.stopped);
+      stopped = rw is (stop_front p f taken total rest k.stopped);
     }
-
--- if the fault is a writer's
-none_stopped : (p : Policy) (f : Fault) (taken : List TaggedByte) (written : List Item) → (f ≡ Write) ⊎ (f ≡ Log) → IsStop p f taken written
-none_stopped p f taken written (inl is) = subst (λ (g : Fault). IsStop p g taken written) (sym is) tt
-none_stopped p f taken written (inr is) = subst (λ (g : Fault). IsStop p g taken written) (sym is) tt
 
 -- n of the bytes
 pub under_bytes : (w w' l : List ℕ) (p : Policy) (f : Fault) (bs : List ℕ) (n : ℕ) (a b : List Item) → f ≡ Write → Grew w w' (take n bs) → a ≡ map Byte bs ++ b → WritesPrefix (record { output = w; log = l }) (record { output = w'; log = l }) p f a
@@ -130,7 +116,7 @@ under_bytes w w' l p f bs n a b writer h e =
       wrote = wrote_bytes w w' l (take n bs) h;
       left = record {
         prefix = (tagged (written_under p more), ap tagged (ap (written_under p) is ∙ written_spared p (map Byte (take n bs)) more (spared_bytes p (take n bs))) ∙ tagged-append (map Byte (take n bs)) (written_under p more));
-        stopped = none_stopped p f _ _ (inl writer);
+        stopped = λ i c is. absurd (cc);
       };
     }
 
@@ -154,7 +140,7 @@ under_lines w l l' p f lines n items a more log e begins h = record {
       ap tagged begins ∙ tagged-append items more ∙ ap (λ x. x ++ tagged more) (e ∙ ap (map Line) (sym (take-append-drop n lines)) ∙ map-append Line (take n lines) (drop n lines))
           ∙ append_assoc (map Line (take n lines)) (map Line (drop n lines)) (tagged more),
     );
-    stopped = none_stopped p f _ _ (inr log);
+    stopped = λ i c is. absurd (cc);
   };
 }
 

@@ -63,7 +63,7 @@ module _ (j : Job) (s s' : Devices) (quiet : s'.failures ≡ s.failures) where
   well_or_ended (Err Write) a = absurd (omega (arith, a.counts.writer, ap (λ (n : Failures). n.writer) quiet))
   well_or_ended (Err Log) a = absurd (omega (arith, a.counts.log, ap (λ (n : Failures). n.log) quiet))
   well_or_ended (Err TooLong) a = inr (inl refl)
-  well_or_ended (Err (Unmappable i c)) a = inr (inr (a.fails.stopped [] (λ last. refl)).policy)
+  well_or_ended (Err (Unmappable i c)) a = inr (inr (a.fails.stopped [] (λ last. refl) i c refl).policy)
 
 -- and whose reader's contract says its bytes
 module _ (j : Job) (x : List ℕ) (s s' : Devices) (quiet : s'.failures ≡ s.failures) where
@@ -89,7 +89,7 @@ module _ (j : Job) (x : List ℕ) (s s' : Devices) (quiet : s'.failures ≡ s.fa
   lost_where_stopped (Err Log) is a h through = absurd h
   lost_where_stopped (Err TooLong) is a h through = absurd h
   lost_where_stopped (Err (Unmappable i c)) is a h through =
-      let k = (known_fails x s s' j (Unmappable i c) is a.fails).stopped in
+      let k = (known_fails x s s' j (Unmappable i c) is a.fails).stopped i c refl in
       let spared = runs_through j x through in
       omega (arith, spared k.policy, ap lost_line_count (sym (trace_where_spared j x spared)), ap lost_line_count k.last, lost_line_count-append k.items (LostAt i c ∷ []))
 

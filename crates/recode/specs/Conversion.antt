@@ -5,7 +5,7 @@ use Rattle.recode_log.specs.Counted.{IsTold}
 use Rattle.recode_log.specs.Line.{row_bytes}
 use Rattle.recode.specs.Job.{trace, Faithful}
 use Rattle.recode.specs.Session.{WroteWhole}
-use Rattle.recode.specs.Step.{PassesLimitIfTooLong, WasRead}
+use Rattle.recode.specs.Step.{WasRead}
 use Rattle.recode.specs.Devices.{Devices, Failures, GaveToEnd, Grew}
 use Rattle.recode.specs.Fault.{log_failures, reader_failures, writer_failures}
 use Rattle.recode.specs.TaggedByte.{TaggedByte, IsPrefix, tagged, output_bytes, log_bytes}
@@ -67,7 +67,7 @@ pub record Breaks (before after : Devices) (j : Job) : Type 0 where
   pub fault : Fault
   pub read : WasRead before.reads after.reads fault
   pub within : length read.input ≤ j.limit
-  pub limited : PassesLimitIfTooLong (length (read.input ++ read.refused)) j.limit fault
+  pub limited : fault ≡ TooLong → j.limit < length (read.input ++ read.refused)
   pub taken : List TaggedByte
   pub untold : ℕ
   pub counted : CountsFlushes before.failures (record after.failures { log = untold }) fault

@@ -1,5 +1,5 @@
 -- A session as its callers know it, and what a run of it says.
-use Rattle.std.specs.Prelude.{◌≡◌, ℕ, ◌≤◌, ◌⊎◌, ◌↔◌, IsTrue, List, [], ◌++◌, length, true, Result, Ok, Err}
+use Rattle.std.specs.Prelude.{◌<◌, ◌≡◌, ℕ, ◌≤◌, ◌⊎◌, ◌↔◌, IsTrue, List, [], ◌++◌, length, true, Result, Ok, Err}
 use Rattle.encoding_mem.specs.Piece.{Piece, malformed_count}
 use Rattle.encoding_mem.specs.Coding.{lost_count}
 use Rattle.encoding_mem.specs.declared.form.EscapeState.TheVariants.{Ascii}
@@ -8,7 +8,7 @@ use Rattle.recode.specs.Latency.{WroteDecided}
 use Rattle.recode.specs.State.{State, WillBeFaithful, to_write}
 use Rattle.recode.specs.Devices.{Devices, GaveToEnd, Written}
 use Rattle.recode.specs.TaggedByte.{TaggedByte, Wrote, IsPrefix, tagged, output_bytes, log_bytes}
-use Rattle.recode.specs.Step.{PassesLimitIfTooLong, WasRead}
+use Rattle.recode.specs.Step.{WasRead}
 use Rattle.recode.specs.Work.{fewest_calls, most_calls}
 use Rattle.recode.specs.WrittenItems.{IsStop}
 use Rattle.recode.specs.declared.job.Fault.{Fault}
@@ -110,7 +110,7 @@ pub record Completes (reads reads' : List (List ℕ)) (before after : Written) (
 pub record Fails (before after : Devices) (j : Job) (f : Fault) : Type 0 where
   pub read : WasRead before.reads after.reads f
   pub within : length read.input ≤ j.limit
-  pub limited : PassesLimitIfTooLong (length (read.input ++ read.refused)) j.limit f
+  pub limited : f ≡ TooLong → j.limit < length (read.input ++ read.refused)
   pub taken : List TaggedByte
   pub wrote : Wrote before.written after.written taken
   pub prefix : (r : List ℕ) → (read.ended ≡ true → r ≡ []) → IsPrefix taken (tagged (trace j (read.input ++ r)))

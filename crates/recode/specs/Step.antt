@@ -87,15 +87,6 @@ pub record Finishes (before after : Devices) (limit : ℕ) (s s' : State) : Type
   pub least : TakesAtLeast (3 * (s'.counts.bad - s.counts.bad) + 2 * min 1 (length chunk) + 2) s.counts s'.counts
   pub sound : AreSound s'.decoder.pending s'.counts
 
--- the bytes that were read pass the limit if the fault is `TooLong`, and do not for any other
--- fault
-abbrev pub PassesLimitIfTooLong : (read limit : ℕ) → Fault → Type 0
-PassesLimitIfTooLong read limit TooLong = limit < read
-PassesLimitIfTooLong read limit Read = read ≤ limit
-PassesLimitIfTooLong read limit Write = read ≤ limit
-PassesLimitIfTooLong read limit Log = read ≤ limit
-PassesLimitIfTooLong read limit (Unmappable index scalar) = read ≤ limit
-
 -- What was read when a fault came: bytes that were counted, then bytes that were refused, which `TooLong` does alone;
 -- and whether their end was read.
 pub record WasRead (before after : List (List ℕ)) (fault : Fault) : Type 0 where
@@ -114,7 +105,7 @@ pub record WasRead (before after : List (List ℕ)) (fault : Fault) : Type 0 whe
 pub record Stops (before after : Devices) (limit : ℕ) (s : State) (fault : Fault) : Type 0 where
   pub read : WasRead before.reads after.reads fault
   pub within : s.counts.read + length read.input ≤ limit
-  pub limited : PassesLimitIfTooLong (s.counts.read + length (read.input ++ read.refused)) limit fault
+  pub limited : fault ≡ TooLong → limit < s.counts.read + length (read.input ++ read.refused)
   pub pays : WritesPrefixFor before.written after.written s.policy fault read.ended (λ r. to_write s (read.input ++ r))
   pub untouched : (fault ≡ Read) ⊎ (fault ≡ TooLong) → (read.input ≡ []) × KeepsWritten before.written after.written
 

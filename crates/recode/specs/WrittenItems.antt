@@ -50,14 +50,9 @@ pub record StopsAtLoss (p : Policy) (index scalar : ℕ) (taken : List TaggedByt
   pub last : written ≡ items ++ (LostAt index scalar ∷ [])
   pub whole : taken ≡ tagged written
 
--- if the fault is `Unmappable`, the policy stopped at a lost character, and all up to its line was
--- written; of any other fault nothing is said
+-- if the fault is `Unmappable`, the policy stopped at that lost character, and all up to its line was written
 abbrev pub IsStop : Policy → Fault → List TaggedByte → List Item → Type 0
-IsStop p Read taken written = Unit {0}
-IsStop p Write taken written = Unit {0}
-IsStop p Log taken written = Unit {0}
-IsStop p TooLong taken written = Unit {0}
-IsStop p (Unmappable index scalar) taken written = StopsAtLoss p index scalar taken written
+IsStop p f taken written = (index scalar : ℕ) → f ≡ Unmappable index scalar → StopsAtLoss p index scalar taken written
 
 -- what a fault leaves: these bytes are a prefix of what was still to be written under the policy, and all of it if that
 -- stopped the conversion

@@ -3,7 +3,7 @@ use Rattle.std.proofs.lemmas.Bool.{ne_eqb}
 use Rattle.recode_log.specs.laws.Calls.{passed_failed, passed_one}
 use Rattle.recode.specs.calls.Writers.{is_end}
 use Rattle.recode.proofs.GrowLemmas.{Gave-one, GaveToEnd-one, none_where_end}
-use Rattle.recode.proofs.StepLemmas.{stops_unread, stops_refused, stops_under, is_writing}
+use Rattle.recode.proofs.StepLemmas.{stops_unread, stops_refused, stops_under}
 use Rattle.recode.proofs.LatencyLemmas.{finishes, steps_on}
 use Rattle.recode.proofs.TellLemmas.{ended_before, last_handed, none_well, reads_one, step_calls, taken_none}
 use Rattle.recode.proofs.TraceLemmas.{handed_on}
@@ -23,7 +23,7 @@ returns-in_err-write_chunk-clause-fault g c =
     handed_on _ _ _ c.from_residual.ensures.1 (stops_under _ _ _ _ _ _ _
     (Gave-one _ _ _ one)
     (λ h. GaveToEnd-one _ _ _ one (none_where_end _ h))
-    (is_writing (Unit {0}) _ c.in_err-write_chunk.ensures.failures.not_other)
+    c.in_err-write_chunk.ensures.failures.not_other
     (omega (arith, c.in-Ok.ensures.bound.1, c.if-read-self.false, within))
     (search rules))
 
