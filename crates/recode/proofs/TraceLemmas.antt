@@ -1,6 +1,6 @@
 -- How what was written and what is still to be written compose. What the trace of a whole input is made of. If
 -- the log is empty.
-use Rattle.std.proofs.Common.{arith, inl, inr, ◌⊎◌, ◌<◌, ◌+◌, Result, Ok, Err, IfErr, IsErrAnd, Bool, true, false, ◌≡◌, ℕ, List, [], ◌∷◌, ◌++◌, map, take, drop, refl, ap, sym, ◌∙◌, subst, append_assoc, take-append-drop, length}
+use Rattle.std.proofs.Common.{arith, ◌<◌, ◌+◌, Result, Ok, Err, IfErr, IsErrAnd, Bool, true, ◌≡◌, ℕ, List, [], ◌∷◌, ◌++◌, map, take, drop, refl, ap, sym, ◌∙◌, subst, append_assoc, take-append-drop, length}
 use Rattle.std.proofs.lemmas.List.{map-append}
 use Rattle.recode.proofs.GrowLemmas.{Grew-nil, Grew-trans}
 use Rattle.encoding_mem.specs.declared.reference.Reference.{Reference}
@@ -12,7 +12,7 @@ use Rattle.recode.specs.TaggedByte.{TaggedByte, Line, output_bytes, log_bytes, W
 use Rattle.recode.specs.Policy.{up_to_loss, written_under}
 use Rattle.recode.specs.WrittenItems.{WritesPrefix, WritesItemsFor, WritesPrefixFor, IsLeft, IsSpared, IsStop, lost_line_count}
 use Rattle.recode.specs.declared.job.Fault.{Fault}
-use Rattle.recode.specs.declared.job.Fault.TheVariants.{Read, Write, Log, TooLong, Unmappable}
+use Rattle.recode.specs.declared.job.Fault.TheVariants.{Write, Log}
 use Rattle.recode.specs.declared.job.Policy.{Policy}
 use Rattle.encoding_mem.specs.Coding.{Coding, open_from, whole_from, last_set, reference_bytes, AllMapped, IsMapped}
 use Rattle.encoding_mem.specs.declared.form.EscapeState.{EscapeState}

@@ -20,7 +20,7 @@ use Rattle.recode.specs.WrittenItems.{IsStop, WritesItems, WritesItemsFor, Write
 use Rattle.recode.specs.declared.counts.Counts.{Counts}
 use Rattle.recode.specs.declared.job.Fault.{Fault}
 use Rattle.recode.specs.declared.job.Policy.{Policy}
-use Rattle.recode.specs.declared.job.Fault.TheVariants.{Read, Write, Log, TooLong, Unmappable}
+use Rattle.recode.specs.declared.job.Fault.TheVariants.{Read, TooLong}
 
 -- Nothing is pending, or bytes whose first piece changes with at most three more, and ends at most two bytes before
 -- their end.
