@@ -149,7 +149,7 @@ told_fault j x t' Write fails long wrote first = tt
 told_fault j x t' Log fails long wrote first = tt
 told_fault j x t' TooLong fails long wrote first = long fails
 told_fault j x t' (Unmappable index scalar) fails long wrote first =
-    let stopped : StopsAtLoss j.policy index scalar (wrote (Unmappable index scalar) fails).taken (trace j x) = (wrote (Unmappable index scalar) fails).stopped in
+    let stopped : StopsAtLoss j.policy index scalar (wrote (Unmappable index scalar) fails).taken (trace j x) = (wrote (Unmappable index scalar) fails).stopped index scalar refl in
     (stopped.policy, first index scalar (wrote (Unmappable index scalar) fails).taken stopped)
 
 -- a pivot of that kind and size holds any character, too
