@@ -108,9 +108,7 @@ steps_on before after limit s s1 chunk last read_in some within sound goes_on k 
     let qs = s1.decoder.pieces [] in
     let offset_is : offset1 ≡ offset + sizes p.taken = omega (arith, taken_sizes s.decoder s1.decoder chunk p.taken (p.rest []), k.counted, sound.index) in
     let is : trace_from (reference_form s.policy) e s.set offset i (p.taken ++ qs) ≡ pays.written_items ++ trace_from (reference_form s.policy) e s1.set offset1 i1 qs =
-    ap (trace_from (reference_form s.policy) e s.set offset i) (sym (p.rest [])) ∙ pays.equals [] (λ _. refl)
-    ∙ ap (λ (q : Coding). pays.written_items ++ trace_from (reference_form s1.policy) q s1.set offset1 i1 qs) k.target
-    ∙ ap (λ (q : Policy). pays.written_items ++ trace_from (reference_form q) e s1.set offset1 i1 qs) k.policy in
+    ap (trace_from (reference_form s.policy) e s.set offset i) (sym (p.rest [])) ∙ rw (k.target, k.policy) at (pays.equals [] (λ _. refl)) in
     let none : (r : List ℕ) → last ≡ true → r ≡ [] = λ r h. absurd (false≢true (sym goes_on ∙ h)) in
     record {
       chunk = chunk;
@@ -176,11 +174,9 @@ stands_on t t1 t2 j limit s s1 x ps k p =
     let offset : s.counts.read - s.decoder.pending ≡ 0 + sizes ps = omega (arith, k.read, k.passed) in
     let index : s.counts.index ≡ 0 + length (text ps) = omega (arith, k.index) in
     let more : Grew t1.written.output t2.written.output (open_from (reference_form j.policy) e (last_set e Ascii (text ps)) (text taken)) =
-    subst (λ (q : EscapeState). Grew t1.written.output t2.written.output (open_from (reference_form j.policy) e q (text taken))) k.set
-    (subst (λ (q : Coding). Grew t1.written.output t2.written.output (open_from (reference_form j.policy) q s.set (text taken))) coded
-    (subst (λ (f : Policy). Grew t1.written.output t2.written.output (open_from (reference_form f) s.coding s.set (text taken))) k.policy p.output)) in
+    rw (k.policy, coded, k.set) at p.output in
     let lined : Grew t1.written.log t2.written.log (flat_map line_bytes (log_lines e (s.counts.read - s.decoder.pending) s.counts.index taken)) =
-    subst (λ (q : Coding). Grew t1.written.log t2.written.log (flat_map line_bytes (log_lines q (s.counts.read - s.decoder.pending) s.counts.index taken))) coded p.logged in
+    rw coded at p.logged in
     record {
       coding = p.target ∙ coded;
       policy = p.policy ∙ k.policy;
@@ -188,13 +184,10 @@ stands_on t t1 t2 j limit s s1 x ps k p =
       given = Gave-trans t.reads t1.reads t2.reads x chunk k.given p.given;
       pieces = λ y. ap (input_pieces j) (append_assoc x chunk y) ∙ k.pieces (chunk ++ y) ∙ ap (λ q. ps ++ q) (p.advances.rest y) ∙ sym (append_assoc ps taken (s1.decoder.pieces y));
       passed = omega (arith, k.passed, taken_sizes s.decoder s1.decoder chunk taken (p.advances.rest []), sizes-append ps taken, length-append x chunk);
-      set = p.advances.set ∙ ap (λ (q : Coding). last_set q s.set (text taken)) coded ∙ ap (λ (q : EscapeState). last_set e q (text taken)) k.set
-          ∙ sym (last_set-append e Ascii (text ps) (text taken)) ∙ ap (last_set e Ascii) (sym joined);
+      set = rw (coded, k.set) at p.advances.set ∙ rw (joined, last_set-append e Ascii (text ps) (text taken)) refl;
       index = omega (arith, k.index, p.advances.index, ap length joined, length-append (text ps) (text taken));
-      output = subst (Grew t.written.output t2.written.output) (sym (open_from-append _ e Ascii (text ps) (text taken)) ∙ ap (open_from (reference_form j.policy) e Ascii) (sym joined))
-          (Grew-trans t.written.output t1.written.output t2.written.output _ _ k.output more);
-      logged = subst (Grew t.written.log t2.written.log) (sym (line_bytes-append e 0 0 (s.counts.read - s.decoder.pending) s.counts.index ps taken offset index))
-          (Grew-trans t.written.log t1.written.log t2.written.log _ _ k.logged lined);
+      output = rw (joined, open_from-append (reference_form j.policy) e Ascii (text ps) (text taken)) (Grew-trans t.written.output t1.written.output t2.written.output _ _ k.output more);
+      logged = rw (line_bytes-append e 0 0 (s.counts.read - s.decoder.pending) s.counts.index ps taken offset index) (Grew-trans t.written.log t1.written.log t2.written.log _ _ k.logged lined);
     }
 
 -- Of two prefixes of one list one is a prefix of the other.

@@ -1,12 +1,17 @@
 use Rattle.std.proofs.Common.{◌≡◌, ◌≤◌, ◌<◌, [], ap, arith, length, rules, take}
 use Rattle.std.proofs.lemmas.Bool.{ne_eqb}
+use Rattle.recode_log.specs.Call.{passed_by}
+use Rattle.recode_log.specs.Counted.{history_of, inner_of}
 use Rattle.recode_log.specs.laws.Calls.{passed_failed, passed_one}
+use Rattle.recode.specs.Told.{TellsReads}
 use Rattle.recode.specs.calls.Writers.{is_end}
 use Rattle.recode.proofs.GrowLemmas.{Gave-one, GaveToEnd-one, none_where_end}
 use Rattle.recode.proofs.StepLemmas.{stops_unread, stops_refused, stops_under}
 use Rattle.recode.proofs.LatencyLemmas.{finishes, steps_on}
 use Rattle.recode.proofs.TellLemmas.{ended_before, last_handed, none_well, reads_one, step_calls, taken_none}
 use Rattle.recode.proofs.TraceLemmas.{handed_on}
+use Rattle.recode.proofs.session.Session.step.Given.{Over}
+use Rattle.recode.proofs.session.Session.step.Goals.{After-read}
 use Rattle.recode.proofs.session.Session.step.Goals as goal
 
 pub returns-in_default-clause-fault : goal.returns-in_default-clause-fault
@@ -44,57 +49,27 @@ returns-then-read-eq0-clause-done g c e =
 
 -- What devices tell, if they do.
 
+reads : (g : Over) (c : After-read g) → TellsReads (passed_by (history_of c.args.reader.now)) (passed_by (history_of c.read.new.self)) (g.R.Read.remaining (inner_of c.args.reader.now)) (g.R.Read.remaining (inner_of c.read.new.self))
+reads g c = reads_one _ _ _ _ c.read.result c.read.new.buf c.read.ensures.call c.read.ensures.bytes c.read.ensures.bound (omega (arith, c.read.auto.buf, c.requires.buffers.input))
+
 pub returns-in_default-clause-told : goal.returns-in_default-clause-told
-returns-in_default-clause-told g c = (
-  record {
-    input = reads_one _ _ _ _ c.read.result c.read.new.buf c.read.ensures.call c.read.ensures.bytes c.read.ensures.bound (omega (arith, c.read.auto.buf, c.requires.buffers.input));
-    output = taken_none _ _;
-    log = taken_none _ _;
-  },
-  λ is. cc,
-)
+returns-in_default-clause-told g c = (record { input = reads g (goal.at.returns-in_default-clause-told g c).After-read; output = taken_none _ _; log = taken_none _ _ }, λ is. cc)
 
 pub returns-then-read-self-clause-told : goal.returns-then-read-self-clause-told
-returns-then-read-self-clause-told g c = (
-  record {
-    input = reads_one _ _ _ _ c.read.result c.read.new.buf c.read.ensures.call c.read.ensures.bytes c.read.ensures.bound (omega (arith, c.read.auto.buf, c.requires.buffers.input));
-    output = taken_none _ _;
-    log = taken_none _ _;
-  },
-  λ is. cc,
-)
+returns-then-read-self-clause-told g c = (record { input = reads g (goal.at.returns-then-read-self-clause-told g c).After-read; output = taken_none _ _; log = taken_none _ _ }, λ is. cc)
 
 pub returns-in_err-write_chunk-clause-told : goal.returns-in_err-write_chunk-clause-told
-returns-in_err-write_chunk-clause-told g c = (
-  record {
-    input = reads_one _ _ _ _ c.read.result c.read.new.buf c.read.ensures.call c.read.ensures.bytes c.read.ensures.bound (omega (arith, c.read.auto.buf, c.requires.buffers.input));
-    output = search rules;
-    log = search rules;
-  },
-  λ is. absurd (none_well _ _ _ c.from_residual.ensures.1 is),
-)
+returns-in_err-write_chunk-clause-told g c =
+    (record { input = reads g (goal.at.returns-in_err-write_chunk-clause-told g c).After-read; output = search rules; log = search rules }, λ is. absurd (none_well _ _ _ c.from_residual.ensures.1 is))
 
 pub returns-else-read-eq0-clause-told : goal.returns-else-read-eq0-clause-told
-returns-else-read-eq0-clause-told g c = (
-  record {
-    input = reads_one _ _ _ _ c.read.result c.read.new.buf c.read.ensures.call c.read.ensures.bytes c.read.ensures.bound (omega (arith, c.read.auto.buf, c.requires.buffers.input));
-    output = search rules;
-    log = search rules;
-  },
-  λ is. cc,
-)
+returns-else-read-eq0-clause-told g c = (record { input = reads g (goal.at.returns-else-read-eq0-clause-told g c).After-read; output = search rules; log = search rules }, λ is. cc)
 
 pub returns-then-read-eq0-clause-told : goal.returns-then-read-eq0-clause-told
 returns-then-read-eq0-clause-told g c =
     let none : c.in-Ok.read ≡ 0 = c.if-read-eq0.true in
-    let some : 0 < length c.read.new.buf = omega (arith, c.read.auto.buf, c.requires.buffers.input) in (
-      record {
-        input = reads_one _ _ _ _ c.read.result c.read.new.buf c.read.ensures.call c.read.ensures.bytes c.read.ensures.bound some;
-        output = search rules;
-        log = search rules;
-      },
-      λ is. ended_before _ _ _ c.in-Ok.ensures.bytes.0 (ap (λ n. take n c.read.new.buf) none) (c.in-Ok.ensures.bytes.1 none some),
-    )
+    let end = c.in-Ok.ensures.bytes.1 none (omega (arith, c.read.auto.buf, c.requires.buffers.input)) in
+    (record { input = reads g (goal.at.returns-then-read-eq0-clause-told g c).After-read; output = search rules; log = search rules }, λ is. ended_before _ _ _ c.in-Ok.ensures.bytes.0 (ap (λ n. take n c.read.new.buf) none) end)
 
 -- The calls.
 
