@@ -1,10 +1,10 @@
 -- Each character that has bytes has one at least: a call writes no fewer bytes than it reads characters.
-use Rattle.std.proofs.Common.{◌≡◌, ℕ, zero, suc, ◌+◌, ◌<◌, ◌≤◌, ◌==◌, ◌*◌, nat_lt, Bool, true, false, cond, not, Option, None, Some, List, [], ◌∷◌, ◌++◌, length, ap, arith, encode_utf8_all, length-append}
+use Rattle.std.proofs.Common.{◌≡◌, ℕ, ◌≤◌, ◌==◌, ◌*◌, nat_lt, Bool, true, false, cond, not, Option, None, Some, List, [], ◌∷◌, ◌++◌, length, ap, arith, encode_utf8_all, length-append}
 use Rattle.std.specs.Prelude.{◌&&◌, ◌||◌}
 use Rattle.std.specs.Option.{option_map, option_or}
 use Rattle.std.specs.Char.{encode_utf8}
 use Rattle.std.proofs.lemmas.Str.{length-encode, len_utf8_bounds}
-use Rattle.encoding_mem.specs.Coding.{AllMapped, Coding, IsMapped, bytes_from, form_of_bytes, mapped_bytes, open_from, reference_bytes, spelled}
+use Rattle.encoding_mem.specs.Coding.{AllMapped, Coding, IsMapped, bytes_from, form_of_bytes, mapped_bytes, open_from, spelled}
 use Rattle.encoding_mem.specs.declared.form.EscapeState.{EscapeState}
 use Rattle.encoding_mem.specs.declared.form.Form.{Form}
 use Rattle.encoding_mem.specs.declared.form.Form.TheVariants.{Mapped, Unmapped}

@@ -3,8 +3,6 @@ use Rattle.std.proofs.Common.{arith, inl, inr}
 use Rattle.std.specs.Prelude.{◌≡◌, true, false, None, Some, [], ◌∷◌, codes, refl}
 use lib.Utf8.{encode}
 use Rattle.std.specs.Fmt.{digits}
-use Rattle.std.specs.Str.{chars, is_utf8}
-use Rattle.std.specs.Str.Lossy.{utf8_valid_len}
 use Rattle.encoding_index.specs.declared.fault.IndexFaultKind.TheVariants as fault
 use Rattle.encoding_index.specs.declared.fault.LoadFault.TheVariants.{Text, Table}
 use Rattle.encoding_index.specs.IndexText.{memory_fault}

@@ -11,7 +11,9 @@ use crate::tests::euro;
 use std::alloc::Global;
 
 const UTF_8: u8 = 25;
+
 const UTF_16BE: u8 = 26;
+
 const WINDOWS_1252: u8 = 31;
 
 // A text of 8 bytes: one byte, three that have one in windows-1252, three that have none, and one.
@@ -113,7 +115,10 @@ fn a_part_of_a_text_is_encoded_as_it_is_of_the_whole(rt: HostRuntime) {
     let mut encoder = western_encoder(alloc);
     for room in 1..7 {
         let left = through(alloc, &mut encoder, LONG, room, false);
-        assert_eq!(rt; left, (OK, INPUT_EMPTY, 24, *b"a\x80ba\x80ba\x80b.......", 9));
+        assert_eq!(rt;
+            left,
+            (OK, INPUT_EMPTY, 24, *b"a\x80ba\x80ba\x80b.......", 9)
+        );
     }
     jillapun_encoder_free(alloc, &mut encoder);
 }
