@@ -4,8 +4,9 @@
     python3 bench/c_calls.py [--rounds N] [--write]
 
 It wants the library built (`make c`), cargo, and the crate encoding_rs of Debian (librust-encoding-rs-dev). What counts is
-processor time of the thread. Rounds of two sides take turns, and a ratio is the median of the ratios of neighbours, with its
-quartiles. encoding_rs is handed a `&str`: it tests nothing. With --write the tables go into docs/PERFORMANCE.md.
+processor time of the thread. Rounds of the sides take turns, and a ratio is the median of the ratios of one turn, with its
+quartiles. encoding_rs is handed a `&str`, and tests nothing; in a second column its caller has bytes, as the library's has, and
+calls `std::str::from_utf8` on them once. With --write the tables go into docs/PERFORMANCE.md.
 """
 
 import argparse
@@ -25,7 +26,7 @@ PAGE = os.path.join(TOP, "docs", "PERFORMANCE.md")
 # The kinds of rows: the marks of the table, and its head.
 TABLES = {
     "call": ("c calls", ["A call", "ns", "encoding_rs, ns", "ours to theirs"]),
-    "whole": ("c texts", ["1 MiB", "ms", "encoding_rs, ms", "ours to theirs"]),
+    "whole": ("c texts", ["1 MiB", "ms", "encoding_rs, ms", "ours to theirs", "from bytes, ms", "ours to theirs"]),
 }
 
 
@@ -48,7 +49,7 @@ def main():
     rows = {kind: [] for kind in TABLES}
     for line in said.splitlines():
         kind, *cells = line.split("\t")
-        rows[kind].append(cells)
+        rows[kind].append(cells + [""] * (len(TABLES[kind][1]) - len(cells)))
         print(" | ".join(cells))
     if given.write:
         for number, (kind, (name, head)) in enumerate(TABLES.items()):

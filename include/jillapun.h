@@ -739,11 +739,12 @@ uint8_t jillapun_encoder_encode_from_utf16_without_replacement(jillapun_encoder 
  * Unless the encoding is UTF-8, the last ten bytes of `dst` are kept for a reference. Nothing
  * after what is written changes.
  *
- * A call looks at no more of the text than at 4 bytes for each byte of `dst`, and 4 more, so it
- * takes no longer if more of the text is handed in. A text that is not UTF-8 is encoded up to
- * its first malformed sequence: a call that reads all before that ends with
- * `JILLAPUN_OUTPUT_FULL`, whatever its room, and the next one, with what is left, returns
- * `JILLAPUN_NOT_UTF8`. A character must not be cut between two calls.
+ * A call looks at no more of the text than at as many bytes as `dst` has, if it writes UTF-8,
+ * and else at 4 for each of them, and at 7 more, so it takes no longer if more of the text is
+ * handed in. A text that is not UTF-8 is encoded up to its first malformed sequence: a call
+ * that reads all before that ends with `JILLAPUN_OUTPUT_FULL`, whatever its room, and the next
+ * one, with what is left, returns `JILLAPUN_NOT_UTF8`. A character must not be cut between two
+ * calls.
  *
  * Else nothing is done, and all of `progress` is 0: `JILLAPUN_NOT_UTF8`, the text begins with a
  * malformed sequence, or with a character of which the end is not there; `JILLAPUN_CLOSED`, the

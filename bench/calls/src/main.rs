@@ -46,22 +46,27 @@ fn quartiles(mut values: Vec<f64>) -> (f64, f64, f64) {
     (at(0.25), at(0.5), at(0.75))
 }
 
-/// Both, in turns: the median time of each, and the quartiles of the ratios of neighbours.
-fn compare(title: &str, unit: f64, rounds: usize, ours: &mut dyn FnMut(), theirs: Option<&mut dyn FnMut()>) {
+/// All, in turns: the median time of each, and the quartiles of the ratios of ours to that of each peer's that is next to it.
+fn compare(title: &str, unit: f64, rounds: usize, ours: &mut dyn FnMut(), peers: &mut [&mut dyn FnMut()]) {
     let own_count = count_for(ours);
-    let Some(theirs) = theirs else {
-        let own = (0..rounds).map(|_| timed(ours, own_count)).collect();
-        return println!("{title}\t{:.3}\t\t", quartiles(own).1 / unit);
-    };
-    let their_count = count_for(theirs);
-    let (mut own, mut other, mut ratios) = (Vec::new(), Vec::new(), Vec::new());
+    let counts: Vec<usize> = peers.iter_mut().map(|peer| count_for(*peer)).collect();
+    let mut own = Vec::new();
+    let mut others: Vec<(Vec<f64>, Vec<f64>)> = counts.iter().map(|_| (Vec::new(), Vec::new())).collect();
     for _ in 0..rounds {
-        own.push(timed(ours, own_count));
-        other.push(timed(theirs, their_count));
-        ratios.push(own[own.len() - 1] / other[other.len() - 1]);
+        let took = timed(ours, own_count);
+        own.push(took);
+        for ((peer, count), (times, ratios)) in peers.iter_mut().zip(&counts).zip(&mut others) {
+            let other = timed(*peer, *count);
+            times.push(other);
+            ratios.push(took / other);
+        }
     }
-    let (low, middle, high) = quartiles(ratios);
-    println!("{title}\t{:.3}\t{:.3}\t{middle:.2} ({low:.2} to {high:.2})", quartiles(own).1 / unit, quartiles(other).1 / unit);
+    print!("{title}\t{:.3}", quartiles(own).1 / unit);
+    for (times, ratios) in others {
+        let (low, middle, high) = quartiles(ratios);
+        print!("\t{:.3}\t{middle:.2} ({low:.2} to {high:.2})", quartiles(times).1 / unit);
+    }
+    println!();
 }
 
 fn repeated(text: &str, len: usize) -> String {
@@ -119,9 +124,9 @@ fn main() {
             &mut || {
                 black_box(encoder.encode(text.as_bytes(), &mut room, false));
             },
-            Some(&mut || {
+            &mut [&mut || {
                 let _ = black_box(peer.encode_from_utf8(&text, &mut other, false));
-            }),
+            }],
         );
     }
     for (name, size) in sizes {
@@ -133,7 +138,7 @@ fn main() {
             &mut || {
                 black_box(latin1_into_text(b"abcd", &mut text));
             },
-            None,
+            &mut [],
         );
         let (text, mut units) = (repeated(JAPANESE, size), [0; 16]);
         compare(
@@ -143,7 +148,7 @@ fn main() {
             &mut || {
                 black_box(up_to_invalid(text.as_bytes(), &mut units));
             },
-            None,
+            &mut [],
         );
     }
     let texts = [
@@ -155,8 +160,8 @@ fn main() {
         let text = repeated(block, 1 << 20);
         for label in labels {
             for size in [256, 4096] {
-                let (mut room, mut other) = (vec![0; size], vec![0; size]);
-                let (mut made, mut wanted) = (Vec::new(), Vec::new());
+                let (mut room, mut other, mut third) = (vec![0; size], vec![0; size], vec![0; size]);
+                let (mut made, mut wanted, mut tested) = (Vec::new(), Vec::new(), Vec::new());
                 ours_through(tables, number_of(label), &text, &mut room, &mut made);
                 theirs_through(theirs_of(label), &text, &mut other, &mut wanted);
                 assert!(made == wanted, "{name} to {label} differs");
@@ -168,10 +173,17 @@ fn main() {
                         made.clear();
                         ours_through(tables, number_of(label), &text, &mut room, &mut made);
                     },
-                    Some(&mut || {
-                        wanted.clear();
-                        theirs_through(theirs_of(label), &text, &mut other, &mut wanted);
-                    }),
+                    &mut [
+                        &mut || {
+                            wanted.clear();
+                            theirs_through(theirs_of(label), &text, &mut other, &mut wanted);
+                        },
+                        &mut || {
+                            tested.clear();
+                            let text = std::str::from_utf8(black_box(text.as_bytes())).unwrap();
+                            theirs_through(theirs_of(label), text, &mut third, &mut tested);
+                        },
+                    ],
                 );
             }
         }
@@ -188,9 +200,14 @@ fn main() {
             &mut || {
                 black_box(encode(tables, number_of(label), text.as_bytes(), &mut room));
             },
-            Some(&mut || {
-                black_box(theirs_of(label).encode(&text));
-            }),
+            &mut [
+                &mut || {
+                    black_box(theirs_of(label).encode(&text));
+                },
+                &mut || {
+                    black_box(theirs_of(label).encode(std::str::from_utf8(black_box(text.as_bytes())).unwrap()));
+                },
+            ],
         );
     }
 }

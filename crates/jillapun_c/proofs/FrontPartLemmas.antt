@@ -1,8 +1,8 @@
 -- What a call did of a part of a text, if it did not come to the end of it, it did of the text: of encoders.
-use Rattle.std.proofs.Common.{◌≡◌, ◌≢◌, ℕ, zero, suc, ◌+◌, ◌<◌, ◌≤◌, ◌⊎◌, inl, inr, Bool, true, false, List, [], ◌∷◌, ◌++◌, length, refl, sym, ◌∙◌, ap, subst, arith, append_assoc, length-append}
+use Rattle.std.proofs.Common.{◌≡◌, ◌≢◌, ℕ, ◌≤◌, inl, inr, Bool, true, false, List, [], ◌++◌, length, refl, sym, ◌∙◌, ap, arith, append_assoc, encode_utf8_all, length-append}
 use Rattle.std.proofs.lemmas.List.{append-nil}
 use Rattle.std.specs.Bool.{MatchBool}
-use Rattle.encoding_mem.specs.Coding.{Coding, bytes_from, last_set, open_from, whole_from}
+use Rattle.encoding_mem.specs.Coding.{AllMapped, Coding, bytes_from, last_set, open_from, whole_from}
 use Rattle.encoding_mem.specs.calls.EncoderCalls.{WritesPart}
 use Rattle.encoding_mem.specs.laws.EncoderCalls.{encoded_bytes, last_set-append}
 use Rattle.encoding_mem.specs.declared.encoder_result.EncoderResult.{EncoderResult}
@@ -15,12 +15,13 @@ use Rattle.encoding_tables.specs.Lookups.{first_pointer}
 use Rattle.encoding_tables.specs.declared.index_kind.IndexKind.{IndexKind}
 use Rattle.encoding_codecs.specs.Big5.{big5_pair_bytes, index_big5_pointer}
 use Rattle.encoding_codecs.specs.EucKr.{euc_kr_pair_bytes}
-use Rattle.encoding_front.specs.Encodings.{coding_of}
+use Rattle.encoding_front.specs.Encodings.{coding_of, output_encoding_of}
 use Rattle.encoding_front.specs.calls.Encoder.{Encoded, EncoderState, Replaces, ReplacingEndsWith, coding_in}
 use Rattle.encoding_front.specs.laws.Encoder.{coding_laws}
 use Rattle.encoding_front.specs.declared.coder_result.CoderResult.{CoderResult}
 use Rattle.encoding_front.specs.declared.encoding.Encoding.{Encoding}
-use Rattle.jillapun_c.proofs.SomeBytesLemmas.{HasSome, bytes_each, open_each, some_byte, some_by_pointer, some_euc_jp, some_gb18030, some_iso_2022_jp, some_shift_jis, some_utf8}
+use Rattle.jillapun_c.specs.TextParts.{most_read, most_read_into}
+use Rattle.jillapun_c.proofs.SomeBytesLemmas.{HasSome, four_each, four_open, own_each, own_open, some_byte, some_by_pointer, some_euc_jp, some_gb18030, some_iso_2022_jp, some_shift_jis, some_utf8}
 use Rattle.jillapun_c.proofs.EncoderPartLemmas.{encodes_more, ends_more, tight_more}
 
 -- ---- each character has a byte at least, or none
@@ -39,35 +40,50 @@ some_of t Encoding.Gbk c = some_gb18030 (index_entries t IndexKind.Gb18030) (ran
 some_of t Encoding.Iso2022Jp c = some_iso_2022_jp (index_entries t IndexKind.Jis0208) (index_entries t IndexKind.Iso2022JpKatakana) c
 some_of t _ c = some_byte c _
 
--- ---- a call that read all wrote no fewer bytes than it read characters
+-- ---- a call that read all read no more bytes of text than what it wrote has room for
 
-pub few_encoded : (x : EncoderState) (last : Bool) (text written : List ℕ) (x' : EncoderState) (rest : List ℕ) (room : ℕ)
-    → Encoded x last raw_.InputEmpty text written x' rest room → length text ≤ length written
-few_encoded x last text written x' rest room h =
+pub more_read : (output : Encoding) (m n : ℕ) → m ≤ n → most_read_into output m ≤ most_read_into output n
+more_read Encoding.Utf8 m n h = h
+more_read _ m n h = omega (arith, h)
+
+most_mapped : (t : IndexLists) (e : Encoding) (s : EscapeState) (text : List ℕ) → AllMapped (coding_of t e) text
+    → length (encode_utf8_all text) ≤ most_read e (length (bytes_from (coding_of t e) s text))
+most_mapped t Encoding.Utf8 s text are = own_each (coding_of t Encoding.Utf8) s text (λ c. refl)
+most_mapped t Encoding.Utf16Be s text are = own_each (coding_of t Encoding.Utf16Be) s text (λ c. refl)
+most_mapped t Encoding.Utf16Le s text are = own_each (coding_of t Encoding.Utf16Le) s text (λ c. refl)
+most_mapped t Encoding.Replacement s text are = own_each (coding_of t Encoding.Replacement) s text (λ c. refl)
+most_mapped t e s text are = four_each (coding_of t e) s text (some_of t e) are
+
+most_open : (t : IndexLists) (e : Encoding) (s : EscapeState) (text : List ℕ)
+    → length (encode_utf8_all text) ≤ most_read e (length (open_from Decimal (coding_of t e) s text))
+most_open t Encoding.Utf8 s text = own_open (coding_of t Encoding.Utf8) s text (λ c. refl)
+most_open t Encoding.Utf16Be s text = own_open (coding_of t Encoding.Utf16Be) s text (λ c. refl)
+most_open t Encoding.Utf16Le s text = own_open (coding_of t Encoding.Utf16Le) s text (λ c. refl)
+most_open t Encoding.Replacement s text = own_open (coding_of t Encoding.Replacement) s text (λ c. refl)
+most_open t e s text = four_open (coding_of t e) s text (some_of t e)
+
+-- what is all of a text
+all_is : (text before rest : List ℕ) → text ≡ before ++ rest → rest ≡ [] → text ≡ before
+all_is text before rest split none = split ∙ ap (λ l. before ++ l) none ∙ append-nil before
+
+pub most_encoded : (x : EncoderState) (last : Bool) (text written : List ℕ) (x' : EncoderState) (rest : List ℕ) (room : ℕ)
+    → Encoded x last raw_.InputEmpty text written x' rest room → length (encode_utf8_all text) ≤ most_read x.encoding (length written)
+most_encoded x last text written x' rest room h =
     let law = h.codec.law in
-    let none = law.leaves.0 in
-    omega (
-      arith,
-      ap length law.split,
-      length-append law.before law.next,
-      ap length none,
-      bytes_each (coding_in x) x.set law.before (some_of x.tables x.encoding) law.mapped,
-      ap length law.bytes,
-      length-append (bytes_from (coding_in x) x.set law.before) ((coding_in x).escape (last_set (coding_in x) x.set law.before) x'.set),
-    )
+    let bytes : List ℕ = bytes_from (coding_in x) x.set law.before in
+    let size : length bytes ≤ length written =
+    omega (arith, ap length law.bytes, length-append bytes ((coding_in x).escape (last_set (coding_in x) x.set law.before) x'.set)) in
+    let all = ap (λ l. length (encode_utf8_all l)) (all_is text law.before law.next law.split law.leaves.0) in
+    omega (arith, all, most_mapped x.tables x.encoding x.set law.before law.mapped, more_read (output_encoding_of x.encoding) (length bytes) (length written) size)
 
-pub few_replaced : (x : EncoderState) (last : Bool) (text written : List ℕ) (x' : EncoderState) (rest : List ℕ) (lost : Bool) (size : ℕ)
-    → Replaces x last CoderResult.InputEmpty text written x' rest lost size → length text ≤ length written
-few_replaced x last text written x' rest lost size h =
-    omega (
-      arith,
-      ap length h.split,
-      length-append h.prefix rest,
-      ap length h.ends.0,
-      open_each (coding_in x) x.set h.prefix (some_of x.tables x.encoding),
-      ap length h.put,
-      length-append (open_from Decimal (coding_in x) x.set h.prefix) ((coding_in x).escape (last_set (coding_in x) x.set h.prefix) x'.set),
-    )
+pub most_replaced : (x : EncoderState) (last : Bool) (text written : List ℕ) (x' : EncoderState) (rest : List ℕ) (lost : Bool) (size : ℕ)
+    → Replaces x last CoderResult.InputEmpty text written x' rest lost size → length (encode_utf8_all text) ≤ most_read x.encoding (length written)
+most_replaced x last text written x' rest lost size h =
+    let bytes : List ℕ = open_from Decimal (coding_in x) x.set h.prefix in
+    let fits : length bytes ≤ length written =
+    omega (arith, ap length h.put, length-append bytes ((coding_in x).escape (last_set (coding_in x) x.set h.prefix) x'.set)) in
+    let all = ap (λ l. length (encode_utf8_all l)) (all_is text h.prefix rest h.split h.ends.0) in
+    omega (arith, all, most_open x.tables x.encoding x.set h.prefix, more_read (output_encoding_of x.encoding) (length bytes) (length written) fits)
 
 -- ---- a call that did not come to the end of a part
 

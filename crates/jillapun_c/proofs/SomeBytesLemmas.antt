@@ -1,10 +1,10 @@
 -- Each character that has bytes has one at least: a call writes no fewer bytes than it reads characters.
-use Rattle.std.proofs.Common.{◌≡◌, ℕ, zero, suc, ◌+◌, ◌<◌, ◌≤◌, ◌==◌, nat_lt, Bool, true, false, cond, not, Option, None, Some, List, [], ◌∷◌, ◌++◌, length, arith, length-append}
+use Rattle.std.proofs.Common.{◌≡◌, ℕ, ◌≤◌, ◌==◌, ◌*◌, nat_lt, Bool, true, false, cond, not, Option, None, Some, List, [], ◌∷◌, ◌++◌, length, ap, arith, encode_utf8_all, length-append}
 use Rattle.std.specs.Prelude.{◌&&◌, ◌||◌}
 use Rattle.std.specs.Option.{option_map, option_or}
 use Rattle.std.specs.Char.{encode_utf8}
 use Rattle.std.proofs.lemmas.Str.{length-encode, len_utf8_bounds}
-use Rattle.encoding_mem.specs.Coding.{AllMapped, Coding, IsMapped, bytes_from, form_of_bytes, mapped_bytes, open_from, reference_bytes, spelled}
+use Rattle.encoding_mem.specs.Coding.{AllMapped, Coding, IsMapped, bytes_from, form_of_bytes, mapped_bytes, open_from, spelled}
 use Rattle.encoding_mem.specs.declared.form.EscapeState.{EscapeState}
 use Rattle.encoding_mem.specs.declared.form.Form.{Form}
 use Rattle.encoding_mem.specs.declared.form.Form.TheVariants.{Mapped, Unmapped}
@@ -96,7 +96,7 @@ spelled_some (Mapped bs) h = h
 spelled_some (Unmapped c) h = omega arith
 
 -- no fewer bytes than characters
-pub bytes_each : (e : Coding) (s : EscapeState) (t : List ℕ) → ((c : ℕ) → HasSome (e.form c)) → AllMapped e t → length t ≤ length (bytes_from e s t)
+bytes_each : (e : Coding) (s : EscapeState) (t : List ℕ) → ((c : ℕ) → HasSome (e.form c)) → AllMapped e t → length t ≤ length (bytes_from e s t)
 bytes_each e s [] some are = omega arith
 bytes_each e s (c ∷ t) some are =
     omega (
@@ -107,7 +107,7 @@ bytes_each e s (c ∷ t) some are =
       length-append (mapped_bytes (e.form c)) (bytes_from e (e.set s c) t),
     )
 
-pub open_each : (e : Coding) (s : EscapeState) (t : List ℕ) → ((c : ℕ) → HasSome (e.form c)) → length t ≤ length (open_from Decimal e s t)
+open_each : (e : Coding) (s : EscapeState) (t : List ℕ) → ((c : ℕ) → HasSome (e.form c)) → length t ≤ length (open_from Decimal e s t)
 open_each e s [] some = omega arith
 open_each e s (c ∷ t) some =
     omega (
@@ -117,3 +117,42 @@ open_each e s (c ∷ t) some =
       length-append (e.escape s (e.set s c)) (spelled Decimal (e.form c) ++ open_from Decimal e (e.set s c) t),
       length-append (spelled Decimal (e.form c)) (open_from Decimal e (e.set s c) t),
     )
+
+-- ---- of a text and its bytes in UTF-8
+
+-- a text has at most four bytes for each character
+pub all_four : (cs : List ℕ) → length (encode_utf8_all cs) ≤ 4 * length cs
+all_four [] = omega arith
+all_four (c ∷ cs) = omega (arith, all_four cs, length-append (encode_utf8 c) (encode_utf8_all cs), length-encode c, (len_utf8_bounds c).1)
+
+-- the bytes that are written are those of the text, if each character is written in UTF-8
+pub own_each : (e : Coding) (s : EscapeState) (t : List ℕ) → ((c : ℕ) → e.form c ≡ Mapped (encode_utf8 c)) → length (encode_utf8_all t) ≤ length (bytes_from e s t)
+own_each e s [] own = omega arith
+own_each e s (c ∷ t) own =
+    omega (
+      arith,
+      ap (λ f. length (mapped_bytes f)) (own c),
+      own_each e (e.set s c) t own,
+      length-append (encode_utf8 c) (encode_utf8_all t),
+      length-append (e.escape s (e.set s c)) (mapped_bytes (e.form c) ++ bytes_from e (e.set s c) t),
+      length-append (mapped_bytes (e.form c)) (bytes_from e (e.set s c) t),
+    )
+
+pub own_open : (e : Coding) (s : EscapeState) (t : List ℕ) → ((c : ℕ) → e.form c ≡ Mapped (encode_utf8 c)) → length (encode_utf8_all t) ≤ length (open_from Decimal e s t)
+own_open e s [] own = omega arith
+own_open e s (c ∷ t) own =
+    omega (
+      arith,
+      ap (λ f. length (spelled Decimal f)) (own c),
+      own_open e (e.set s c) t own,
+      length-append (encode_utf8 c) (encode_utf8_all t),
+      length-append (e.escape s (e.set s c)) (spelled Decimal (e.form c) ++ open_from Decimal e (e.set s c) t),
+      length-append (spelled Decimal (e.form c)) (open_from Decimal e (e.set s c) t),
+    )
+
+-- else there is a byte at least for each four of them
+pub four_each : (e : Coding) (s : EscapeState) (t : List ℕ) → ((c : ℕ) → HasSome (e.form c)) → AllMapped e t → length (encode_utf8_all t) ≤ 4 * length (bytes_from e s t)
+four_each e s t some are = omega (arith, all_four t, bytes_each e s t some are)
+
+pub four_open : (e : Coding) (s : EscapeState) (t : List ℕ) → ((c : ℕ) → HasSome (e.form c)) → length (encode_utf8_all t) ≤ 4 * length (open_from Decimal e s t)
+four_open e s t some = omega (arith, all_four t, open_each e s t some)

@@ -1,28 +1,30 @@
 -- A call on the part of a text that is looked at is one on the text, or on what is before its first malformed sequence.
-use Rattle.std.proofs.Common.{◌≡◌, ◌≢◌, ℕ, ◌+◌, ◌-◌, ◌*◌, ◌<◌, ◌≤◌, ◌==◌, ◌⊎◌, inl, inr, Bool, true, false, Option, List, [], ◌∷◌, ◌++◌, length, take, drop, refl, sym, ◌∙◌, ap, subst, arith, length-append}
-use Rattle.std.specs.Prelude.{◌&&◌}
+use Rattle.std.proofs.Common.{◌≡◌, ◌≢◌, ℕ, ◌-◌, ◌<◌, ◌≤◌, ◌==◌, inl, inr, Bool, true, false, Option, Some, List, [], ◌∷◌, ◌++◌, length, take, drop, refl, sym, ◌∙◌, ap, subst, arith, encode_utf8_all, length-append}
+use Rattle.std.specs.Prelude.{◌&&◌, ◌^◌, min, MatchOption}
 use Rattle.std.specs.Str.{IsUtf8, chars}
 use Rattle.std.proofs.Math.Nat.{mul-le-mul_left}
 use Rattle.std.proofs.lemmas.Bool.{eqb-true, eq-eqb}
 use Rattle.std.proofs.lemmas.List.{append-nil, drop-append-le, length-take}
-use Rattle.std.proofs.lemmas.Str.{IsUtf8-append, IsUtf8-drop, IsCharBoundary-from_drop, chars-append}
+use Rattle.std.proofs.lemmas.Str.{encodes-chars, IsUtf8-append, IsUtf8-drop, IsCharBoundary-from_drop, chars-append}
 use Rattle.encoding_mem.specs.Conversions.{text_prefix}
 use Rattle.encoding_mem.specs.calls.DecodedLength.{bound_at}
 use Rattle.encoding_mem.specs.calls.EncodedLength.{bound_for}
 use Rattle.encoding_mem.specs.declared.room.Bound.{Bound}
 use Rattle.encoding_mem.specs.declared.encoder_result.EncoderResult.{EncoderResult}
 use Rattle.encoding_mem.specs.declared.encoder_result.EncoderResult.TheVariants as raw_
+use Rattle.encoding_front.specs.Encodings.{output_encoding_of}
 use Rattle.encoding_front.specs.calls.CodecBounds.{encoded_length_of}
 use Rattle.encoding_front.specs.calls.Encoder.{Encoded, EncoderState, ReadsText, Replaces}
 use Rattle.encoding_front.specs.declared.coder_result.CoderResult.{CoderResult}
 use Rattle.encoding_front.specs.declared.coder_result.CoderResult.TheVariants as text_
+use Rattle.encoding_front.specs.declared.encoding.Encoding.{Encoding}
 use Rattle.jillapun_c.specs.DecoderCalls.{text_outcome}
 use Rattle.jillapun_c.specs.EncoderCalls.{EncodesAll, EncodesUpToLost, IsEncoderOutcome}
-use Rattle.jillapun_c.specs.TextParts.{IsToldOfPart, told_outcome}
+use Rattle.jillapun_c.specs.TextParts.{IsToldOfPart, most_read, told_outcome}
 use Rattle.jillapun_c.specs.declared.coder.Coder.{Coder}
 use Rattle.jillapun_c.specs.declared.encoder_progress.EncoderProgress.{EncoderProgress}
-use Rattle.jillapun_c.proofs.FrontPartLemmas.{encoded_more, few_encoded, few_replaced, replaced_more}
-use Rattle.jillapun_c.proofs.TextPartLemmas.{IsPartOf, four_each, whole_is_text}
+use Rattle.jillapun_c.proofs.FrontPartLemmas.{encoded_more, more_read, most_encoded, most_replaced, replaced_more}
+use Rattle.jillapun_c.proofs.TextPartLemmas.{IsPartOf, whole_is_text}
 
 -- ---- texts and their parts
 
@@ -111,22 +113,33 @@ before_of_text Did false false text part least p h none is goes did = before_of_
 wider : (l : Bound) (m n : ℕ) → m ≤ n → bound_at l m ≤ bound_at l n
 wider l m n h = omega (arith, mul-le-mul_left l.factor h)
 
--- all characters of a long part are more than the bytes that were written
-too_many : (part new : List ℕ) (written room : ℕ) → IsUtf8 part → length new ≡ room → 4 * room < length part → ¬ (length (chars part) ≤ length (take written new))
-too_many part new written room u size long few = absurd (omega (arith, four_each part u, size, long, few, length-take written new))
+-- a part that is longer than what is read into the room is not read
+too_many : (e : Encoding) (part new : List ℕ) (written room : ℕ) → IsUtf8 part → length new ≡ room → most_read e room < length part
+    → ¬ (length (encode_utf8_all (chars part)) ≤ most_read e (length (take written new)))
+too_many e part new written room u size long few =
+    absurd (omega (arith, ap length (encodes-chars part u), long, few, more_read (output_encoding_of e) (length (take written new)) room (omega (arith, size, length-take written new))))
+
+-- a part that is longer than the number that is told of a handle's encoder is longer than what that reads
+pub long_enough : (held : Option EncoderState) (e : EncoderState) (most room size : ℕ) → held ≡ Some e → MatchOption held (most ≡ 0) (λ x. most ≡ min (most_read x.encoding room) (2 ^ 64 - 1))
+    → size < 2 ^ 64 → most < size → most_read e.encoding room < size
+long_enough held e most room size is told fits long =
+    more (most_read e.encoding room) (subst (λ o. MatchOption o (most ≡ 0) (λ x. most ≡ min (most_read x.encoding room) (2 ^ 64 - 1))) is told)
+  where
+    more : (n : ℕ) → most ≡ min n (2 ^ 64 - 1) → n < size
+    more n least = omega (arith, least, fits, long)
 
 told_full : (o : CoderResult) → o ≢ text_.InputEmpty → told_outcome false (text_outcome o) ≡ text_outcome o
 told_full text_.InputEmpty ends = absurd (ends refl)
 told_full text_.OutputFull ends = refl
 
-pub all_goes : (e : EncoderState) (after : Option Coder) (last : Bool) (text part old new : List ℕ) (p : EncoderProgress) (h : IsPartOf text part (4 * length old)) → length new ≡ length old
-    → ReadsText part p.read → 4 * length old < length part → (outcome : ℕ)
+pub all_goes : (e : EncoderState) (after : Option Coder) (last : Bool) (text part old new : List ℕ) (least : ℕ) (p : EncoderProgress) (h : IsPartOf text part least) → length new ≡ length old
+    → ReadsText part p.read → most_read e.encoding (length old) < length part → (outcome : ℕ)
     → Goes (λ l t r n q. EncodesAll false e after l t r n old new q) last text part (record p { outcome = outcome })
-all_goes e after last text part old new p h size reads long o did =
+all_goes e after last text part old new least p h size reads long o did =
     let left : List ℕ = chars (drop p.read part) in
     let w : List ℕ = take p.written new in
-    let ends : did.outcome ≢ text_.InputEmpty = λ is. too_many part new p.written (length old) h.utf8 size long
-    (few_replaced e false (chars part) w did.encoder left p.had_unmappable (length new)
+    let ends : did.outcome ≢ text_.InputEmpty = λ is. too_many e.encoding part new p.written (length old) h.utf8 size long
+    (most_replaced e false (chars part) w did.encoder left p.had_unmappable (length new)
     (subst (λ u. Replaces e false u (chars part) w did.encoder left p.had_unmappable (length new)) is did.call)) in
     let more : Replaces e last did.outcome (chars part ++ chars h.more) w did.encoder (left ++ chars h.more) p.had_unmappable (length new) =
     replaced_more e last did.outcome (chars part) w did.encoder left (chars h.more) p.had_unmappable (length new) ends did.call in (
@@ -137,8 +150,8 @@ all_goes e after last text part old new p h size reads long o did =
         told = did.told;
         no_scalar = did.no_scalar;
         wrote = did.wrote;
-        call = subst (λ t. Replaces e last did.outcome t w did.encoder (chars (drop p.read text)) p.had_unmappable (length new)) (sym (whole_chars text part (4 * length old) h))
-            (subst (λ r. Replaces e last did.outcome (chars part ++ chars h.more) w did.encoder r p.had_unmappable (length new)) (sym (left_chars text part (4 * length old) p.read h reads)) more);
+        call = subst (λ t. Replaces e last did.outcome t w did.encoder (chars (drop p.read text)) p.had_unmappable (length new)) (sym (whole_chars text part least h))
+            (subst (λ r. Replaces e last did.outcome (chars part ++ chars h.more) w did.encoder r p.had_unmappable (length new)) (sym (left_chars text part least p.read h reads)) more);
         enough = λ room none. did.enough (omega (arith, room, wider (bound_for (encoded_length_of e.encoding) false) (length part) (length text) (omega (arith, ap length h.is, length-append part h.more)))) none;
       },
       ap (told_outcome false) did.told ∙ told_full did.outcome ends ∙ sym did.told,
@@ -149,15 +162,15 @@ told_number raw_.InputEmpty number scalar ends h = absurd (ends refl)
 told_number raw_.OutputFull number scalar ends h = rw h.0 refl
 told_number (raw_.Unmappable c) number scalar ends h = rw h.0 refl
 
-pub part_goes : (e : EncoderState) (after : Option Coder) (last : Bool) (text part old new : List ℕ) (p : EncoderProgress) (h : IsPartOf text part (4 * length old)) → length new ≡ length old
-    → ReadsText part p.read → 4 * length old < length part → (outcome : ℕ)
+pub part_goes : (e : EncoderState) (after : Option Coder) (last : Bool) (text part old new : List ℕ) (least : ℕ) (p : EncoderProgress) (h : IsPartOf text part least) → length new ≡ length old
+    → ReadsText part p.read → most_read e.encoding (length old) < length part → (outcome : ℕ)
     → Goes (λ l t r n q. EncodesUpToLost false e after l t r n old new q) last text part (record p { outcome = outcome })
-part_goes e after last text part old new p h size reads long o did =
+part_goes e after last text part old new least p h size reads long o did =
     let left : List ℕ = chars (drop p.read part) in
     let w : List ℕ = take p.written new in
     let room : ℕ = length new - p.written in
-    let ends : did.outcome ≢ raw_.InputEmpty = λ is. too_many part new p.written (length old) h.utf8 size long
-    (few_encoded e false (chars part) w did.encoder left room
+    let ends : did.outcome ≢ raw_.InputEmpty = λ is. too_many e.encoding part new p.written (length old) h.utf8 size long
+    (most_encoded e false (chars part) w did.encoder left room
     (subst (λ u. Encoded e false u (chars part) w did.encoder left room) is did.call)) in
     let more : Encoded e last did.outcome (chars part ++ chars h.more) w did.encoder (left ++ chars h.more) room =
     encoded_more e last did.outcome (chars part) w did.encoder left (chars h.more) room ends did.call in (
@@ -168,8 +181,8 @@ part_goes e after last text part old new p h size reads long o did =
         told = did.told;
         none_replaced = did.none_replaced;
         wrote = did.wrote;
-        call = subst (λ t. Encoded e last did.outcome t w did.encoder (chars (drop p.read text)) room) (sym (whole_chars text part (4 * length old) h))
-            (subst (λ r. Encoded e last did.outcome (chars part ++ chars h.more) w did.encoder r room) (sym (left_chars text part (4 * length old) p.read h reads)) more);
+        call = subst (λ t. Encoded e last did.outcome t w did.encoder (chars (drop p.read text)) room) (sym (whole_chars text part least h))
+            (subst (λ r. Encoded e last did.outcome (chars part ++ chars h.more) w did.encoder r room) (sym (left_chars text part least p.read h reads)) more);
         enough = λ free. did.enough (omega (arith, free, wider (bound_for (encoded_length_of e.encoding) false) (length part) (length text) (omega (arith, ap length h.is, length-append part h.more))));
       },
       told_number did.outcome o p.scalar ends did.told,

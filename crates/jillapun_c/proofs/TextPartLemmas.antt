@@ -1,16 +1,16 @@
 -- The part of a text that a call looks at.
-use Rattle.std.proofs.Common.{◌≡◌, ◌≢◌, ℕ, zero, suc, ◌+◌, ◌*◌, ◌-◌, ◌<◌, ◌≤◌, ◌⊎◌, inl, inr, Bool, true, false, cond, List, [], ◌∷◌, ◌++◌, length, take, drop, refl, sym, ◌∙◌, ap, subst, arith, append_assoc, encode_utf8_all, length-append, length-drop}
-use Rattle.std.specs.Str.{IsUtf8, all_scalars, chars, is_utf8}
+use Rattle.std.proofs.Common.{◌≡◌, ◌≢◌, ℕ, zero, suc, ◌+◌, ◌<◌, ◌≤◌, ◌==◌, ◌⊎◌, inl, inr, Bool, true, false, cond, List, [], ◌∷◌, ◌++◌, length, take, drop, refl, sym, ◌∙◌, ap, subst, arith, encode_utf8_all, length-append, length-drop}
+use Rattle.std.specs.Str.{IsUtf8, all_scalars, is_utf8}
 use Rattle.std.specs.Str.Lossy.{utf8_valid_len, valid_len_up_to}
-use Rattle.std.specs.Char.{encode_utf8, len_utf8}
+use Rattle.std.specs.Char.{encode_utf8}
 use Rattle.std.proofs.lemmas.Bool.{cases_lt, and_parts}
 use Rattle.std.proofs.Math.Utf8.{scalar}
-use Rattle.std.proofs.lemmas.List.{take-append-drop, take-take, take_all, take_at, length-take-le, length-take, drop-take}
-use Rattle.std.proofs.lemmas.Str.{IsUtf8-append, IsUtf8-nil, IsUtf8-take, IsUtf8-drop, IsUtf8-encode, IsCharBoundary-from_take, IsUtf8-from_is_utf8, is_utf8-from_IsUtf8, utf8_valid_len_le, encodes-chars, length-encode, len_utf8_bounds}
+use Rattle.std.proofs.lemmas.List.{take-append-drop, take-take, take_all, take_at, length-take-le, length-take}
+use Rattle.std.proofs.lemmas.Str.{IsUtf8-append, IsUtf8-nil, IsUtf8-drop, IsUtf8-encode, IsCharBoundary-from_take, IsUtf8-from_is_utf8, is_utf8-from_IsUtf8, length-encode, len_utf8_bounds}
 use Rattle.std.proofs.Math.Seq.{take-add}
 use Rattle.encoding_mem.specs.Conversions.{text_prefix}
 use Rattle.encoding_mem.specs.LongestPrefix.{IsLongestPrefix}
-use Rattle.jillapun_c.specs.TextParts.{BeginsMalformed}
+use Rattle.jillapun_c.specs.TextParts.{BeginsMalformed, IsFirstPart, IsLookedAt}
 
 -- a text is a part of it that is text, and more: nothing more, or the part is long
 pub record IsPartOf (text part : List ℕ) (least : ℕ) : Type 0 where
@@ -89,16 +89,16 @@ longer bs n u less front =
     take-add n (length (encode_utf8 first.0)) bs ∙ ap (λ l. take n bs ++ l) (ap (take (length (encode_utf8 first.0))) first.2 ∙ take_at (encode_utf8 first.0) first.1 (length (encode_utf8 first.0)) refl) in
     (n + length (encode_utf8 first.0), omega (arith, size, few.0), omega (arith, size, few.1), whole, subst IsUtf8 (sym is) (IsUtf8-append (take n bs) (encode_utf8 first.0) front first.3))
 
--- the text that is looked at of bytes is a part of the text at their start: all of it, or at most three bytes less than are looked at
-pub is_part : (bs : List ℕ) (most : ℕ) → IsPartOf (text_prefix bs) (text_prefix (take (most + 4) bs)) most
-is_part bs most =
-    let n : ℕ = utf8_valid_len (take (most + 4) bs) in
+-- the text that is looked at of bytes is a part of the text at their start: all of it, or more than so many bytes, if four more are looked at
+pub is_part : (bs : List ℕ) (most end : ℕ) → (length bs ≤ end) ⊎ (most + 4 ≤ end) → IsPartOf (text_prefix bs) (text_prefix (take end bs)) most
+is_part bs most end looks =
+    let n : ℕ = utf8_valid_len (take end bs) in
     let v : ℕ = utf8_valid_len bs in
-    let part = valid_longest (take (most + 4) bs) in
+    let part = valid_longest (take end bs) in
     let whole = valid_longest bs in
-    let size : length (take (most + 4) bs) ≤ most + 4 = omega (arith, length-take (most + 4) bs) in
-    let short : length (take (most + 4) bs) ≤ length bs = omega (arith, length-take (most + 4) bs) in
-    let same : take n (take (most + 4) bs) ≡ take n bs = take-take n (most + 4) bs (omega (arith, part.within, size)) in
+    let size : length (take end bs) ≤ end = omega (arith, length-take end bs) in
+    let short : length (take end bs) ≤ length bs = omega (arith, length-take end bs) in
+    let same : take n (take end bs) ≡ take n bs = take-take n end bs (omega (arith, part.within, size)) in
     let front : IsUtf8 (take n bs) = subst IsUtf8 same part.well_formed in
     let less : n ≤ v = elim (cases_lt v n) [ inl over ↦ absurd (whole.longest n over (omega (arith, part.within, short)) front) | inr to ↦ to ] in
     let long : length (take v bs) ≡ v = length-take-le v bs whole.within in
@@ -113,11 +113,15 @@ is_part bs most =
       long = elim (cases_lt n v) [
         | inr all ↦ inl (rest_is_none (drop n (take v bs)) (omega (arith, length-drop n (take v bs), long, all)))
         | inl some ↦ elim (cases_lt most n) [
-          | inl enough ↦ inr (omega (arith, enough, length-take-le n (take (most + 4) bs) part.within))
+          | inl enough ↦ inr (omega (arith, enough, length-take-le n (take end bs) part.within))
           | inr few ↦ (let next = longer (take v bs) n whole.well_formed (omega (arith, long, some)) (subst IsUtf8 (sym again) front) in
-              let at : take next.0 (take (most + 4) bs) ≡ take next.0 (take v bs) =
-              take-take next.0 (most + 4) bs (omega (arith, next.2, few)) ∙ sym (take-take next.0 v bs (omega (arith, next.3, long))) in
-              absurd (part.longest next.0 next.1 (omega (arith, next.2, few, next.3, long, whole.within, length-take (most + 4) bs)) (subst IsUtf8 (sym at) next.4)))
+              let seen : next.0 ≤ end = elim looks [
+                | inl all ↦ omega (arith, all, next.3, long, whole.within)
+                | inr more ↦ omega (arith, more, next.2, few)
+              ] in
+              let at : take next.0 (take end bs) ≡ take next.0 (take v bs) =
+              take-take next.0 end bs seen ∙ sym (take-take next.0 v bs (omega (arith, next.3, long))) in
+              absurd (part.longest next.0 next.1 (omega (arith, seen, next.3, long, whole.within, length-take end bs)) (subst IsUtf8 (sym at) next.4)))
         ]
       ];
     }
@@ -126,34 +130,21 @@ is_part bs most =
     rest_is_none [] none = refl
     rest_is_none (x ∷ xs) none = absurd (omega (arith, none))
 
--- a text has at most four bytes for each character
-all_four : (cs : List ℕ) → length (encode_utf8_all cs) ≤ 4 * length cs
-all_four [] = omega arith
-all_four (c ∷ cs) = omega (arith, all_four cs, length-append (encode_utf8 c) (encode_utf8_all cs), length-encode c, (len_utf8_bounds c).1)
+-- what is UTF-8 of the bytes that are looked at
+part_of_text : (text : List ℕ) (looked n : ℕ) → IsLongestPrefix IsUtf8 (take looked text) n → take n text ≡ text_prefix (take looked text)
+part_of_text text looked n h = sym (take-take n looked text (omega (arith, h.within, length-take looked text))) ∙ longest_is_prefix (take looked text) n h
 
-pub four_each : (bs : List ℕ) → IsUtf8 bs → length bs ≤ 4 * length (chars bs)
-four_each bs u = omega (arith, all_four (chars bs), ap length (encodes-chars bs u))
+-- it is a part of the text
+pub part_of_look : (text part : List ℕ) (most looked : ℕ) → IsLookedAt most text looked → part ≡ text_prefix (take looked text) → IsPartOf (text_prefix text) part most
+part_of_look text part most looked h is =
+    subst (λ p. IsPartOf (text_prefix text) p most) (sym is) (is_part text most looked (elim h.enough [ inl all ↦ inl (omega (arith, all)) | inr more ↦ inr more ]))
 
--- what is looked at of a text, and the part of it that is UTF-8
-pub part_of_text : (text : List ℕ) (room end n : ℕ) → (end ≡ 4 * (room + 1)) ⊎ ((end ≡ length text) × (length text ≤ 4 * (room + 1))) → IsLongestPrefix IsUtf8 (take end text) n
-    → take n text ≡ text_prefix (take (4 * (room + 1)) text)
-part_of_text text room end n ends h =
-    sym (take-take n end text (omega (arith, h.within, length-take end text)))
-    ∙ longest_is_prefix (take end text) n h
-    ∙ ap text_prefix (elim ends [
-      | inl is ↦ ap (λ k. take k text) is
-      | inr all ↦ (take_all end text (omega (arith, all.0)) ∙ sym (take_all (4 * (room + 1)) text all.1))
-    ])
-
--- a part of a text whose room is so many bytes
-pub part_for_room : (text part : List ℕ) (room : ℕ) → part ≡ text_prefix (take (4 * (room + 1)) text) → IsPartOf (text_prefix text) part (4 * room)
-part_for_room text part room is =
-    let same : 4 * room + 4 ≡ 4 * (room + 1) = omega arith in
-    subst (λ p. IsPartOf (text_prefix text) p (4 * room)) (sym (is ∙ ap (λ n. text_prefix (take n text)) (sym same))) (is_part text (4 * room))
+pub part_within : (text part : List ℕ) (most : ℕ) → IsPartOf (text_prefix text) part most → length part ≤ length text
+part_within text part most h = omega (arith, ap length h.is, length-append part h.more, length-take (utf8_valid_len text) text)
 
 -- a part with nothing in it, of a text that has some bytes, is that of a text that begins with a malformed sequence
-pub begins_malformed : (text part : List ℕ) (room : ℕ) → IsPartOf (text_prefix text) part (4 * room) → length part ≡ 0 → 0 < length text → BeginsMalformed text
-begins_malformed text part room h none some = (
+begins_malformed : (text part : List ℕ) (most : ℕ) → IsPartOf (text_prefix text) part most → length part ≡ 0 → 0 < length text → BeginsMalformed text
+begins_malformed text part most h none some = (
   λ is. absurd (omega (arith, some, ap length is)),
   elim h.long [
     | inl less ↦ no_bytes (text_prefix text) (omega (arith, ap length h.is, length-append part h.more, ap length less, none))
@@ -166,12 +157,31 @@ begins_malformed text part room h none some = (
     no_bytes (x ∷ xs) few = absurd (omega (arith, few))
 
 -- the part of such a text is empty, and shorter than the text
-pub nothing_to_take : (text part : List ℕ) (least : ℕ) → IsPartOf (text_prefix text) part least → BeginsMalformed text → (length part ≡ 0) × (0 < length text)
+nothing_to_take : (text part : List ℕ) (least : ℕ) → IsPartOf (text_prefix text) part least → BeginsMalformed text → (length part ≡ 0) × (0 < length text)
 nothing_to_take text part least h begins = (omega (arith, ap length begins.1, ap length h.is, length-append part h.more), some text begins.0)
   where
     some : (xs : List ℕ) → xs ≢ [] → 0 < length xs
     some [] is = absurd (is refl)
     some (x ∷ xs) is = omega arith
+
+-- what the test of the bytes that are looked at finds
+pub malformed_at_start : (text : List ℕ) (most looked n : ℕ) → IsLookedAt most text looked → IsLongestPrefix IsUtf8 (take looked text) n → n ≡ 0 → 0 < length text → BeginsMalformed text
+malformed_at_start text most looked n h longest none some =
+    begins_malformed text (take n text) most (part_of_look text (take n text) most looked h (part_of_text text looked n longest)) (omega (arith, length-take n text, none)) some
+
+pub first_is : (text part : List ℕ) (most looked n : ℕ) (is_whole : Bool) → IsLookedAt most text looked → IsLongestPrefix IsUtf8 (take looked text) n → part ≡ take n text
+    → (n ≡ 0 → length text ≡ 0) → is_whole ≡ (n == length text) → IsFirstPart most text part is_whole
+first_is text part most looked n is_whole h longest is none whole =
+    let size : length part ≡ n = omega (arith, ap length is, length-take n text, longest.within, length-take looked text) in
+    let found : part ≡ text_prefix (take looked text) = is ∙ part_of_text text looked n longest in
+    record {
+      begins = λ b. (let e = nothing_to_take text part most (part_of_look text part most looked h found) b in
+          absurd (omega (arith, e.1, none (omega (arith, size, e.0)))));
+      looked = looked;
+      looks = h;
+      is = found;
+      whole = whole ∙ ap (λ k. k == length text) (sym size);
+    }
 
 -- bytes are text if the part that is looked at is as long as they are
 pub whole_is_text : (text part : List ℕ) (least : ℕ) → IsPartOf (text_prefix text) part least → length part ≡ length text → IsUtf8 text

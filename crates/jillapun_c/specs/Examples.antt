@@ -1,9 +1,8 @@
 -- The numbers and the words of the definitions, worked.
+use Rattle.std.proofs.Common.{arith, inl, inr}
 use Rattle.std.specs.Prelude.{◌≡◌, true, false, None, Some, [], ◌∷◌, codes, refl}
 use lib.Utf8.{encode}
 use Rattle.std.specs.Fmt.{digits}
-use Rattle.std.specs.Str.{chars, is_utf8}
-use Rattle.std.specs.Str.Lossy.{utf8_valid_len}
 use Rattle.encoding_index.specs.declared.fault.IndexFaultKind.TheVariants as fault
 use Rattle.encoding_index.specs.declared.fault.LoadFault.TheVariants.{Text, Table}
 use Rattle.encoding_index.specs.IndexText.{memory_fault}
@@ -18,7 +17,7 @@ use Rattle.jillapun_c.specs.ConverterTurns.{found_log, line_reference, stage_at}
 use Rattle.jillapun_c.specs.EncodingNumbers.{encoding_at, mark_at, needed_file}
 use Rattle.jillapun_c.specs.IndexFiles.{told_of}
 use Rattle.jillapun_c.specs.Room.{rest_cleared}
-use Rattle.jillapun_c.specs.TextParts.{text_part, told_outcome}
+use Rattle.jillapun_c.specs.TextParts.{IsLookedAt, most_read, told_outcome}
 use Rattle.jillapun_c.specs.declared.converter.Stage.TheVariants.{Open, Stopped}
 use Rattle.jillapun_c.specs.declared.index_files.FileFault.TheVariants as told
 use Rattle.jillapun_c.specs.declared.converter.progress.TheConstants.ConverterProgress as converter_
@@ -102,22 +101,36 @@ nothing_is_converted = refl
 pub nothing_is_reported : report_.NONE ≡ record { read = 0; bad = 0; lost = 0; written = 0; losses = 0; index = 0; scalar = 0 }
 nothing_is_reported = refl
 
--- what is looked at of a text: four bytes without room, eight with room for one; whole characters, up to a malformed one
-pub four_without_room : text_part 0 (codes "abcde") ≡ codes "abcd"
-unfolding utf8_valid_len is_utf8 chars encode
-four_without_room = refl
+-- the most that a call reads: as many bytes as it has room for, in UTF-8 and what is written as UTF-8; else four each
+pub read_into_utf8 : most_read Encoding.Utf8 5 ≡ 5
+read_into_utf8 = refl
 
-pub eight_with_room_for_one : text_part 1 (codes "abcdefghi") ≡ codes "abcdefgh"
-unfolding utf8_valid_len is_utf8 chars encode
-eight_with_room_for_one = refl
+pub read_into_utf16 : most_read Encoding.Utf16Le 5 ≡ 5
+read_into_utf16 = refl
 
-pub no_character_is_cut : text_part 0 (0x61 ∷ 0x62 ∷ 0xE3 ∷ 0x81 ∷ 0x82 ∷ []) ≡ codes "ab"
-unfolding utf8_valid_len is_utf8 chars encode
-no_character_is_cut = refl
+pub read_into_windows_1252 : most_read Encoding.Windows1252 5 ≡ 20
+read_into_windows_1252 = refl
 
-pub malformed_ends_it : text_part 0 (0x61 ∷ 0xFF ∷ 0x62 ∷ []) ≡ codes "a"
-unfolding utf8_valid_len is_utf8 chars encode
-malformed_ends_it = refl
+-- what is looked at of a text: four bytes more than are read at least, and seven at most, or all of the text
+pub four_more_are_enough : IsLookedAt 2 (codes "abcdefghij") 6
+unfolding encode
+four_more_are_enough = record { within = omega arith; enough = inr (omega arith); few = omega arith }
+
+pub three_more_are_not : ¬ (IsLookedAt 2 (codes "abcdefghij") 5)
+unfolding encode
+three_more_are_not h = elim h.enough [ inl all ↦ absurd (omega (arith, all)) | inr more ↦ absurd (omega (arith, more)) ]
+
+pub seven_more_are_looked_at : IsLookedAt 2 (codes "abcdefghij") 9
+unfolding encode
+seven_more_are_looked_at = record { within = omega arith; enough = inr (omega arith); few = omega arith }
+
+pub eight_more_are_too_many : ¬ (IsLookedAt 2 (codes "abcdefghij") 10)
+unfolding encode
+eight_more_are_too_many h = absurd (omega (arith, h.few))
+
+pub all_is_looked_at : IsLookedAt 2 (codes "abc") 3
+unfolding encode
+all_is_looked_at = record { within = omega arith; enough = inl refl; few = omega arith }
 
 -- how outcomes are told of a whole text, and of a part
 pub whole_is_read : told_outcome true INPUT_EMPTY ≡ INPUT_EMPTY

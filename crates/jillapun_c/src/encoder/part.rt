@@ -1,35 +1,69 @@
 //! The part of a text in UTF-8 that a call of an encoder looks at.
 
-ghost use Rattle.std.specs.Prelude.{◌≡◌, MatchOption};
-ghost use Rattle.jillapun_c.specs.TextParts.{BeginsMalformed, IsFirstPart, text_part};
+ghost use Rattle.std.specs.Prelude.{◌≡◌, ◌+◌, ◌-◌, ◌^◌, ◌<◌, ◌≤◌, length, min, MatchOption};
+ghost use Rattle.jillapun_c.specs.Coders.{encoder_in};
+ghost use Rattle.jillapun_c.specs.TextParts.{BeginsMalformed, IsFirstPart, IsLookedAt, most_read};
 
+use crate::coder::Coder;
+use crate::handle::CoderHandle;
+use std::alloc::Global;
 use std::str;
 
-// The part of a text that a call encodes whose room is so many bytes: of four bytes for each of
-// them, and four more, what is UTF-8. A character that has bytes takes one at least, so the call
-// never comes to the end of a part that was cut.
-fn text_part(text: &[u8], room: usize) -> &str
-    ensures { result.now ≡ text_part room text.now }
+/// The most bytes of a text that a call of the encoder reads into so much room, if no character
+/// ends the call; 0 if the handle holds no encoder.
+pub(crate) fn most_read(alloc: Global, handle: &mut CoderHandle, room: usize) -> usize
+    ensures most { MatchOption (encoder_in handle.old.coder) (result ≡ 0)
+        (λ e. result ≡ min (most_read e.encoding room) (2 ^ 64 - 1)) }
+    ensures unchanged { handle.new.coder ≡ handle.old.coder }
 {
-    let end = if text.len() / 4 > room {
-        4 * (room + 1)
-    } else {
-        text.len()
+    let Some(coder) = handle.take(alloc) else {
+        return 0;
     };
-    let len = encoding_mem::utf8_valid_up_to(&text[..end]);
-    unsafe { str::from_utf8_unchecked(&text[..len]) }
+    let most = match &*coder {
+        Coder::Decoder(_) | Coder::Converter(_) => 0,
+        Coder::Encoder(encoder) => {
+            if encoder.encoding().can_encode_everything() {
+                room
+            } else {
+                room.saturating_mul(4)
+            }
+        }
+    };
+    handle.put(coder);
+    most
 }
 
-/// The part of a text that a call encodes whose room is so many bytes, and whether it is the whole
-/// of it; `None` if the text begins with a malformed sequence.
-pub(crate) fn first_part(text: &[u8], room: usize) -> Option<(&str, bool)>
-    ensures { MatchOption result (BeginsMalformed text.now)
-        (λ p. IsFirstPart room text.now p.0.now p.1) }
+// One place back, if no character begins at this one.
+fn back_in_character(text: &[u8], at: usize) -> usize
+    requires { (0 < at) × (at < length text.now) }
+    ensures { (result ≤ at) × (at ≤ result + 1) }
 {
-    let part = text_part(text, room);
-    if part.is_empty() && !text.is_empty() {
-        None
-    } else {
-        Some((part, part.len() == text.len()))
+    if text[at] & 0xC0 == 0x80 { at - 1 } else { at }
+}
+
+// How many bytes of a text a call looks at that reads at most so many. They end between characters,
+// since the test of UTF-8 is slow on a character that is cut.
+fn looked_at(text: &[u8], most: usize) -> usize
+    ensures { IsLookedAt most text.now result }
+{
+    if text.len() <= most || text.len() - most <= 7 {
+        return text.len();
     }
+    let end = back_in_character(text, most + 7);
+    let end = back_in_character(text, end);
+    back_in_character(text, end)
+}
+
+/// The part of a text that a call encodes which reads at most so many bytes, and whether it is the
+/// whole of the text; `None` if the text begins with a malformed sequence.
+pub(crate) fn first_part(text: &[u8], most: usize) -> Option<(&str, bool)>
+    ensures { MatchOption result (BeginsMalformed text.now)
+        (λ p. IsFirstPart most text.now p.0.now p.1) }
+{
+    let len = encoding_mem::utf8_valid_up_to(&text[..looked_at(text, most)]);
+    if len == 0 && !text.is_empty() {
+        return None;
+    }
+    let part = unsafe { str::from_utf8_unchecked(&text[..len]) };
+    Some((part, len == text.len()))
 }

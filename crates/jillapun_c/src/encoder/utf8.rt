@@ -11,7 +11,7 @@ ghost use Rattle.jillapun_c.specs.declared.status.TheConstants.{NOT_UTF8, OK};
 
 use crate::coder::Coder;
 use crate::encoder::EncoderHandle;
-use crate::encoder::part::first_part;
+use crate::encoder::part::{first_part, most_read};
 use crate::encoder_progress::{EncoderProgress, encoder_outcome_of, told_outcome};
 use crate::progress::outcome_of;
 use crate::status::{CLOSED, NOT_UTF8, OK};
@@ -26,11 +26,11 @@ use std::alloc::Global;
 /// nothing is left; 14 bytes are always enough to go on. Unless the encoding is UTF-8, the last ten
 /// bytes of `dst` are kept for a reference. Nothing after what is written changes.
 ///
-/// A call looks at no more of the text than at 4 bytes for each byte of `dst`, and 4 more, so it
-/// takes no longer if more of the text is handed in. A text that is not UTF-8 is encoded up to its
-/// first malformed sequence: a call that reads all before that ends with `OUTPUT_FULL`, whatever
-/// its room, and the next one, with what is left, returns `NOT_UTF8`. A character must not be cut
-/// between two calls.
+/// A call looks at no more of the text than at as many bytes as `dst` has, if it writes UTF-8, and
+/// else at 4 for each of them, and at 7 more, so it takes no longer if more of the text is handed
+/// in. A text that is not UTF-8 is encoded up to its first malformed sequence: a call that reads
+/// all before that ends with `OUTPUT_FULL`, whatever its room, and the next one, with what is left,
+/// returns `NOT_UTF8`. A character must not be cut between two calls.
 ///
 /// Else nothing is done, and all of `progress` is 0: `NOT_UTF8`, the text begins with a malformed
 /// sequence, or with a character of which the end is not there; `CLOSED`, the handle holds no
@@ -59,7 +59,8 @@ pub extern "C" fn jillapun_encoder_encode_from_utf8(
     ensures nothing { result ≢ OK → progress.new ≡ NONE }
 {
     *progress = EncoderProgress::NONE;
-    let Some((part, is_whole)) = first_part(text, dst.len()) else {
+    let most = most_read(alloc, &mut encoder.coder, dst.len());
+    let Some((part, is_whole)) = first_part(text, most) else {
         return NOT_UTF8;
     };
     let Some(mut coder) = encoder.coder.take(alloc) else {
@@ -143,7 +144,8 @@ pub extern "C" fn jillapun_encoder_encode_from_utf8_without_replacement(
     ensures nothing { result ≢ OK → progress.new ≡ NONE }
 {
     *progress = EncoderProgress::NONE;
-    let Some((part, is_whole)) = first_part(text, dst.len()) else {
+    let most = most_read(alloc, &mut encoder.coder, dst.len());
+    let Some((part, is_whole)) = first_part(text, most) else {
         return NOT_UTF8;
     };
     let Some(mut coder) = encoder.coder.take(alloc) else {

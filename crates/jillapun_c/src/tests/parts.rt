@@ -10,6 +10,10 @@ use crate::status::{INPUT_EMPTY, NOT_UTF8, OK, OUTPUT_FULL, UNMAPPABLE};
 use crate::tests::euro;
 use std::alloc::Global;
 
+const UTF_8: u8 = 25;
+
+const UTF_16BE: u8 = 26;
+
 const WINDOWS_1252: u8 = 31;
 
 // A text of 8 bytes: one byte, three that have one in windows-1252, three that have none, and one.
@@ -21,12 +25,16 @@ const STARTS: [usize; 9] = [0, 1, 1, 1, 4, 4, 4, 7, 8];
 // What calls leave: the last status and outcome, how many bytes were read, and what was written.
 type Left = (u8, u8, usize, [u8; 16], usize);
 
-fn western_encoder(alloc: Global) -> EncoderHandle {
+fn encoder_into(alloc: Global, encoding: u8) -> EncoderHandle {
     let mut encoder = EncoderHandle {
         coder: CoderHandle::none(),
     };
-    jillapun_encoder_new(alloc, euro(alloc), WINDOWS_1252, &mut encoder);
+    jillapun_encoder_new(alloc, euro(alloc), encoding, &mut encoder);
     encoder
+}
+
+fn western_encoder(alloc: Global) -> EncoderHandle {
+    encoder_into(alloc, WINDOWS_1252)
 }
 
 // Hands in what is left of a text until all is read, or a call refuses.
@@ -94,6 +102,47 @@ fn any_room_that_is_enough_gives_the_text(rt: HostRuntime) {
         }
     }
     jillapun_encoder_free(alloc, &mut encoder);
+}
+
+// The text three times.
+const LONG: &[u8; 24] =
+    b"a\xE2\x82\xAC\xE6\x97\xA5ba\xE2\x82\xAC\xE6\x97\xA5ba\xE2\x82\xAC\xE6\x97\xA5b";
+
+// A call with little room looks at a part of the text, which ends between characters.
+#[test]
+fn a_part_of_a_text_is_encoded_as_it_is_of_the_whole(rt: HostRuntime) {
+    let alloc = rt.alloc();
+    let mut encoder = western_encoder(alloc);
+    for room in 1..7 {
+        let left = through(alloc, &mut encoder, LONG, room, false);
+        assert_eq!(rt;
+            left,
+            (OK, INPUT_EMPTY, 24, *b"a\x80ba\x80ba\x80b.......", 9)
+        );
+    }
+    jillapun_encoder_free(alloc, &mut encoder);
+}
+
+#[test]
+fn to_utf8_a_text_is_copied(rt: HostRuntime) {
+    let alloc = rt.alloc();
+    for encoding in UTF_8..UTF_16BE + 1 {
+        let mut encoder = encoder_into(alloc, encoding);
+        for room in 0..21 {
+            for replaces in 0..2 {
+                let left = through(alloc, &mut encoder, LONG, room, replaces == 1);
+                if room < 1 {
+                    assert_eq!(rt; left, (OK, OUTPUT_FULL, 0, *b"................", 0));
+                } else if room < 3 {
+                    assert_eq!(rt; left, (OK, OUTPUT_FULL, 1, *b"a...............", 1));
+                } else {
+                    let start = *b"a\xE2\x82\xAC\xE6\x97\xA5ba\xE2\x82\xAC\xE6\x97\xA5b";
+                    assert_eq!(rt; left, (OK, INPUT_EMPTY, 24, start, 16));
+                }
+            }
+        }
+        jillapun_encoder_free(alloc, &mut encoder);
+    }
 }
 
 #[test]
