@@ -29,6 +29,7 @@ os.environ.setdefault("JILLAPUN_INDEXES", os.path.join(HERE, "..", "indexes"))
 
 import jillapun
 import programs
+from jillapun import _bare as bare
 from jillapun import _library as library
 from jillapun._indexes import handle_of, number_of
 
@@ -161,7 +162,11 @@ def short_rows(given):
         for ours, theirs in pairs:
             _, own, other = compared(lambda: timed(ours, count), lambda: timed(theirs, count), given.rounds)
             cells += ["%.1f" % own, "%.1f" % other]
-        words, alone = (*call.words, ctypes.byref(call.report)), library.library.jillapun_convert
+        *words, data_size, room, size, losses, count = call.words
+        words[-2] = library.Long(library.NO_LIMIT)
+        lent = ctypes.byref(room), library.Size(size), ctypes.byref(losses), library.Size(count)
+        words += [library.Size(data_size), *lent]
+        words, alone = (*words, ctypes.byref(call.report)), bare.convert_all
         cells.append("%.1f" % statistics.median(timed(lambda: alone(*words), count) for _ in range(given.rounds)))
         yield cells
 

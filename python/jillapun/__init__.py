@@ -13,6 +13,7 @@ is done by a library that is proved, `libjillapun.so`; this package needs nothin
 - `convert_file`: a file into another.
 - `open`, `Reader`, `Writer`: files of text. `Decoder`, `Encoder`, `Converter`: streams, chunk by chunk.
 - `register`: codecs for Python's own `open`, `bytes.decode` and all else that is handed a name of an encoding.
+- `which`: how each encoding reads an input, without a guess.
 - `Indexes`: the indexes of encodings, from another folder than that of the installation. `name`, `output_name`: labels.
 
 A label that no encoding has raises `UnknownLabel`, which is a `LookupError`. Calls from several threads at once are
@@ -39,6 +40,7 @@ from ._results import (
 )
 from ._streams import Converter, Decoder, Encoder, Reader, Writer, open
 from ._texts import convert, decode, encode
+from ._which import Reading, Which, which
 
 
 def register() -> None:
@@ -63,10 +65,12 @@ __all__ = [
     "Lost",
     "NotReplaced",
     "Reader",
+    "Reading",
     "Report",
     "Stopped",
     "TooLong",
     "UnknownLabel",
+    "Which",
     "Writer",
     "convert",
     "convert_file",
@@ -77,4 +81,5 @@ __all__ = [
     "open",
     "output_name",
     "register",
+    "which",
 ]

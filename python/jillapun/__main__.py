@@ -1,8 +1,7 @@
-"""Converts files: python3 -m jillapun --from LABEL --to LABEL --into FOLDER FILES…"""
+"""Converts files: python3 -m jillapun --from LABEL --to LABEL --into FOLDER FILES…; and the other commands."""
 
 import argparse
 import contextlib
-import io
 import os
 import signal
 import sys
@@ -10,12 +9,25 @@ from typing import Dict, Hashable, List, NoReturn, Optional
 
 import jillapun
 
+from . import _commands as commands
 from . import _library as c
 from ._files import convert_with
 from ._names import shown
 from ._results import Faults
+from ._terminal import Parser, Terminal, Unsaid, complain, is_heard, unheard
+
+USAGE = """\
+jillapun [convert] --from LABEL --to LABEL [OPTION ...] FILE ...
+       jillapun places --from LABEL --to LABEL [OPTION ...] FILE ...
+       jillapun which [OPTION ...] FILE ...
+       jillapun labels
+"""
 
 AFTER_HELP = """\
+The other commands: places says by line and column what a conversion would lose, which how each
+encoding reads a file, labels lists the encodings. Each has a help of its own. A file with the name
+of a command is ./NAME.
+
 Without --into a file is replaced by its conversion if nothing is lost. Otherwise it stays as it
 was, and the status is 1: --lossy replaces it all the same, and so does --backup, which keeps the
 original. A link is followed. Owner (if it may be set), permissions and extended attributes stay,
@@ -42,27 +54,10 @@ Exit status, the greatest of all files:
 WORDS = {c.BAD: "bad", c.LOST: "lost"}
 
 
-class Unsaid(Exception):
-    """Standard output takes no more: what is lost can't be told."""
-
-
-def complain(words: str) -> None:
-    """Writes a line to standard error, if it takes one: the status says what is wrong, too."""
-    if sys.stderr is not None:
-        with contextlib.suppress(OSError):
-            print(shown(words), file=sys.stderr, flush=True)
-
-
-class Parser(argparse.ArgumentParser):
-    """A parser that shows the words it refuses."""
-
-    def error(self, message: str) -> NoReturn:
-        super().error(shown(message))
-
-
-def words_of(arguments: Optional[List[str]]) -> argparse.Namespace:
+def words_of(arguments: List[str]) -> argparse.Namespace:
     parser = Parser(
         prog="jillapun",
+        usage=USAGE,
         description="Converts files from one encoding to another.",
         epilog=AFTER_HELP,
         formatter_class=argparse.RawDescriptionHelpFormatter,
@@ -85,41 +80,6 @@ def words_of(arguments: Optional[List[str]]) -> argparse.Namespace:
     if words.backup is not None and (not words.backup or os.path.basename(words.backup) != words.backup):
         parser.error("argument --backup: %r is no suffix of a name" % words.backup)
     return words
-
-
-class Terminal:
-    """What is told as files are converted: what is lost, on standard output, and, in the last line of a terminal, which
-    file is converted, and how far."""
-
-    def __init__(self, count: int):
-        self.count, self.done, self.line = count, 0, ""
-        self.is_shown = sys.stderr is not None and sys.stderr.isatty()
-
-    def show(self, name: str, part: float = 0) -> None:
-        """The file, and which part of it is converted."""
-        line = "%d of %d: %s (%d%%)" % (self.done + 1, self.count, shown(name), 100 * part)
-        if self.is_shown and line != self.line:
-            self._write(line)
-
-    def clear(self) -> None:
-        if self.line:
-            self._write("")
-
-    def _write(self, line: str) -> None:
-        """Writes a line over the last one, if the terminal is still there."""
-        with contextlib.suppress(OSError):
-            sys.stderr.write("\r\x1b[K" + line)
-            sys.stderr.flush()
-        self.line = line
-
-    def tell(self, lines: str) -> None:
-        """Writes lines to standard output at once, so that what is lost is told before a file is replaced."""
-        self.clear()
-        try:
-            sys.stdout.write(lines)
-            sys.stdout.flush()
-        except OSError as fault:
-            raise Unsaid("standard output: %s" % fault.strerror) from fault
 
 
 class Lines(Faults):
@@ -222,10 +182,7 @@ def convert_all(words: argparse.Namespace, indexes: jillapun.Indexes) -> int:
             status = max(status, one_status(words, path, indexes, terminal, written))
             terminal.done += 1
     except Unsaid as fault:
-        complain(str(fault))
-        with contextlib.suppress(OSError):
-            sys.stdout.close()
-        return 4
+        return unheard(fault)
     except (KeyboardInterrupt, SystemExit):
         terminal.clear()
         complain("interrupted at %s: those after it are as they were" % path)
@@ -236,6 +193,14 @@ def convert_all(words: argparse.Namespace, indexes: jillapun.Indexes) -> int:
 
 
 def main(arguments: Optional[List[str]] = None) -> int:
+    """The status of the command that the first word names, and of a conversion if it names none."""
+    given = sys.argv[1:] if arguments is None else arguments
+    if given and given[0] in commands.COMMANDS:
+        return commands.COMMANDS[given[0]](given[1:])
+    return convert(given[1:] if given[:1] == ["convert"] else given)
+
+
+def convert(arguments: List[str]) -> int:
     """The highest status of a file; 2 if a label is unknown or files would replace one another, 3 if the indexes are
     not there, and 4 if nothing can be told or written."""
     words = words_of(arguments)
@@ -255,11 +220,8 @@ def main(arguments: Optional[List[str]] = None) -> int:
     if words.into and not os.path.isdir(words.into):
         complain("%s: no such folder" % words.into)
         return 4
-    if sys.stdout is None:
-        complain("standard output is closed: what is lost could not be told")
+    if not is_heard():
         return 4
-    if isinstance(sys.stdout, io.TextIOWrapper):
-        sys.stdout.reconfigure(errors="backslashreplace")
     return convert_all(words, indexes)
 
 

@@ -54,6 +54,8 @@ decode_stopping = _declared("jillapun_decoder_decode_to_utf8_without_replacement
 encode_replacing = _declared("jillapun_encoder_encode_from_utf8", *_ENCODER)
 encode_stopping = _declared("jillapun_encoder_encode_from_utf8_without_replacement", *_ENCODER)
 
+encoding_in_force = _declared("jillapun_decoder_encoding", _HANDLE)
+
 _new_decoder = _declared("jillapun_decoder_new", c.Tables, c.Byte, c.Byte, _HANDLE)
 _new_encoder = _declared("jillapun_encoder_new", c.Tables, c.Byte, _HANDLE)
 free_decoder, free_encoder = c.library["jillapun_decoder_free"], c.library["jillapun_encoder_free"]

@@ -132,7 +132,7 @@ def streams() -> ctypes.CDLL:
 
 def bytes_of(data: Any) -> bytes:
     """The bytes of an object that has some, as `bytearray` and `memoryview`; a number or a text has none."""
-    return data if isinstance(data, bytes) else bytes(memoryview(data))
+    return data if type(data) is bytes else bytes(memoryview(data))
 
 
 def limit_of(limit: Optional[int]) -> int:

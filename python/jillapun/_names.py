@@ -11,6 +11,10 @@ _BY_NUMBER = re.compile(
 )
 
 
+def is_shown_by_number(character: str) -> bool:
+    return _BY_NUMBER.match(character) is not None
+
+
 def _number(found: "re.Match[str]") -> str:
     point = ord(found[0])
     if found[0] == "\t":

@@ -4,6 +4,7 @@ import sys
 from typing import List, Optional, Tuple, cast
 
 from . import _library as c
+from ._bare import LENGTHS, NO_LIMIT, SHORT, convert_all, decode_all, decoding, encode_all, encoding_to
 from ._indexes import Indexes, handle_of, number_of
 from ._results import Converted, Decoded, Encoded, Fault, Faults, Lost, Report, Stopped, faults_in, refuse
 from ._rooms import rooms
@@ -12,7 +13,12 @@ from ._steps import Conversion
 _UTF_8 = "utf-8"
 
 # How long an input is of which all text has room: in UTF-8 a byte gives three at most.
-_SHORT = 1 << 16
+_ALL_ROOM = 1 << 16
+
+_take, _give = rooms.free.pop, rooms.free.append
+
+# This makes a named tuple in half the time.
+_new = tuple.__new__
 
 
 def _run(
@@ -20,19 +26,21 @@ def _run(
 ) -> Tuple[bool, bytes, List[Fault]]:
     """Whether nothing was lost, the output and the faults. If the input is short and all has room, one call does it,
     which takes less time than steps."""
-    if len(data) <= _SHORT:
-        words = number_of(source), number_of(target), c.MARKS[mark], c.POLICIES[unmappable], limit, data, len(data)
-        room = rooms.take()
-        try:
-            status, report = c.library.jillapun_convert(handle_of(indexes), *words, *room.words, room.told), room.report
-            if status in (c.OK, c.LOSSY, c.STOPPED):
-                output = room.bytes[: report.written]
-                faults = list(faults_in(room.losses[: report.losses * c.LOSS.size])) if report.losses else []
-                if status == c.STOPPED:
-                    raise Stopped(Lost(report.index, chr(report.scalar)), output, faults)
-                return status == c.OK, output, faults
-        finally:
-            rooms.give(room)
+    if len(data) <= _ALL_ROOM:
+        words = number_of(source), number_of(target), c.MARKS[mark], c.POLICIES[unmappable]
+        most = NO_LIMIT if limit == c.NO_LIMIT else c.Long(limit)
+        tables, room = handle_of(indexes), rooms.take()
+        status = convert_all(tables, *words, most, data, c.Size(len(data)), *room.whole)
+        is_done = status in (c.OK, c.LOSSY, c.STOPPED)
+        if is_done:
+            report = room.report
+            output, place, scalar = room.bytes[: report.written], report.index, report.scalar
+            faults = list(faults_in(room.losses[: report.losses * c.LOSS.size])) if report.losses else []
+        rooms.give(room)
+        if status == c.STOPPED:
+            raise Stopped(Lost(place, chr(scalar)), output, faults)
+        if is_done:
+            return status == c.OK, output, faults
     conversion, told = Conversion(source, target, mark, unmappable, limit, indexes), Faults(keep=sys.maxsize)
     if len(data) > limit:
         refuse(c.TOO_LONG)
@@ -50,7 +58,21 @@ def decode(data: bytes, encoding: str, *, mark: str = "remove", indexes: Optiona
     >>> decode(b"A\\x83\\x6e\\xff", "shift_jis")
     Decoded(text='Aハ�', faults=[Bad(offset=3, length=1)])
     """
-    _, output, faults = _run(c.bytes_of(data), encoding, _UTF_8, mark, "decimal", c.NO_LIMIT, indexes)
+    tables, number, at_mark = decoding(encoding, mark, indexes)
+    given = data if type(data) is bytes else c.bytes_of(data)
+    if len(given) <= SHORT:
+        # What follows is written for speed: most texts are short and lose nothing.
+        try:
+            room = _take()
+        except IndexError:
+            room = rooms.take()
+        place, size, told, written, made = room.short
+        if not decode_all(tables, number, at_mark, given, LENGTHS[len(given)], place, size, told):
+            text = made[: written.value].decode()
+            _give(room)
+            return _new(Decoded, (text, []))
+        _give(room)
+    _, output, faults = _run(given, encoding, _UTF_8, mark, "decimal", c.NO_LIMIT, indexes)
     return Decoded(output.decode(), faults)  # type: ignore[arg-type]
 
 
@@ -63,7 +85,31 @@ def encode(text: str, encoding: str, *, unmappable: str = "decimal", indexes: Op
     >>> encode("é 日", "windows-1252")
     Encoded(data=b'\\xe9 &#26085;', faults=[Lost(index=2, character='日')], faithful=False)
     """
-    is_faithful, data, faults = _run(text.encode(), _UTF_8, encoding, "keep", unmappable, c.NO_LIMIT, indexes)
+    tables, number, whole = encoding_to(encoding, unmappable, indexes)
+    given = str.encode(text)
+    if len(given) <= SHORT:
+        try:
+            room = _take()
+        except IndexError:
+            room = rooms.take()
+        length = LENGTHS[len(given)]
+        if whole:
+            tables, utf_8, number, keep, policy, most = whole
+            place, size, losses, count, told = room.whole
+            status = convert_all(
+                tables, utf_8, number, keep, policy, most, given, length, place, size, losses, count, told
+            )
+            end = room.report.written
+        else:
+            place, size, told, written, _ = room.short
+            status = encode_all(tables, number, given, length, place, size, told)
+            end = written.value
+        if not status:
+            data = room.bytes[:end]
+            _give(room)
+            return _new(Encoded, (data, [], True))
+        _give(room)
+    is_faithful, data, faults = _run(given, _UTF_8, encoding, "keep", unmappable, c.NO_LIMIT, indexes)
     return Encoded(data, faults, is_faithful)  # type: ignore[arg-type]
 
 

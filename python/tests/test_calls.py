@@ -1,5 +1,6 @@
 """What no case says: errors, files, streams over files, and threads."""
 
+import ast
 import ctypes
 import doctest
 import io
@@ -10,9 +11,13 @@ import tempfile
 import threading
 import unittest
 from pathlib import Path
+from unittest import mock
 
 import cases
 import jillapun
+from jillapun import _texts
+from jillapun._labels import LABELS
+from jillapun._rooms import Rooms
 
 TEXT = "日本語のテキスト、\nカナと ASCII\n" * 3000
 
@@ -280,6 +285,123 @@ class Threads(unittest.TestCase):
         for thread in threads:
             thread.join()
         self.assertEqual(wrong, [])
+
+
+# Counts the calls of the library, by whatever name they are kept.
+COUNTED = """
+import collections, ctypes
+counts = collections.Counter()
+
+class Library(ctypes.CDLL):
+    def __getitem__(self, name):
+        kind = self._FuncPtr
+
+        class Counted(kind):
+            _flags_, _restype_ = kind._flags_, kind._restype_
+
+            def __call__(self, *words):
+                counts[name] += 1
+                return kind.__call__(self, *words)
+
+        return Counted((name, self))
+
+ctypes.CDLL = Library
+import jillapun
+
+def counted(call, *words, **options):
+    call(*words, **options)
+    counts.clear()
+    for _ in range(3):
+        call(*words, **options)
+    print({name[9:]: count // 3 for name, count in counts.items()})
+"""
+
+
+class Counts(unittest.TestCase):
+    def counts(self, *calls: str) -> list:
+        """Which calls of the library each call makes, and how many, once all is loaded."""
+        lines = COUNTED + "".join("counted(jillapun.%s)\n" % call for call in calls)
+        environment = {**os.environ, "PYTHONPATH": os.path.join(cases.TOP, "python")}
+        words = [sys.executable, "-c", lines]
+        ran = subprocess.run(words, env=environment, capture_output=True, text=True, check=True)
+        return [ast.literal_eval(line) for line in ran.stdout.splitlines()]
+
+    def test_nothing_is_lost(self) -> None:
+        """One call, which makes no list, unless only the verdict says that all reads back."""
+        found = self.counts("decode, b'abc', 'utf-8'", "decode, b'\\x83\\x6e', 'sjis', mark='sniff'")
+        self.assertEqual(found, [{"decode": 1}] * 2)
+        found = self.counts("encode, 'é', 'l1'", "encode, 'é', 'utf-8', unmappable='stop'")
+        self.assertEqual(found, [{"encode": 1}] * 2)
+        found = self.counts("encode, 'a', 'sjis'", "convert, b'a', 'l1', 'utf-8'", "decode, b'a' * 1025, 'utf-8'")
+        self.assertEqual(found, [{"convert": 1}] * 3)
+
+    def test_something_is_lost(self) -> None:
+        """One call more."""
+        found = self.counts("decode, b'\\xff', 'utf-8'", "encode, '日', 'l1', unmappable='hexadecimal'")
+        self.assertEqual(found, [{"decode": 1, "convert": 1}, {"encode": 1, "convert": 1}])
+
+
+class Short(unittest.TestCase):
+    """Texts that the library is first asked for without a list of what is lost."""
+
+    ENCODINGS = sorted({jillapun.name(label) for label in LABELS})
+
+    def test_verdict(self) -> None:
+        """Where all that has bytes is told to read back, it does: each character of the standard's indexes by itself, and
+        all, by parts, with what comes before."""
+        for name in self.ENCODINGS:
+            if not jillapun._bare.encoding_to(name, "decimal", None)[2]:
+                text = self.characters(name)
+                for start in range(0, len(text), 300):
+                    part = text[start : start + 300]
+                    data, faults, faithful = jillapun.encode(part, name)
+                    self.assertEqual((faults, faithful), ([], True))
+                    self.assertEqual(jillapun.decode(data, jillapun.output_name(name), mark="keep"), (part, []), name)
+                    self.assertEqual(jillapun.convert(part.encode(), "utf-8", name, mark="keep"), (data, [], True))
+
+    def characters(self, name: str) -> str:
+        """The characters of all bytes and pairs of bytes that an encoding has bytes for; some, if it has them for all."""
+        if jillapun.output_name(name) == "UTF-8":
+            return "".join(map(chr, [*range(0, 0xD800, 61), *range(0xE000, 0x110000, 2003)]))
+        pairs = b"".join(bytes((lead, trail)) for lead in range(0x80, 0x100) for trail in range(0x40, 0x100))
+        read = {*jillapun.decode(bytes(range(256)), name).text, *jillapun.decode(pairs, name).text}
+        text = "".join(sorted(read - {"\ufffd"}))
+        lost = {fault.character for fault in jillapun.encode(text, name).faults}
+        return "".join(character for character in text if character not in lost)
+
+    def test_beside_lists(self) -> None:
+        """The results of a short text are those of a conversion, which lists what is lost."""
+        for name in self.ENCODINGS:
+            for data in (b"", b"abc", b"a\x80\xe9", b"\xef\xbb\xbfa", b"\xff\xfea\0", b"\x1b$B0!", bytes(range(256)) * 4):
+                for mark in ("remove", "sniff", "keep"):
+                    output, faults, _ = jillapun.convert(data, name, "utf-8", mark=mark)
+                    self.assertEqual(jillapun.decode(data, name, mark=mark), (output.decode(), faults))
+            for text in ("", "abc", "é", "日本", "¥‾−", "\x0e\x1b", "\ufeffa", "\ufffd", "a" * 1023 + "é"):
+                for policy in ("decimal", "hexadecimal"):
+                    wanted = jillapun.convert(text.encode(), "utf-8", name, mark="keep", unmappable=policy)
+                    self.assertEqual(jillapun.encode(text, name, unmappable=policy), wanted)
+
+    def test_room(self) -> None:
+        """More output than there is room for."""
+        with mock.patch.object(_texts, "_take", Rooms(4, 1).take):
+            self.assertEqual(jillapun.decode(b"abcde", "utf-8"), ("abcde", []))
+            self.assertEqual(jillapun.encode("abcde", "l1"), (b"abcde", [], True))
+            self.assertEqual(jillapun.encode("abcde", "sjis"), (b"abcde", [], True))
+
+    def test_types(self) -> None:
+        """A length is that of the bytes, whatever an object says of itself."""
+
+        class Liar(bytes):
+            def __len__(self) -> int:
+                return 1000
+
+        class Text(str):
+            def encode(self, *words: str) -> bytes:
+                return Liar(b"x")
+
+        self.assertEqual(jillapun.decode(Liar(b"ab"), "utf-8"), ("ab", []))
+        self.assertEqual(jillapun.encode(Text("ab"), "utf-8"), (b"ab", [], True))
+        self.assertRaises(TypeError, jillapun.encode, b"ab", "utf-8")
 
 
 class Documents(unittest.TestCase):
