@@ -840,7 +840,8 @@ uint8_t jillapun_encode(jillapun_tables tables, uint8_t encoding, const uint8_t 
  *
  * At the last five nothing is written, and all of the report is 0.
  *
- * It takes memory for the output and the records from the heap, and frees it before it returns.
+ * It takes memory from the heap for the output, for the records and for a room as large as
+ * `src`, of 64 bytes at least and 16 KiB at most, and frees it before it returns.
  */
 uint8_t jillapun_convert(jillapun_tables tables, uint8_t from, uint8_t to, uint8_t mark,
     uint8_t policy, uint64_t limit, const uint8_t *src, size_t src_len, uint8_t *dst,
@@ -870,8 +871,8 @@ void jillapun_converter_free(jillapun_converter *converter);
  * Converts the next bytes of an input. It reads from the start of `src`, writes what that gives
  * at the start of `dst`, and a record of each loss at the start of `losses`, and tells in
  * `progress` how much of each. `last` says that nothing follows `src` in the input: give it
- * again, with what of `src` was not read, until the end is told. What finds no room is kept, a
- * few bytes and one record at most, and comes first in the next call.
+ * again, with what of `src` was not read, until the end is told. What finds no room is kept, at
+ * most 1 KiB of text, 32 bytes of output and one record, and comes first in the next call.
  *
  * - `JILLAPUN_GOES_ON`: call again. If `progress` says that room is wanted (`wants_room`), with
  *   room, and with what of `src` was not read; what follows may stand behind it. Else all of

@@ -448,6 +448,7 @@ def pages():
         index.append("- [`%s`](%s.md): %s" % (crate, crate, " ".join(page).split(". ")[0].rstrip(".") + "."))
     yield "words.md", word_page(used)
     index.append("- [Words](words.md): the terms of the prose, and the definitions that contracts cite, each with its line and its place.")
+    index.append("- [Three codecs, one law](../CODECS.md): decoder, encoder and converter on one page.")
     index.append("- [Wrong bodies](edits.md): the edits that the prover has to refuse, by function.")
     yield "README.md", "\n".join(index) + "\n"
 

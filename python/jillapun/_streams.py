@@ -125,7 +125,7 @@ class Converter:
     def convert(self, data: bytes, last: bool = False) -> ConvertedPart:
         """The output that these bytes decide, and what is found lost in it; what is undecided waits for more. `last`
         ends the stream, and after it no more can be converted. Raises `TooLong` if the stream has more than `limit`
-        bytes, and `Stopped`, which has what this call wrote and found."""
+        bytes, and what this call made is gone then; and `Stopped`, which has what this call wrote and found."""
         faults = Faults(keep=sys.maxsize)
         return ConvertedPart(self._conversion.put(c.bytes_of(data), last, faults), faults.kept)
 

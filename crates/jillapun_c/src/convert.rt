@@ -36,7 +36,8 @@ use std::alloc::Global;
 ///
 /// At the last five nothing is written, and all of the report is 0.
 ///
-/// It takes memory for the output and the records from the heap, and frees it before it returns.
+/// It takes memory from the heap for the output, for the records and for a room as large as `src`,
+/// of 64 bytes at least and 16 KiB at most, and frees it before it returns.
 #[unsafe(no_mangle)]
 pub extern "C" fn jillapun_convert(
     alloc: Global,
