@@ -13,7 +13,7 @@ use Rattle.recode.specs.laws.Items.{spared_nil}
 use Rattle.recode.proofs.BufferLemmas.{same_on, same_start}
 use Rattle.recode.proofs.ConvertLemmas.{last_is, size_into}
 use Rattle.recode.proofs.HeldLemmas.{holds_behind, left_after, passes_none, passes_then}
-use Rattle.recode.proofs.TellLemmas.{taken_none, taken_then}
+use Rattle.recode_log.specs.laws.Told.{taken_none, taken_then}
 
 pub ok_map : {T E A B : Type 0} (r : Result T E) → OnOk r A → (A → B) → OnOk r B
 ok_map (Ok x) k f = f k

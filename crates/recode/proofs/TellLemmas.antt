@@ -1,79 +1,24 @@
--- What devices that tell their bytes tell after calls in a row, and which call was the last.
-use Rattle.std.proofs.Common.{◌≡◌, ◌⊎◌, ◌+◌, ◌<◌, ℕ, List, [], ◌∷◌, ◌++◌, Option, Some, None, Result, Ok, Err, true, false, OnOk, OnErr, IfErr, IsErrAnd, inl, inr, refl, sym, ap, subst, ◌∙◌, append_assoc, append-nil, length, length-append, take, arith}
-use Rattle.std.specs.Io.{ReadsAtMost}
-use Rattle.std.specs.Io.KnownBytes.{Appends, Consumes, IsAtEnd, Keeps, ReadConsumes}
+-- What the devices of a conversion tell after calls in a row, and which call was the last.
+use Rattle.std.proofs.Common.{◌≡◌, ◌⊎◌, ◌<◌, ℕ, List, [], ◌∷◌, ◌++◌, Option, Some, None, Result, Ok, Err, true, false, OnErr, IfErr, IsErrAnd, inl, inr, sym, ap, subst, ◌∙◌, append_assoc, append-nil, length, take, arith}
+use Rattle.std.specs.Io.KnownBytes.{Appends, Consumes, IsAtEnd}
 use Rattle.std.specs.List.{concat}
-use Rattle.std.proofs.KnownBytes.{Appends-nil, Appends-trans, Consumes-kept, Consumes-nil, Consumes-trans}
 use Rattle.std.proofs.lemmas.List.{append_cancel_left, same_from_push}
-use Rattle.std.proofs.lemmas.List.Folds.{concat-append}
 use Rattle.recode_log.specs.Call.{Call, CallsOnce, EndsInFailedWrite, Failed, Flush, FlushesOnce, Passed, passed_by}
-use Rattle.recode_log.specs.laws.Calls.{passed_failed, passed_flush, passed_one}
+use Rattle.recode_log.specs.laws.Calls.{passed_failed, passed_one}
 use Rattle.recode.specs.Conversion.{EndsInFlush}
 use Rattle.recode.specs.Devices.{Devices, Gave, GaveToEnd, Grew, IsOf}
 use Rattle.recode.specs.Fault.{EndsAtFault, EndsAtWriterFault, of_other}
 use Rattle.recode.specs.Step.{IsReadInto, StepCalls}
-use Rattle.recode.specs.Told.{Told, TellsReads, TellsTaken, TellWhatPassed}
+use Rattle.recode_log.specs.Told.{TellsReads, TellsTaken}
+use Rattle.recode_log.specs.laws.Told.{NoneYet, reads_none, reads_on, reads_then, taken_none, taken_then}
+use Rattle.recode.specs.Told.{Told, TellWhatPassed}
 use Rattle.recode.specs.declared.job.Fault.{Fault}
 use Rattle.recode.specs.declared.job.Fault.TheVariants.{Read, Write, Log, TooLong, Unmappable}
 use Rattle.recode.proofs.GrowLemmas.{GaveToEnd-is}
 
--- ---- a writer
-
-pub taken_none : (a : List ℕ) (t : Option (List ℕ)) → TellsTaken a a t t
-taken_none a t = record { bytes = []; took = sym (append-nil a); held = Appends-nil t }
-
-pub taken_then : (a b c : List ℕ) (t u v : Option (List ℕ)) → TellsTaken a b t u → TellsTaken b c u v → TellsTaken a c t v
-taken_then a b c t u v h k = record {
-  bytes = h.bytes ++ k.bytes;
-  took = k.took ∙ ap (λ l. l ++ k.bytes) h.took ∙ append_assoc a h.bytes k.bytes;
-  held = Appends-trans t u v h.bytes k.bytes h.held k.held;
-}
-
--- a flush
-kept_nil : (t u : Option (List ℕ)) → Keeps t u → Appends t u []
-kept_nil None u h = tt
-kept_nil (Some x) None h = absurd h
-kept_nil (Some x) (Some y) h = h ∙ sym (append-nil x)
-
-pub taken_kept : (a b : List ℕ) (t u : Option (List ℕ)) → b ≡ a → Keeps t u → TellsTaken a b t u
-taken_kept a b t u same kept = record { bytes = []; took = same ∙ sym (append-nil a); held = kept_nil t u kept }
-
--- all of some bytes, or a part
-pub taken_by : {T E : Type 0} (r : Result T E) (a b : List ℕ) (t u : Option (List ℕ)) (bytes : List ℕ) (n m : ℕ)
-    → OnOk r (Appends t u bytes × (m ≡ n) × (b ≡ a ++ bytes)) → OnErr r ((k : ℕ) × (k < length bytes) × Appends t u (take k bytes) × (m ≡ n + 1) × (b ≡ a ++ take k bytes)) → TellsTaken a b t u
-taken_by (Ok x) a b t u bytes n m h k = record { bytes = bytes; took = h.2; held = h.0 }
-taken_by (Err e) a b t u bytes n m h k = record { bytes = take k.0 bytes; took = k.4; held = k.2 }
-
--- if that is known
-pub taken_whole : {X : Type 0} (a b : List ℕ) (t u : Option (List ℕ)) (bytes : List ℕ) → Appends t u bytes × X × (b ≡ a ++ bytes) → TellsTaken a b t u
-taken_whole a b t u bytes h = record { bytes = bytes; took = h.2; held = h.0 }
-
-pub taken_part : {X : Type 0} (a b : List ℕ) (t u : Option (List ℕ)) (bytes : List ℕ) → (k : ℕ) × (k < length bytes) × Appends t u (take k bytes) × X × (b ≡ a ++ take k bytes) → TellsTaken a b t u
-taken_part a b t u bytes k = record { bytes = take k.0 bytes; took = k.4; held = k.2 }
-
 -- so a writer that tells holds what was taken
 pub taken_is : (a b : List ℕ) (t u : Option (List ℕ)) (bytes : List ℕ) → TellsTaken a b t u → Grew a b bytes → Appends t u bytes
 taken_is a b t u bytes h is = subst (Appends t u) (append_cancel_left a h.bytes bytes (sym h.took ∙ is)) h.held
-
--- ---- a reader
-
-pub reads_none : (a : List (List ℕ)) (t : Option (List ℕ)) → TellsReads a a t t
-reads_none a t = record { reads = []; gave = sym (append-nil a); consumed = Consumes-nil t; end = λ front e. absurd (omega (arith, ap length e, length-append front ([] ∷ []))) }
-
--- the last of some
-last_of : (r : List (List ℕ)) → (r ≡ []) ⊎ ((front : List (List ℕ)) × (x : List ℕ) × (r ≡ front ++ (x ∷ [])))
-last_of [] = inl refl
-last_of (x ∷ r) = elim (last_of r) [
-  | inl none ↦ inr ([], x, ap (λ l. x ∷ l) none)
-  | inr p ↦ inr (x ∷ p.0, p.1, ap (λ l. x ∷ l) p.2)
-]
-
--- no call so far gave none
-abbrev pub NoneYet : (before after : List (List ℕ)) → Type 0
-NoneYet before after = (front : List (List ℕ)) → after ≡ before ++ (front ++ ([] ∷ [])) → ⊥
-
-pub none_yet : (a : List (List ℕ)) → NoneYet a a
-none_yet a front e = omega (arith, ap length e, length-append a (front ++ ([] ∷ [])), length-append front ([] ∷ []))
 
 -- what one call gave, if it gave some
 one_gave : (before after : List Call) (room : ℕ) (call : Call) → IsReadInto room call → after ≡ before ++ (call ∷ [])
@@ -92,54 +37,6 @@ none_yet_on a before after room call chunk yet is once gave some front e = elim 
       let all : gave.0 ≡ one.0 ∷ [] = append_cancel_left (passed_by before) gave.0 (one.0 ∷ []) (sym gave.1 ∙ one.1) in
       omega (arith, some, ap length (sym gave.2 ∙ ap concat all ∙ append-nil one.0 ∙ none))
 ]
-
-pub reads_then : (a b c : List (List ℕ)) (t u v : Option (List ℕ)) → NoneYet a b → TellsReads a b t u → TellsReads b c u v → TellsReads a c t v
-reads_then a b c t u v yet h k = record {
-  reads = h.reads ++ k.reads;
-  gave = k.gave ∙ ap (λ l. l ++ k.reads) h.gave ∙ append_assoc a h.reads k.reads;
-  consumed = subst (Consumes t v) (sym (concat-append h.reads k.reads)) (Consumes-trans t u v (concat h.reads) (concat k.reads) h.consumed k.consumed);
-  end = λ front e. elim (last_of k.reads) [
-    | inl none ↦ absurd (yet front (h.gave ∙ ap (λ l. a ++ l) (sym (append-nil h.reads) ∙ ap (λ l. h.reads ++ l) (sym none) ∙ e)))
-    | inr p ↦ k.end p.0 (p.2 ∙ ap (λ x. p.0 ++ (x ∷ [])) (same_from_push (h.reads ++ p.0) front p.1 [] (append_assoc h.reads p.0 (p.1 ∷ []) ∙ ap (λ l. h.reads ++ l) (sym p.2) ∙ e)).1)
-  ];
-}
-
--- if the reader told its bytes at first, no more need be known
-ends_kept : (t u v : Option (List ℕ)) (x read : List ℕ) → t ≡ Some x → Consumes t u read → Consumes u v [] → IsAtEnd u → IsAtEnd v
-ends_kept t None None x read is h k e = tt
-ends_kept t None (Some z) x read is h k e = absurd (rw is at h)
-ends_kept t (Some y) None x read is h k e = absurd k
-ends_kept t (Some y) (Some z) x read is h k e = sym k ∙ e
-
-reads_on : (a b c : List (List ℕ)) (t u v : Option (List ℕ)) (x : List ℕ) → t ≡ Some x → TellsReads a b t u → TellsReads b c u v → TellsReads a c t v
-reads_on a b c t u v x is h k = record {
-  reads = h.reads ++ k.reads;
-  gave = k.gave ∙ ap (λ l. l ++ k.reads) h.gave ∙ append_assoc a h.reads k.reads;
-  consumed = subst (Consumes t v) (sym (concat-append h.reads k.reads)) (Consumes-trans t u v (concat h.reads) (concat k.reads) h.consumed k.consumed);
-  end = λ front e. elim (last_of k.reads) [
-    | inl none ↦ ends_kept t u v x (concat h.reads) is h.consumed (subst (λ (r : List (List ℕ)). Consumes u v (concat r)) none k.consumed)
-        (h.end front (sym (append-nil h.reads) ∙ ap (λ l. h.reads ++ l) (sym none) ∙ e))
-    | inr p ↦ k.end p.0 (p.2 ∙ ap (λ x. p.0 ++ (x ∷ [])) (same_from_push (h.reads ++ p.0) front p.1 [] (append_assoc h.reads p.0 (p.1 ∷ []) ∙ ap (λ l. h.reads ++ l) (sym p.2) ∙ e)).1)
-  ];
-}
-
--- one read
-pub reads_one : {E : Type 0} (before after : List Call) (t u : Option (List ℕ)) (r : Result ℕ E) (buf : List ℕ) → CallsOnce before after r buf → ReadConsumes t u r buf → ReadsAtMost r buf → 0 < length buf
-    → TellsReads (passed_by before) (passed_by after) t u
-reads_one before after t u (Ok n) buf once more within some = record {
-  reads = take n buf ∷ [];
-  gave = passed_one before after (length buf) (take n buf) once;
-  consumed = subst (Consumes t u) (sym (append-nil (take n buf))) more.0;
-  end = λ front e. more.1 (within.1 ∙ ap length (same_from_push [] front (take n buf) [] e).1) some;
-}
-reads_one before after t u (Err x) buf once kept within some =
-    let none : passed_by after ≡ passed_by before = passed_failed before after (length buf) once in
-    record {
-      reads = [];
-      gave = none ∙ sym (append-nil (passed_by before));
-      consumed = Consumes-kept t t u [] (Consumes-nil t) kept;
-      end = λ front e. absurd (omega (arith, ap length e, length-append front ([] ∷ [])));
-    }
 
 -- so what its calls gave is what it has lost
 pub reads_are : (a b : List (List ℕ)) (t u : Option (List ℕ)) (bytes : List ℕ) → TellsReads a b t u → Gave a b bytes → Consumes t u bytes
@@ -163,12 +60,6 @@ reads_of x a b t u is h = record {
     whole_of : (u : Option (List ℕ)) (bytes : List ℕ) → Consumes (Some x) u bytes → IsAtEnd u → bytes ≡ x
     whole_of None bytes consumed end = absurd consumed
     whole_of (Some y) bytes consumed end = sym (consumed ∙ ap (λ l. bytes ++ l) end ∙ append-nil bytes)
-
--- a reader that gave no byte, and is at its end, was at its end before
-pub ended_before : (old new : Option (List ℕ)) (bs : List ℕ) → Consumes old new bs → bs ≡ [] → IsAtEnd new → IsAtEnd old
-ended_before None new bs consumed none end = tt
-ended_before (Some xs) None bs consumed none end = absurd consumed
-ended_before (Some xs) (Some ys) bs consumed none end = consumed ∙ ap (λ b. b ++ ys) none ∙ end
 
 -- ---- all three
 
@@ -199,10 +90,6 @@ tells_more d e f t u v h same still k l = record {
 }
 
 -- a flush
-pub flushed_none : {T E : Type 0} (before after : List Call) (r : Result T E) → FlushesOnce before after r → concat (passed_by after) ≡ concat (passed_by before)
-flushed_none before after (Ok x) once = ap concat (passed_flush before after false once)
-flushed_none before after (Err e) once = ap concat (passed_flush before after true once)
-
 pub flushed_last : {T E : Type 0} (before after : List Call) (r : Result T E) → FlushesOnce before after r → EndsInFlush after
 flushed_last before after (Ok x) once = record { earlier = before; failed = false; ends = once }
 flushed_last before after (Err e) once = record { earlier = before; failed = true; ends = once }

@@ -1,10 +1,9 @@
 -- What devices tell of their bytes, if they do, beside what their calls passed.
-use Rattle.std.specs.Prelude.{◌≡◌, ℕ, List, [], ◌∷◌, ◌++◌, Option}
-use Rattle.std.specs.Io.KnownBytes.{Appends, Consumes, IsAtEnd}
-use Rattle.std.specs.List.{concat}
+use Rattle.std.specs.Prelude.{ℕ, List, Option}
 use Rattle.recode_log.specs.Counted.{inner_of}
+use Rattle.recode_log.specs.Told.{TellsReads, TellsTaken}
 use Rattle.recode_log.specs.declared.counted.Counted.{Counted}
-use Rattle.recode.specs.Devices.{Devices, Grew}
+use Rattle.recode.specs.Devices.{Devices}
 
 -- the bytes that a reader has still to give, and those that a writer and a log hold, as far as the contract of each says
 -- them
@@ -16,20 +15,6 @@ pub record Told : Type 0 where
 -- what a reader, a writer and a log tell
 abbrev pub told_in : {R W L : Type 0} → (R → Option (List ℕ)) → (W → Option (List ℕ)) → (L → Option (List ℕ)) → Counted R → Counted W → Counted L → Told
 told_in remaining contents logged reader writer log = record { input = remaining (inner_of reader); output = contents (inner_of writer); log = logged (inner_of log) }
-
--- If the reader tells what it has still to give, it lost the bytes that its calls gave, and if the last of them gave none,
--- nothing is left.
-pub record TellsReads (before after : List (List ℕ)) (told told' : Option (List ℕ)) : Type 0 where
-  pub reads : List (List ℕ)
-  pub gave : after ≡ before ++ reads
-  pub consumed : Consumes told told' (concat reads)
-  pub end : (front : List (List ℕ)) → reads ≡ front ++ ([] ∷ []) → IsAtEnd told'
-
--- if a writer tells what it holds, that grew by the bytes that its calls took
-pub record TellsTaken (before after : List ℕ) (told told' : Option (List ℕ)) : Type 0 where
-  pub bytes : List ℕ
-  pub took : Grew before after bytes
-  pub held : Appends told told' bytes
 
 -- what devices tell, if they do, is what their calls passed
 pub record TellWhatPassed (before after : Devices) (told told' : Told) : Type 0 where

@@ -9,7 +9,8 @@ ghost use Rattle.recode.specs.Devices.{devices_in, KeepsWritten, written_in};
 ghost use Rattle.recode.specs.Conversion.{Breaks, Converts, EndsInFlush, IsFlushCause, RisesBy};
 ghost use Rattle.recode.specs.Conversion.{message_of};
 ghost use Rattle.recode.specs.RunsTold.{BreaksTold, ConvertsTold};
-ghost use Rattle.recode.specs.Told.{TellsTaken, told_in};
+ghost use Rattle.recode_log.specs.Told.{TellsTaken};
+ghost use Rattle.recode.specs.Told.{told_in};
 
 use crate::job::{Buffers, Fault, Job};
 use crate::session::run;

@@ -6,7 +6,7 @@ use Rattle.recode.specs.Devices.{Written, written_in}
 use Rattle.recode.specs.Fault.{EndsAtWriterFault, log_failures, of_other, reader_failures, writer_failures}
 use Rattle.encoding_mem.specs.Items.{Item}
 use Rattle.recode.specs.calls.Held.{LeavesPrefix, Passes, WritersView, log_line_of}
-use Rattle.recode.specs.Told.{TellsTaken}
+use Rattle.recode_log.specs.Told.{TellsTaken}
 use Rattle.recode.specs.declared.job.Fault.{Fault}
 use Rattle.recode.specs.declared.writers.MalformedLine.{MalformedLine}
 use Rattle.recode.specs.declared.writers.Writers.{Writers}

@@ -1,4 +1,4 @@
-use Rattle.recode.proofs.TellLemmas.{flushed_none, taken_kept}
+use Rattle.recode_log.specs.laws.Told.{flushed_none, taken_kept}
 use Rattle.recode.proofs.conversion.flush_both.Goals as goal
 
 pub returns-then-is_err-clause-kept : goal.returns-then-is_err-clause-kept

@@ -2,7 +2,8 @@ use Rattle.std.proofs.Common.{◌∙◌, Ok, refl, ap, subst, arith}
 use Rattle.recode.specs.Session.{IsOver, phase_after}
 use Rattle.recode.specs.calls.SessionView.{view_of}
 use Rattle.recode.specs.declared.job.Job.{Job}
-use Rattle.recode.proofs.TellLemmas.{none_yet, none_yet_on, tells_none, tells_then}
+use Rattle.recode_log.specs.laws.Told.{none_yet}
+use Rattle.recode.proofs.TellLemmas.{none_yet_on, tells_none, tells_then}
 use Rattle.recode.proofs.BufferLemmas.{kept_enough, kept_on, kept_start}
 use Rattle.recode.proofs.LatencyLemmas.{new_settled}
 use Rattle.recode.proofs.StepLemmas.{finishes_within, goes_on_start, goes_on_more, goes_on_finish, goes_on_stop, steps_within, stops_within}

@@ -7,7 +7,7 @@ use Rattle.recode.specs.calls.SessionView.{view_of}
 use Rattle.recode.specs.Devices.{devices_in}
 use Rattle.recode.specs.declared.session.Phase.TheVariants.{Open}
 use Rattle.recode.specs.Step.{HasRun}
-use Rattle.recode.proofs.TellLemmas.{NoneYet}
+use Rattle.recode_log.specs.laws.Told.{NoneYet}
 use Rattle.recode.proofs.session.run.Given as goal
 
 abbrev pub invariant-run : goal.invariant-run

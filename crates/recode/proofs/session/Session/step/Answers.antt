@@ -1,14 +1,15 @@
-use Rattle.std.proofs.Common.{◌≡◌, ◌≤◌, ◌<◌, [], ap, arith, length, rules, take}
+use Rattle.std.proofs.Common.{◌≡◌, ◌≤◌, [], ap, arith, length, rules, take}
 use Rattle.std.proofs.lemmas.Bool.{ne_eqb}
 use Rattle.recode_log.specs.Call.{passed_by}
 use Rattle.recode_log.specs.Counted.{history_of, inner_of}
 use Rattle.recode_log.specs.laws.Calls.{passed_failed, passed_one}
-use Rattle.recode.specs.Told.{TellsReads}
+use Rattle.recode_log.specs.Told.{TellsReads}
 use Rattle.recode.specs.calls.Writers.{is_end}
 use Rattle.recode.proofs.GrowLemmas.{Gave-one, GaveToEnd-one, none_where_end}
 use Rattle.recode.proofs.StepLemmas.{stops_unread, stops_refused, stops_under}
 use Rattle.recode.proofs.LatencyLemmas.{finishes, steps_on}
-use Rattle.recode.proofs.TellLemmas.{ended_before, last_handed, none_well, reads_one, step_calls, taken_none}
+use Rattle.recode_log.specs.laws.Told.{ended_before, reads_one, taken_none}
+use Rattle.recode.proofs.TellLemmas.{last_handed, none_well, step_calls}
 use Rattle.recode.proofs.TraceLemmas.{handed_on}
 use Rattle.recode.proofs.session.Session.step.Given.{Over}
 use Rattle.recode.proofs.session.Session.step.Goals.{After-read}

@@ -4,7 +4,8 @@ use Rattle.recode.specs.calls.Held.{line_items}
 use Rattle.recode.proofs.HandsLemmas.{hands_after, hands_fault}
 use Rattle.recode.proofs.HeldLemmas.{delivers, hands_each}
 use Rattle.recode.proofs.TraceLemmas.{under_bytes}
-use Rattle.recode.proofs.TellLemmas.{last_each, taken_none, taken_part, taken_whole}
+use Rattle.recode_log.specs.laws.Told.{taken_none, taken_part, taken_whole}
+use Rattle.recode.proofs.TellLemmas.{last_each}
 use Rattle.recode.proofs.writers.Writers.deliver_held.Goals as goal
 
 pub returns-in_err-deliver_line-clause-hands : goal.returns-in_err-deliver_line-clause-hands

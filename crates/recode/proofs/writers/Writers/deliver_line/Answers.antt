@@ -1,6 +1,7 @@
 use Rattle.std.proofs.Common.{rules, take}
 use Rattle.recode.proofs.HeldLemmas.{line_part, line_whole}
-use Rattle.recode.proofs.TellLemmas.{last_log, taken_by, taken_none}
+use Rattle.recode_log.specs.laws.Told.{taken_by, taken_none}
+use Rattle.recode.proofs.TellLemmas.{last_log}
 use Rattle.recode.proofs.writers.Writers.deliver_line.Goals as goal
 
 pub returns-clause-hands : goal.returns-clause-hands

@@ -2,7 +2,7 @@ use Rattle.std.proofs.Common.{[], ◌∷◌, rules}
 use Rattle.recode.specs.calls.Held.{item_of, log_line_of}
 use Rattle.recode.proofs.HandsLemmas.{hands_after, hands_fault}
 use Rattle.recode.proofs.HeldLemmas.{holds_line, none_held}
-use Rattle.recode.proofs.TellLemmas.{taken_none}
+use Rattle.recode_log.specs.laws.Told.{taken_none}
 use Rattle.recode.proofs.writers.Writers.hold_line.Goals as goal
 
 pub returns-in_err-deliver_held : goal.returns-in_err-deliver_held

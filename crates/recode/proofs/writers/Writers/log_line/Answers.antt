@@ -2,7 +2,8 @@ use Rattle.std.proofs.Common.{[], ◌∷◌, ◌∙◌, ap, ◌++◌, rules, tak
 use Rattle.recode.specs.calls.Held.{held_line_bytes, item_of}
 use Rattle.recode.proofs.HandsLemmas.{hands_after, hands_fault}
 use Rattle.recode.proofs.HeldLemmas.{lines_part, lines_whole, none_held}
-use Rattle.recode.proofs.TellLemmas.{last_log, taken_by, taken_none}
+use Rattle.recode_log.specs.laws.Told.{taken_by, taken_none}
+use Rattle.recode.proofs.TellLemmas.{last_log}
 use Rattle.recode.proofs.writers.Writers.log_line.Goals as goal
 
 pub returns-in_err-deliver_bytes-clause-hands : goal.returns-in_err-deliver_bytes-clause-hands

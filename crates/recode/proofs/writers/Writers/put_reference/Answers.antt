@@ -3,7 +3,8 @@ use Rattle.encoding_mem.specs.Coding.{reference_bytes}
 use Rattle.encoding_mem.specs.Items.{Byte}
 use Rattle.recode.proofs.HandsLemmas.{hands_after, hands_fault}
 use Rattle.recode.proofs.HeldLemmas.{delivers_part, delivers_whole, holds, none_held}
-use Rattle.recode.proofs.TellLemmas.{last_write, taken_by, taken_none}
+use Rattle.recode_log.specs.laws.Told.{taken_by, taken_none}
+use Rattle.recode.proofs.TellLemmas.{last_write}
 use Rattle.recode.proofs.writers.Writers.put_reference.Goals as goal
 
 pub returns-in_err-deliver_held : goal.returns-in_err-deliver_held
