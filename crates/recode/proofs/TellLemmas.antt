@@ -10,7 +10,7 @@ use Rattle.recode.specs.Devices.{Devices, Gave, GaveToEnd, Grew, IsOf}
 use Rattle.recode.specs.Fault.{EndsAtFault, EndsAtWriterFault, of_other}
 use Rattle.recode.specs.Step.{IsReadInto, StepCalls}
 use Rattle.recode_log.specs.Told.{TellsReads, TellsTaken}
-use Rattle.recode_log.specs.laws.Told.{NoneYet, reads_none, reads_on, reads_then, taken_none, taken_then}
+use Rattle.recode_log.specs.laws.Told.{NoneYet, reads_none, reads_after, reads_then, taken_none, taken_then}
 use Rattle.recode.specs.Told.{Told, TellWhatPassed}
 use Rattle.recode.specs.declared.job.Fault.{Fault}
 use Rattle.recode.specs.declared.job.Fault.TheVariants.{Read, Write, Log, TooLong, Unmappable}
@@ -75,7 +75,7 @@ tells_then d e f t u v yet h k = record {
 
 pub tells_on : (d e f : Devices) (t u v : Told) (x : List ℕ) → t.input ≡ Some x → TellWhatPassed d e t u → TellWhatPassed e f u v → TellWhatPassed d f t v
 tells_on d e f t u v x is h k = record {
-  input = reads_on d.reads e.reads f.reads t.input u.input v.input x is h.input k.input;
+  input = reads_after d.reads e.reads f.reads t.input u.input v.input x is h.input k.input;
   output = taken_then d.written.output e.written.output f.written.output t.output u.output v.output h.output k.output;
   log = taken_then d.written.log e.written.log f.written.log t.log u.log v.log h.log k.log;
 }

@@ -38,11 +38,11 @@ taken_by (Ok x) a b t u bytes n m h k = record { bytes = bytes; took = h.2; held
 taken_by (Err e) a b t u bytes n m h k = record { bytes = take k.0 bytes; took = k.4; held = k.2 }
 
 -- if that is known
-pub taken_whole : {X : Type 0} (a b : List ℕ) (t u : Option (List ℕ)) (bytes : List ℕ) → Appends t u bytes × X × (b ≡ a ++ bytes) → TellsTaken a b t u
-taken_whole a b t u bytes h = record { bytes = bytes; took = h.2; held = h.0 }
+pub took_whole : {X : Type 0} (a b : List ℕ) (t u : Option (List ℕ)) (bytes : List ℕ) → Appends t u bytes × X × (b ≡ a ++ bytes) → TellsTaken a b t u
+took_whole a b t u bytes h = record { bytes = bytes; took = h.2; held = h.0 }
 
-pub taken_part : {X : Type 0} (a b : List ℕ) (t u : Option (List ℕ)) (bytes : List ℕ) → (k : ℕ) × (k < length bytes) × Appends t u (take k bytes) × X × (b ≡ a ++ take k bytes) → TellsTaken a b t u
-taken_part a b t u bytes k = record { bytes = take k.0 bytes; took = k.4; held = k.2 }
+pub took_part : {X : Type 0} (a b : List ℕ) (t u : Option (List ℕ)) (bytes : List ℕ) → (k : ℕ) × (k < length bytes) × Appends t u (take k bytes) × X × (b ≡ a ++ take k bytes) → TellsTaken a b t u
+took_part a b t u bytes k = record { bytes = take k.0 bytes; took = k.4; held = k.2 }
 
 pub flushed_none : {T E : Type 0} (before after : List Call) (r : Result T E) → FlushesOnce before after r → concat (passed_by after) ≡ concat (passed_by before)
 flushed_none before after (Ok x) once = ap concat (passed_flush before after false once)
@@ -90,8 +90,8 @@ ends_kept t None (Some z) x read is h k e = absurd (rw is at h)
 ends_kept t (Some y) None x read is h k e = absurd k
 ends_kept t (Some y) (Some z) x read is h k e = sym k ∙ e
 
-pub reads_on : (a b c : List (List ℕ)) (t u v : Option (List ℕ)) (x : List ℕ) → t ≡ Some x → TellsReads a b t u → TellsReads b c u v → TellsReads a c t v
-reads_on a b c t u v x is h k = reads_both a b c t u v h k (λ front none e. ends_kept t u v x (concat h.reads) is h.consumed (rw none at k.consumed) (h.end front e))
+pub reads_after : (a b c : List (List ℕ)) (t u v : Option (List ℕ)) (x : List ℕ) → t ≡ Some x → TellsReads a b t u → TellsReads b c u v → TellsReads a c t v
+reads_after a b c t u v x is h k = reads_both a b c t u v h k (λ front none e. ends_kept t u v x (concat h.reads) is h.consumed (rw none at k.consumed) (h.end front e))
 
 -- one read
 pub reads_one : {E : Type 0} (before after : List Call) (t u : Option (List ℕ)) (r : Result ℕ E) (buf : List ℕ) → CallsOnce before after r buf → ReadConsumes t u r buf → ReadsAtMost r buf → 0 < length buf

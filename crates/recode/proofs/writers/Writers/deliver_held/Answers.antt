@@ -4,7 +4,7 @@ use Rattle.recode.specs.calls.Held.{line_items}
 use Rattle.recode.proofs.HandsLemmas.{hands_after, hands_fault}
 use Rattle.recode.proofs.HeldLemmas.{delivers, hands_each}
 use Rattle.recode.proofs.TraceLemmas.{under_bytes}
-use Rattle.recode_log.specs.laws.Told.{taken_none, taken_part, taken_whole}
+use Rattle.recode_log.specs.laws.Told.{taken_none, took_part, took_whole}
 use Rattle.recode.proofs.TellLemmas.{last_each}
 use Rattle.recode.proofs.writers.Writers.deliver_held.Goals as goal
 
@@ -20,7 +20,7 @@ returns-in_err-deliver-clause-hands g c =
       err = hands_each _ _ _ _ _ _ c.from_residual-in_err-deliver.ensures.1 (λ more. under_bytes _ _ _ _ _ held _ _ more c.in_err-deliver.ensures.fault c.in_err-deliver.ensures.err.4
           (ap (λ line. (line_items line ++ map Byte held) ++ more) e.none));
       failures = record { writer = search rules; log = search rules; not_reader = search rules; not_other = search rules; same = search rules; last = last_each _ _ _ _ _ c.from_residual-in_err-deliver.ensures.1 c.in_err-deliver.ensures.fault c.in_err-deliver.ensures.failed };
-      told = record { output = taken_part _ _ _ _ held c.in_err-deliver.ensures.err; log = taken_none _ _ };
+      told = record { output = took_part _ _ _ _ held c.in_err-deliver.ensures.err; log = taken_none _ _ };
     })
 
 pub returns-clause-hands : goal.returns-clause-hands
@@ -30,5 +30,5 @@ returns-clause-hands g c =
       ok = rw e.none (delivers _ _ _ _ _ c.in_ok-deliver.ensures.ok.2 refl);
       err = tt;
       failures = search rules;
-      told = record { output = taken_whole _ _ _ _ _ c.in_ok-deliver.ensures.ok; log = taken_none _ _ };
+      told = record { output = took_whole _ _ _ _ _ c.in_ok-deliver.ensures.ok; log = taken_none _ _ };
     })
