@@ -3,11 +3,10 @@
 
     python3 tools/headline.py
 
-For each clause that it names, the page has the clause as it stands in the source, and each definition that the clause
-stands on, with the line above that definition and its place. Names are followed through the imports of each file, and
-the standard library is left out. `make lint` calls `faults`: a
-page that is not what this script writes, a headline that stands on more lines than `tools/headline_lines` says, and one
-that stands on a file of `specs/calls/`.
+The page has the theorem in words and in the clauses that say it, each definition that these stand on, down to pieces and
+coding as it stands in the source, and the codecs as a list with places. Names are followed through the imports of each
+file, and the standard library is left out. `make lint` calls `faults`: a page that is not what this script writes, a
+theorem that stands on more lines than `tools/headline_lines` says, and one that stands on a file of `specs/calls/`.
 """
 
 import os
@@ -20,13 +19,9 @@ from definitions import TOP, WORD, closure, definitions
 PAGE = os.path.join(TOP, "docs", "HEADLINE.md")
 LINES = os.path.join(TOP, "tools", "headline_lines")
 
-# The clauses of the page, the headline first: function, clause, and what it says of what.
-CLAUSES = [
-    ("recode", "run", "completes", "A run that ends well"),
-    ("recode", "run", "fails", "A run that a fault ends"),
-    ("recode", "Session::step", "more", "A step after which more may be read"),
-    ("recode", "laws::read_back", None, "Output that reads back"),
-]  # fmt: skip
+# The clauses of `recode::run` that are the theorem, and the laws that stand beside it.
+CLAUSES = ("completes", "fails", "failures", "last")
+LAWS = ("steps_add_up", "decided_pieces_are_converted", "calls_are_a_conversion", "runs_agree", "read_back")
 
 # What the definitions of each crate are about, in the order to read them in.
 GROUPS = [
@@ -38,16 +33,47 @@ GROUPS = [
     ("encoding_codecs", "The encodings of two and more bytes"),
 ]  # fmt: skip
 
+# The files of `specs/` that say what an encoding is: the page lists their definitions, and shows those of all others.
+CODECS = ("encoding_codecs/", "encoding_tables/", "encoding_front/specs/Codecs", "encoding_front/specs/EncodingTable", "encoding_mem/specs/Utf8")
+
+THEOREM = """
+For every valid job, every reader, writer and log, and all buffers that are enough, `recode::run` returns, and one of two holds.
+
+- **Whole.** It returns a report. Calls of the reader gave an input, and the last of them gave none; the input is within the job's limit, and the policy stops nothing in it. What calls of the writer took grew by exactly the output that the job's definitions give for that input, and what calls of the log took by exactly its log. No call failed. The report has the input's length, its malformed sequences, its lost characters and its source encoding, and says `faithful` exactly if nothing is malformed and the output decodes to the input's text.
+- **A fault, with its cause.** `Read`, `Write` or `Log`: one call failed, and it was the last of that device. `TooLong`: what was read passes the limit. `Unmappable`: the policy stops, and all was written up to the line of the first lost character. What was written is a prefix, in the one order of output and log, of what is written for every input that begins with what was read; after `Read` and `TooLong` it is all that these bytes decide.
+
+It speaks of files, pipes and standard streams as of devices in memory: of the calls that were made of them, and what these passed.
+"""
+
+CHAIN = """
+| From | What it adds to what it calls | Contract |
+|---|---|---|
+| `recode::run` | the theorem above | [session.rt](../crates/recode/src/session.rt) |
+| `recode::convert` | Flushes both writers; status 0 if nothing was lost, 1 if something was, 4 after a fault, whose message then ends the log (`Converts`, `Breaks`) | [conversion.rt](../crates/recode/src/conversion.rt) |
+| `recode::program` | Reads the words, loads the indexes that the two encodings need, makes job and buffers; status 2 or 3, with a message, if there is no valid job: then nothing is read | [entry.rt](../crates/recode/src/entry.rt) |
+| `recode_system::answer` | The words of a command line as text; the files of the system as the source of indexes | [command_line.rt](../crates/recode_system/src/command_line.rt) |
+| `main` of `recode_cli` | Hands standard input, output and error to `answer`, and its status to the system; no contract | [main.rt](../crates/recode_cli/src/main.rt) |
+"""
+
+TRUSTED = """
+- The prover, its standard library and its two compilers; the system, and that a call of a stream passes what it says.
+- `Recorded` of `recode_log`: that each of its three methods calls the device once and puts into the history what the device answered. Its lines are few ([recorded.rt](../crates/recode_log/src/recorded.rt)); tests with devices that count their calls try them. The prover's own proofs cannot choose another history; a proof by hand could, so `make lint` names each that there is.
+- `main` of `recode_cli`, a few lines with no contract.
+- That calls of devices return: if one does not, `run` does not either.
+- That these definitions say what the Encoding Standard says. They are executed: `make definitions` compares them with a plain program that follows the steps of the standard, the pieces of every input of up to two bytes in each of the 40 encodings, longer ones at random, what is written for every scalar value, whole jobs with output, log and verdict, and the records of the theorem themselves on outcomes that are right and on outcomes that are wrong in one place. The gate does a sample, in which nothing differs; a run of all has not been seen to its end yet. Rows worked by hand stand in `specs/examples` of each crate.
+- That the indexes are those of the standard: they were accepted (`IsValidJob`), and are what their files say.
+"""
+
 HOW_TO_READ = """
-- `ensures NAME { .. }` is what the function promises. It speaks of every reader, writer and log, files and standard streams among them: `reads_of` has the bytes that each call of the reader gave that did not fail, and `written_in` those that calls of the writer and of the log took, from the first call on. `Counted` keeps this history of its calls for clauses alone; it takes no memory. So there is one input of which the clause can speak: what the calls of the reader gave. What a device tells of its own bytes, if it does, is the same (`completes_told`, `fails_told`).
+- `ensures NAME { .. }` is what the function promises. `reads_of` has the bytes that each call of the reader gave that did not fail, and `written_in` those that calls of the writer and of the log took, from the first call on. `Counted` keeps this history of its calls for clauses alone; it takes no memory. What a device tells of its own bytes, if it does, is the same (`completes_told`, `fails_told`).
 - `x.old` is what a parameter refers to before the call, `x.new` after it, `x.now` if the call does not change it; `x.entry` is the value that was passed, `result` what is returned.
 - `IfOk result (λ p. ..)` says the rest of `p` if the result is `Ok p`, and `IfErr` of the error. `A → B` is *if A then B*, `A × B` *A and B*, `A ⊎ B` *A or B*, `A ↔ B` *A exactly if B*, `¬ A` *not A*, `(x : A) → ..` *for each x*, `(x : A) × ..` *there is an x*. `⊥` is false, `Unit {0}` true, and `IsTrue b` says that the Boolean b is `true`.
-- `record R .. where` names each of its parts, and holds if all of them do; a `data` lists what a value can be. `abbrev` and `unfoldable` begin definitions alike. The first equation that fits counts. `≡` is equality, `∷` puts one element before a list, `++` joins two, `p.0` and `p.1` are the parts of a pair.
-- A byte is a number below 256, a character its scalar value. In the lines below, bytes of encodings and code points (U+) are hexadecimal, other numbers decimal. `slice_index list k` is the element at k, and 0 past the end; `slice_range list from to` has those from `from` to below `to`; `digits 16 true n` are the hexadecimal digits of n in capitals, with no zero before them.
-- The bound on the work is in the report: `least` and `most` bound `calls`, its number of calls of decoders and encoders, by what was read, malformed and lost.
-- What it does not say: when the result is `Ok` (`laws::answers_without_faults`), how output and log are interleaved (`fails` says that a fault leaves both at one place of their one order, and `more` that a step does), that the indexes are those of the standard (they were accepted, `IsValidJob`), or that a reader who takes byte order marks finds none at the start of the output.
-- What is proved is what the contracts say. Whether these definitions say what the standards say is for a reader to judge: hence this page. Rows worked by hand stand beside them, in the `specs/examples` of the crate.
-- The definitions run (`tools/run_definitions.py`), and `make definitions` compares what they give with a plain program that follows the steps of the standard: the pieces of every input of up to two bytes, and of longer ones at random, in each of the 40 encodings; what is written for every scalar value in each output encoding, from each set in force; output, log, their order and the verdict of whole jobs at random. `Completes` has to hold of each right outcome, and of none that is wrong in one place. The gate does a sample, in which nothing differs; a run of all has not been seen to its end yet.
+- `record R .. where` names each of its parts, and holds if all of them do. **A part that is data means *there is***: that `Completes` has a part `input : List ℕ` says that there is an input of which its other parts are true. A `data` lists what a value can be. `abbrev` and `unfoldable` begin definitions alike. The first equation that fits counts. `≡` is equality, `∷` puts one element before a list, `++` joins two, `p.0` and `p.1` are the parts of a pair.
+- A *piece* is a sequence of bytes that is decoded as one: well-formed, with the scalar values of its characters, or malformed. A *trace* is what a conversion writes, as items in their one order: bytes of the output, and lines of the log.
+- A byte is a number below 256, a character its scalar value. In comments, bytes of encodings and code points (U+) are hexadecimal, other numbers decimal. `slice_index list k` is the element at k, and 0 past the end; `slice_range list from to` has those from `from` to below `to`; `digits 16 true n` are the hexadecimal digits of n in capitals, with no zero before them.
+- The premises: `IsValidJob` says that the indexes of the two encodings were accepted, and that the limit is at most 2^48 (`Job::is_valid` tests it); `AreEnough` that each buffer has room for a character (`Buffers::is_enough`); and fewer than 2^64 - 1 calls have failed before (`Counted::failures`).
+- The bound on the work, `least` and `most` of the report, is one on a number that the report says. That it is the number of calls of decoders and encoders is read off the code, where each call counts itself.
+- What the clauses do not say: that a reader who takes byte order marks finds none at the start of the output.
 """
 
 def clause(crate, function, name, kind="ensures"):
@@ -78,7 +104,7 @@ def count(seen):
 
 def table(seen):
     for crate, about in GROUPS:
-        here = sorted((d for d in seen if d.crate == crate), key=lambda d: (first(seen, d), d.path, seen[d], d.line))
+        here = sorted((d for d in seen if d.crate == crate), key=lambda d: (first(seen, d.path), d.path, seen[d], d.line))
         if not here:
             continue
         yield from ["### %s" % about, "", "| Word | What it is | Place |", "|---|---|---|"]
@@ -107,42 +133,63 @@ def type_rows(modules):
     return sorted(rows)
 
 
-def first(seen, definition):
+def first(seen, path):
     """How near the nearest definition of a file is."""
-    return min(hop for d, hop in seen.items() if d.path == definition.path)
+    return min(hop for d, hop in seen.items() if d.path == path)
+
+
+def shown(definition):
+    """Whether the page shows a definition, or lists it."""
+    return not any(part in definition.path for part in CODECS)
+
+
+def source(seen):
+    """The definitions that the page shows, by crate and file, the nearest to the clauses first."""
+    for crate, about in GROUPS:
+        here = [d for d in seen if d.crate == crate and shown(d)]
+        if not here:
+            continue
+        yield from ["### %s" % about, ""]
+        for path in sorted({d.path for d in here}, key=lambda path: (first(seen, path), path)):
+            yield from ["[%s](../%s)" % (os.path.basename(path), path), ""]
+            for definition in sorted((d for d in here if d.path == path), key=lambda d: d.line):
+                yield from ["    -- " + line for line in definition.comment]
+                yield from ["    " + line for line in definition.source] + [""]
+
+
+def words_of(lines):
+    return [word for line in lines for word in WORD.findall(line)]
 
 
 def page():
-    """The text of the page, on how many lines of definitions the headline stands, and in which files."""
+    """The text of the page, on how many lines of definitions the theorem stands, and in which files."""
     found, imports = definitions([crate for crate, _ in GROUPS])
-    lines = ["# The headline", "", "<!-- Written by tools/headline.py from the sources; do not edit. -->", ""]
-    before, size, paths = {}, 0, set()
-    for crate, function, name, about in CLAUSES:
-        text, place = clause(crate, function, name)
-        words = [word for line in text for word in WORD.findall(line)]
-        seen, library, types = closure(words, found, imports)
-        if not before:
-            size, paths = count(seen)[1], {d.path for d in seen}
-            lines += ["What is proved of a conversion that ends well, and what it stands on: %d definitions, %d lines, in %d files, besides the types of the code that they speak of. They are below by group and by file, the nearest to the clause first." % count(seen), ""]
-            lines += ["## %s" % about, "", "The clause `%s` of `%s::%s` ([%s](../%s)):" % (name, crate, function, place, place.replace(":", "#L")), ""]
-            lines += ["    " + line for line in text] + ["", "if the call's conditions hold:", ""]
-            lines += ["    " + line for line in clause(crate, function, None, "requires")[0]] + [""]
-            for definition in [d for d, hop in seen.items() if d.path.endswith("recode/specs/Session.antt")]:
-                lines += ["    -- " + line for line in definition.comment] + ["    " + line for line in definition.source] + [""]
-            lines += ["## How to read it", HOW_TO_READ.strip("\n"), ""]
-            lines += ["## What it stands on", ""]
-            lines += table(seen)
-            lines += ["### Types of the code", "", "| Type | What it is | Place |", "|---|---|---|"]
-            lines += type_rows(types) + [""]
-        else:
-            more = {d: hop for d, hop in seen.items() if d not in before}
-            named = "The clause `%s` of" % name if name else "The law"
-            lines += ["## %s" % about, "", "%s `%s::%s` ([%s](../%s)):" % (named, crate, function, place, place.replace(":", "#L")), ""]
-            lines += ["    " + line for line in text] + [""]
-            lines += ["It stands on %d definitions, %d lines, in %d files" % count(seen) + (", of which these %d are not above:" % len(more) if more else ", all of them above."), ""]
-            lines += table(more)
-        before.update(seen)
-    return re.sub(r"\n{3,}", "\n\n", "\n".join(lines)).rstrip("\n") + "\n", size, paths
+    premises, place = clause("recode", "run", None, "requires")
+    clauses = [line for name in CLAUSES for line in clause("recode", "run", name)[0]]
+    seen, _, _ = closure(words_of(clauses), found, imports)
+    all_seen, library, types = closure(words_of(clauses + premises), found, imports)
+    lines = ["# The headline", "", "<!-- Written by tools/headline.py from the sources; do not edit. -->", "", "## The theorem", THEOREM.rstrip("\n"), ""]
+    lines += ["## In the prover's words", "", "Of `recode::run` ([%s](../%s)), if these conditions hold:" % (place, place.replace(":", "#L")), ""]
+    lines += ["    " + line for line in premises] + ["", "it promises:", ""] + ["    " + line for line in clauses] + [""]
+    lines += ["This stands on %d definitions, %d lines, in %d files; with what the conditions stand on, on %d definitions, %d lines, in %d files; and on %d words of the standard library. That it returns is the prover's check of each loop." % (count(seen) + count(all_seen) + (len(library),)), ""]
+    lines += ["## How to read it", HOW_TO_READ.rstrip("\n"), "", "## What is trusted", TRUSTED.rstrip("\n"), ""]
+    lines += ["## From the theorem to the program", CHAIN.rstrip("\n"), ""]
+    lines += ["## The definitions, down to pieces and coding", ""] + list(source(all_seen))
+    lines += ["### Types of the code", "", "| Type | What it is | Place |", "|---|---|---|"] + type_rows(types) + [""]
+    lines += ["## The catalogue of codecs", "", "Each can be checked alone, beside its section of the standard.", ""]
+    lines += table({d: hop for d, hop in all_seen.items() if not shown(d)})
+    lines += ["## Theorems beside it", ""]
+    before = dict(all_seen)
+    for name in LAWS:
+        text, place = clause("recode", "laws::" + name, None)
+        near, _, _ = closure(words_of(text), found, imports)
+        more = {d: hop for d, hop in near.items() if d not in before}
+        lines += ["`laws::%s` ([%s](../%s)):" % (name, place, place.replace(":", "#L")), ""] + ["    " + line for line in text] + [""]
+        if more:
+            lines += ["| Word | What it is | Place |", "|---|---|---|"]
+            lines += ["| `%s` | %s | %s |" % (d.name, d.meaning(), d.link("../")) for d in sorted(more, key=lambda d: (d.path, d.line))] + [""]
+        before.update(near)
+    return re.sub(r"\n{3,}", "\n\n", "\n".join(lines)).rstrip("\n") + "\n", count(seen)[1], {d.path for d in seen}
 
 
 def faults():
