@@ -69,6 +69,13 @@ definitions:
 status:
 	@python3 tools/status.py
 
+# The program on standard input, from FROM to TO, compiled in under a minute and run without a proof, also in a fresh clone.
+.PHONY: try
+try:
+	@cd crates/recode_cli && { rt try -- --from "$(FROM)" --to "$(TO)" --indexes "$(CURDIR)/indexes"; status=$$?; \
+		echo "Nothing of this was proved. make build proves the program, and builds one that starts at once." >&2; \
+		exit $$status; }
+
 # The program on standard input, from FROM to TO, proved and built before if something has changed.
 run:
 	@cd crates/recode_cli && rt run -- --from $(FROM) --to $(TO) --indexes $(CURDIR)/indexes

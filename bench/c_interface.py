@@ -11,8 +11,8 @@ workloads that have one of them in their names.
 
 What counts is processor time: of the calling thread for a call, of a whole run for a program, which reads its input and
 its indexes and writes to /dev/null. Rounds of two sides take turns, and a ratio is the median of the ratios of neighbours,
-with its quartiles; one whose quartiles are more than a tenth apart has a `~`. With --write the tables go into
-docs/PERFORMANCE.md.
+with its quartiles; one whose quartiles are more than a tenth apart has a `~`. Of texts of 20 bytes the least time of many
+short rounds counts. With --write the tables go into docs/PERFORMANCE.md.
 """
 
 import argparse
@@ -148,27 +148,29 @@ def timed(work, count):
     return (time.thread_time() - start) / count * 1e6
 
 
+def least(works, rounds, count=300):
+    """The least processor time of a call of each, in microseconds, of rounds that take turns: whatever disturbs a call
+    makes it longer."""
+    return [min(times) for times in zip(*([timed(work, count) for work in works] for _ in range(rounds)))]
+
+
 def short_rows(given):
-    count = 3000
     for title, text, label, codec in SHORT:
         data = text.encode(codec)
         assert jillapun.decode(data, label).text == text and jillapun.encode(text, label).data == data, title
         call = Call(data, label, "utf-8")
-        pairs = [
-            (lambda: jillapun.decode(data, label), lambda: data.decode(codec, "replace")),
-            (lambda: jillapun.encode(text, label), lambda: text.encode(codec, "xmlcharrefreplace")),
-        ]
-        cells = [title]
-        for ours, theirs in pairs:
-            _, own, other = compared(lambda: timed(ours, count), lambda: timed(theirs, count), given.rounds)
-            cells += ["%.1f" % own, "%.1f" % other]
         *words, data_size, room, size, losses, count = call.words
         words[-2] = library.Long(library.NO_LIMIT)
         lent = ctypes.byref(room), library.Size(size), ctypes.byref(losses), library.Size(count)
-        words += [library.Size(data_size), *lent]
-        words, alone = (*words, ctypes.byref(call.report)), bare.convert_all
-        cells.append("%.1f" % statistics.median(timed(lambda: alone(*words), count) for _ in range(given.rounds)))
-        yield cells
+        words = (*words, library.Size(data_size), *lent, ctypes.byref(call.report))
+        works = [
+            lambda: jillapun.decode(data, label),
+            lambda: data.decode(codec, "replace"),
+            lambda: jillapun.encode(text, label),
+            lambda: text.encode(codec, "xmlcharrefreplace"),
+            lambda: bare.convert_all(*words),
+        ]
+        yield [title, *("%.1f" % spent for spent in least(works, 20 * given.rounds))]
 
 
 def shown(rows):

@@ -90,9 +90,9 @@ PACKAGES = {
 COMMAND = """#!/usr/bin/python3
 import sys
 
-from jillapun.__main__ import main
+from jillapun.__main__ import program
 
-sys.exit(main())
+sys.exit(program())
 """
 
 COPYRIGHT = """Format: https://www.debian.org/doc/packaging-manuals/copyright-format/1.0/
@@ -182,11 +182,13 @@ def spread(top, folders):
 
 
 def add_python(folder):
-    """The Python package, and its command."""
+    """The Python package, and its command, which bash completes."""
     with tempfile.TemporaryDirectory() as copy:
         install.python_module(copy)
         shutil.copytree(os.path.join(copy, "python", "jillapun"), os.path.join(folder, PYTHON))
     install.written(COMMAND, os.path.join(folder, "usr/bin/jillapun"), 0o755)
+    completion = os.path.join(folder, "usr/share/bash-completion/completions/jillapun")
+    install.copied("completions/jillapun.bash", completion, 0o644)
 
 
 def add_documents(name, folder):

@@ -4,6 +4,7 @@ import doctest
 import io
 import os
 import random
+import shutil
 import subprocess
 import sys
 import unittest
@@ -251,6 +252,47 @@ class Commands(Programs):
         streams = {"input": b"abc", "capture_output": True, "timeout": MINUTE}
         ran = subprocess.run(words, env=ENVIRONMENT, check=False, **streams)
         self.assertEqual((ran.returncode, ran.stdout[:20]), (0, b"/dev/stdin: 3 bytes\n"))
+
+
+# What is typed, and what bash completes the last word to.
+TYPED = [
+    (["p"], "places"),
+    (["which", "--l"], "--lines"),
+    (["places", "--from", "shift_"], "shift_jis"),
+    (["places", "--to", "=", "UTF-1"], "utf-16 utf-16be utf-16le"),
+    (["places", "--u"], ""),
+    (["--u"], "--unmappable"),
+    (["convert", "--unmappable", "h"], "hexadecimal"),
+    (["which", "some"], "some.txt"),
+    (["--from", "l1", "--into", "s"], ""),
+]
+
+COMPLETED = """
+source "$1"
+shift
+COMP_WORDS=("$@") COMP_CWORD=$(($# - 1))
+_jillapun "$1"
+echo "${COMPREPLY[*]}"
+"""
+
+
+class Completion(Folder):
+    def test_bash(self) -> None:
+        bash = shutil.which("bash")
+        if not bash:
+            self.skipTest("no bash")
+        self.put("some.txt", b"")
+        self.put("jillapun", b'#!/bin/sh\nexec "%s" -m jillapun "$@"\n' % os.fsencode(sys.executable))
+        os.chmod(self.at("jillapun"), 0o755)
+        script = os.path.join(cases.TOP, "completions", "jillapun.bash")
+        if not os.path.exists(script):
+            self.skipTest("no completion beside the package")
+        for words, wanted in TYPED:
+            command = [bash, "-c", COMPLETED, "bash", script, self.at("jillapun"), *words]
+            ran = subprocess.run(
+                command, env=ENVIRONMENT, cwd=self.folder, capture_output=True, text=True, check=False, timeout=MINUTE
+            )
+            self.assertEqual((sorted(ran.stdout.split()), ran.stderr), (wanted.split(), ""), words)
 
 
 if __name__ == "__main__":
