@@ -25,17 +25,21 @@ use recode_log::line::LogLine;
 /// How a call of a converter ended.
 #[derive(Clone, Copy, PartialEq, Eq, Debug)]
 pub enum ConverterResult {
-    /// All of `src` is read, and all that it decides is written. Hand in what comes next. After the
-    /// last bytes all is written (`Converter::is_over`).
+    /// All of `src` is read, and all that it decides is written. Hand in what comes next. After a
+    /// call with `last` all is written, and the conversion is over (`Converter::is_over`).
     InputEmpty,
-    /// Fewer than 4 bytes of `dst` are free. Take what is written, and call again with the rest of
-    /// `src`.
+    /// Fewer than 4 bytes of `dst` are free; nothing says whether anything is left to write. Take
+    /// what is written, and call again with what is left of `src`, and the same `last`. A room of 4
+    /// bytes or more is always enough to go on.
     OutputFull,
-    /// Something is lost here, and all before it is written. The line is that of the log. If it is
-    /// that of a character that has no bytes (`LogLine::Lost`), the output has its reference next,
-    /// which is yours to write (`write_reference` of `encoding_front`, in the form of
-    /// `Policy::reference`); or end the conversion, if the policy writes none. Otherwise call again
-    /// with the rest of `src`.
+    /// Something is lost here, and all before it is written. The line is that of the log: its
+    /// offset in bytes, or its index in characters, is from the start of the input.
+    ///
+    /// For a malformed sequence (`LogLine::Bad`) the converter writes U+FFFD in its next call. In
+    /// the place of a character without bytes (`LogLine::Lost`) the output has its reference, which
+    /// is yours to write before the next call (`write_reference` of `encoding_front`, in the form
+    /// of `Policy::reference`); if the policy has none, end the conversion. Then call again with
+    /// what is left of `src`, and the same `last`.
     Found(LogLine),
 }
 
@@ -64,27 +68,42 @@ trait Viewed {
 
 /// A conversion of a stream that calls no device: bytes of the input come in as they are there,
 /// bytes of the output go out as there is room, and what is lost is found in its place. It takes no
-/// memory, and holds about 1 KiB.
+/// memory; 1 KiB of it is text that waits.
 ///
 /// However the input is cut and whatever rooms are lent, all that is written and found is the same:
-/// the job's output and log (`laws::calls_are_a_conversion`). At `InputEmpty` all that the bytes so
-/// far decide, however the input goes on, is written, with each piece that ends three or more bytes
-/// before their end.
+/// the job's output and log (`laws::calls_are_a_conversion`). At `InputEmpty` all is written but
+/// bytes that decide nothing yet, however the input goes on.
 ///
 /// # Use
 ///
-/// Hand in the bytes that there are, and what is left of them again after each call:
+/// Hand in the bytes that there are, and after each call what is left of them:
 ///
 ///     let mut converter = Converter::new(job);
-///     let (result, read, written) = converter.convert(rest, &mut room, false);
-///     output.write_all(&room[..written])?;
-///     rest = &rest[read..];
-///     match result {
-///         ConverterResult::InputEmpty | ConverterResult::OutputFull => {}
-///         ConverterResult::Found(line) => log.push(line),
+///     let mut room = [0; 4096];
+///     for chunk in chunks {
+///         let mut rest = chunk;
+///         loop {
+///             let (result, read, written) = converter.convert(rest, &mut room, false);
+///             output.write_all(&room[..written])?;
+///             rest = &rest[read..];
+///             match result {
+///                 ConverterResult::InputEmpty => break,
+///                 ConverterResult::OutputFull => {}
+///                 ConverterResult::Found(LogLine::Bad { offset, length }) => {
+///                     println!("{length} malformed bytes at offset {offset}");
+///                 }
+///                 ConverterResult::Found(LogLine::Lost { index, scalar }) => {
+///                     println!("character {index} has no bytes: {scalar:?}");
+///                     let len = write_reference(scalar, Reference::Decimal, &mut room);
+///                     output.write_all(&room[..len])?;
+///                 }
+///             }
+///         }
 ///     }
 ///
-/// At the end of the input hand in no bytes, with `last`, until `is_over`.
+/// At the end of the input do the same with no bytes and `last`, until `is_over`; then `report` has
+/// the counts and the verdict. Before each call `bytes_left` says how many bytes the job's limit
+/// allows.
 #[derive(Drop)]
 pub struct Converter<'t> {
     engine: Engine<Decoder<'t>, VariantEncoder<'t>>,
@@ -145,8 +164,8 @@ impl<'t> Converter<'t> {
 
     /// What the conversion reports, once all was read and written; `None` before that.
     ///
-    /// `Report::calls` counts the calls of codecs, and has no bound here: it depends on the sizes
-    /// of `src` and `dst`.
+    /// No contract bounds `Report::calls` here: how often codecs are called depends on the sizes of
+    /// `src` and `dst`.
     pub fn report(&self) -> Option<Report>
         ensures done { IsSome result ↔ ((converter_view self.now).over ≡ true) }
         ensures tells { IfSome result (ReportsOn (converter_view self.now).state) }
@@ -175,7 +194,7 @@ impl<'t> Converter<'t> {
     /// Of `src` it leaves what it did not read, to be handed in again: what was still to be written
     /// for `src` and any bytes to come is what it wrote, what it found, and then what is still to
     /// be written for the rest and those bytes. Its work is that for what it reads and writes, and
-    /// a copy of the 1 KiB that it holds.
+    /// for the 1 KiB of text that it holds, which is copied in and out.
     ///
     /// Conditions: not all is written yet (`is_over`); `src` has no more bytes than the limit
     /// leaves (`bytes_left`); and once the end was read (`is_ended`), `src` is empty and `last` is

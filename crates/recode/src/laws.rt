@@ -363,9 +363,9 @@ pub fn calls_add_up()
         → ConvertedSoFar j last' (bytes ++ more) rest' (items ++ items') v' }
 {}
 
-/// Calls of a converter keep the promise of `run`. Once all is written, what they wrote and found
-/// is what the job makes of all that they were handed, and what is reported is the report on it.
-/// Before that it is the first part of it, however the input goes on.
+/// Once all is written, what calls of a converter wrote and found is what the job makes of all that
+/// they were handed, if its policy stops nothing, and what is reported is the report on it, but for
+/// the number of calls. Before that it is the first part of it, however the input goes on.
 pub fn calls_are_a_conversion()
     ensures owes { (j : Job) (last : Bool) (bytes rest : List ℕ) (items : List Item)
         (v : ConverterView) → ConvertedSoFar j last bytes rest items v

@@ -30,8 +30,8 @@ turns-init g c =
 -- the turns so far, and one more
 after : (g : Over) (c : After-turn-stop g) (p : Policy)
     → TakesTurns (standing g.D.StreamDecoder.view g.E.RawEncoder.parts p c.args.self.now c.args.pivot.now) (standing g.D.StreamDecoder.view g.E.RawEncoder.parts p c.turn-stop.new.self c.turn-stop.new.pivot) c.args.last c.args.src.now (drop (c.turns.read + c.turn-stop.result.1) c.args.src.now)
-        (map Byte (take (c.turns.written + c.turn-stop.result.2) (put_mid c.turns.written (length c.turns.dst - c.turns.written) c.turns.dst c.turn-stop.new.dst)) ++ stop_items (reference_form p) c.turn-stop.result.0)
-        (3 * stop_count c.turn-stop.result.0) (2 * stop_count c.turn-stop.result.0)
+    (map Byte (take (c.turns.written + c.turn-stop.result.2) (put_mid c.turns.written (length c.turns.dst - c.turns.written) c.turns.dst c.turn-stop.new.dst)) ++ stop_items (reference_form p) c.turn-stop.result.0)
+    (3 * stop_count c.turn-stop.result.0) (2 * stop_count c.turn-stop.result.0)
 after g c p =
     let i = c.turns.invariant in
     let t = c.turn-stop in
