@@ -1,5 +1,5 @@
 -- What the calls of a converter make together.
-use Rattle.std.proofs.Common.{◌≡◌, ◌≢◌, ℕ, ◌+◌, ◌<◌, ◌⊎◌, inl, inr, Bool, true, false, List, [], ◌∷◌, ◌++◌, length, map, take, refl, sym, ◌∙◌, ap, subst, arith, append_assoc, append-nil, length-append, length-drop, length-take, drop, IsFalse, ◌-◌, ◌≤◌, ◌↔◌, Option, Some, None}
+use Rattle.std.proofs.Common.{◌≡◌, ◌≢◌, ℕ, ◌+◌, ◌<◌, ◌⊎◌, inl, inr, Bool, true, false, IsTrue, List, [], ◌∷◌, ◌++◌, length, map, take, refl, sym, ◌∙◌, ap, subst, arith, append_assoc, append-nil, length-append, length-drop, length-take, drop, IsFalse, ◌-◌, ◌≤◌, ◌↔◌, Option, Some, None}
 use Rattle.std.proofs.lemmas.Grind.{flat_map-append}
 use Rattle.std.proofs.lemmas.List.{drop-drop, length-take-le}
 use Rattle.encoding_mem.specs.Coding.{reference_bytes}
@@ -9,10 +9,11 @@ use Rattle.recode_log.specs.Line.{line_bytes}
 use Rattle.recode_log.specs.declared.line.LogLine.{LogLine}
 use Rattle.recode_log.specs.declared.line.LogLine.TheVariants.{Bad, Lost}
 use Rattle.recode.specs.Converter.{AllIsConverted, ConverterView, ConvertsPart, ConvertedSoFar, IsReportButCalls, found_items, owes}
-use Rattle.recode.specs.Job.{input_text, lost_log_lines, target_of, trace, whole_trace}
+use Rattle.recode.specs.Job.{input_text, log_of, lost_log_lines, output_of, target_of, trace, whole_trace}
 use Rattle.recode.specs.Policy.{reference_form, up_to_loss, written_under}
-use Rattle.recode.specs.TaggedByte.{TaggedByte, log_bytes, output_bytes, tagged, tagged_item}
+use Rattle.recode.specs.TaggedByte.{IsPrefix, TaggedByte, log_bytes, output_bytes, tagged, tagged_item}
 use Rattle.recode.specs.WrittenItems.{IsSpared, StopsAtLoss, lost_line_count}
+use Rattle.recode.specs.calls.ConverterView.{converter_view}
 use Rattle.recode.specs.declared.converter.ConverterResult.{ConverterResult}
 use Rattle.recode.specs.declared.converter.ConverterResult.TheVariants.{Found, InputEmpty, OutputFull}
 use Rattle.recode.specs.declared.job.Job.{Job}
@@ -23,9 +24,9 @@ use Rattle.recode.specs.laws.Items.{log_bytes-append, log_bytes-bytes, log_bytes
 use Rattle.jillapun_c.proofs.ConverterTurnLemmas.{length_none, owes_split}
 use Rattle.jillapun_c.specs.Coders.{converter_in}
 use Rattle.jillapun_c.specs.ConverterRuns.{Carries, HasConverted, IsFirstPartOf, IsOverWith, JoinsToCalls, IsAtStage, EndsAtLoss, WritesUnder}
-use Rattle.jillapun_c.specs.ConverterTurns.{CanTurn, TurnEnds, MakesTurn, found_log, found_reference, stage_at}
+use Rattle.jillapun_c.specs.ConverterTurns.{CanTurn, PassesLimit, TurnEnds, MakesTurn, found_log, found_reference, stage_at}
 use Rattle.jillapun_c.specs.Conversions.{ConvertsInMemory, IsMadeOf, IsToldReport, IsToldStop}
-use Rattle.jillapun_c.specs.Converters.{ConvertsAll, HandsOut, HoldsNothing, IsNewConverter, TellsStage, TellsStatus, held_losses, listed, view_in}
+use Rattle.jillapun_c.specs.Converters.{ConvertsAll, HandsOut, HoldsNothing, IsNewConverter, TellsStage, TellsStatus, TellsVerdict, held_losses, listed, view_in}
 use Rattle.jillapun_c.specs.Losses.{log_of_losses, loss_bytes}
 use Rattle.jillapun_c.specs.Room.{FillsRoom, IsFilled}
 use Rattle.jillapun_c.specs.declared.coder.Coder.{Coder}

@@ -10,6 +10,7 @@ use Rattle.recode.specs.declared.job.Report.{Report as RunReport}
 use Rattle.jillapun_c.specs.Losses.{log_of_losses}
 use Rattle.jillapun_c.specs.declared.losses.Loss.{Loss}
 use Rattle.jillapun_c.specs.declared.report.Report.{Report}
+use Rattle.jillapun_c.specs.declared.report.TheConstants.Report.{NONE}
 use Rattle.jillapun_c.specs.declared.status.TheConstants.{LOSSY, NO_MEMORY, OK, ROOM, STOPPED, TOO_LONG}
 
 -- some bytes and some records are what a job makes of an input: all, or, if its policy stops, all up to there
