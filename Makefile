@@ -69,7 +69,7 @@ definitions:
 status:
 	@python3 tools/status.py
 
-# The program on standard input, from FROM to TO, compiled in under a minute and run without a proof, also in a fresh clone.
+# The program on standard input, from FROM to TO, compiled in about a minute and run without a proof, also in a fresh clone.
 .PHONY: try
 try:
 	@cd crates/recode_cli && { rt try -- --from "$(FROM)" --to "$(TO)" --indexes "$(CURDIR)/indexes"; status=$$?; \
