@@ -1,0 +1,37 @@
+-- Worked rows of `specs/Call.antt`.
+use Rattle.std.proofs.Common.{◌≡◌, ℕ, [], ◌∷◌, Ok, Err, false, refl, arith}
+use Rattle.std.specs.List.{concat}
+use Rattle.recode_log.specs.Call.{IsFailedWrite, call_of, flush_of, passed_by}
+use Rattle.recode_log.specs.Call.{Failed, Flush, Passed}
+
+-- a read that gives two bytes, into a room of four
+call_of-some : call_of {E = ℕ} (Ok 2) (0x41 ∷ 0x42 ∷ 0 ∷ 0 ∷ []) ≡ Passed 4 (0x41 ∷ 0x42 ∷ [])
+call_of-some = refl
+
+-- the end: a read that gives none
+call_of-end : call_of {E = ℕ} (Ok 0) (0 ∷ 0 ∷ []) ≡ Passed 2 []
+call_of-end = refl
+
+-- a write of three bytes that fails
+call_of-failed : call_of {E = ℕ} (Err 5) (1 ∷ 2 ∷ 3 ∷ []) ≡ Failed 3
+call_of-failed = refl
+
+-- a flush that goes well
+flush_of-done : flush_of {T = ℕ} {E = ℕ} (Ok 0) ≡ Flush false
+flush_of-done = refl
+
+-- of a read, one that failed, a flush and the end, the reads that did not fail gave these bytes
+passed_by-reads : passed_by (Passed 4 (0x41 ∷ 0x42 ∷ []) ∷ Failed 4 ∷ Flush false ∷ Passed 4 [] ∷ []) ≡ (0x41 ∷ 0x42 ∷ []) ∷ [] ∷ []
+passed_by-reads = refl
+
+-- two writes took these bytes in all
+passed_by-writes : concat (passed_by (Passed 2 (1 ∷ 2 ∷ []) ∷ Passed 3 (3 ∷ []) ∷ [])) ≡ 1 ∷ 2 ∷ 3 ∷ []
+passed_by-writes = refl
+
+-- a write of three bytes that takes none has failed
+failed_write-none_taken : IsFailedWrite (Passed 3 [])
+failed_write-none_taken = (omega arith, refl)
+
+-- one of no bytes has not
+failed_write-nothing_to_take : IsFailedWrite (Passed 0 []) → ⊥
+failed_write-nothing_to_take h = omega (arith, h.0)
