@@ -1,3 +1,4 @@
 -- Worked rows: what the definitions of `specs/` come to on inputs that a reader can work by hand.
 pub mod Call
 pub mod Line
+pub mod Told
