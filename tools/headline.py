@@ -71,10 +71,12 @@ HOW_TO_READ = """
 - `record R .. where` names each of its parts, and holds if all of them do. **A part that is data means *there is***: that `Completes` has a part `input : List ℕ` says that there is an input of which its other parts are true. A `data` lists what a value can be. `abbrev` and `unfoldable` begin definitions alike. The first equation that fits counts. `≡` is equality, `∷` puts one element before a list, `++` joins two, `p.0` and `p.1` are the parts of a pair.
 - A *piece* is a sequence of bytes that is decoded as one: well-formed, with the scalar values of its characters, or malformed. A *trace* is what a conversion writes, as items in their one order: bytes of the output, and lines of the log.
 - A byte is a number below 256, a character its scalar value. In comments, bytes of encodings and code points (U+) are hexadecimal, other numbers decimal. `slice_index list k` is the element at k, and 0 past the end; `slice_range list from to` has those from `from` to below `to`; `digits 16 true n` are the hexadecimal digits of n in capitals, with no zero before them.
-- The premises: `IsValidJob` says that the indexes of the two encodings were accepted, and that the limit is at most 2^48 (`Job::is_valid` tests it); `AreEnough` that the input buffer has room for a byte and the others for a character, and that the text in between and what is read back have one form (`Buffers::is_enough`); and fewer than 2^64 - 1 calls have failed before (`Counted::failures`).
-- The bound on the work, `least` and `most` of the report, is one on a number that the report says. That it is the number of calls of decoders and encoders is read off the code, where each call counts itself.
+- The premises: `IsValidJob` says that the indexes of the two encodings were accepted, and that the limit is at most 2^48 (`Job::is_valid` tests it); `AreEnough` that the input buffer has room for a byte and the others for a character, and that the text in between and what is read back have one form (`Buffers::is_enough`); and `HaveFailedAtMost` that at most 2^64 - 2 calls of each device have failed before (`Counted::failures`).
 - What the clauses do not say: that a reader who takes byte order marks finds none at the start of the output.
 """
+
+WORK = ", on the work: the number of calls of decoders and encoders that a report has is bounded from below and from above. That this number is the number of calls is read off the code, where each call counts itself"
+
 
 def clause(crate, function, name, kind="ensures"):
     """A clause of a public function, or all of them of one kind, as lines of its source, with its place."""
@@ -180,11 +182,11 @@ def page():
     lines += table({d: hop for d, hop in all_seen.items() if not shown(d)})
     lines += ["## Theorems beside it", ""]
     before = dict(all_seen)
-    for name in LAWS:
-        text, place = clause("recode", "laws::" + name, None)
+    for name, law, about in [("run", "work", WORK)] + [("laws::" + law, None, "") for law in LAWS]:
+        text, place = clause("recode", name, law)
         near, _, _ = closure(words_of(text), found, imports)
         more = {d: hop for d, hop in near.items() if d not in before}
-        lines += ["`laws::%s` ([%s](../%s)):" % (name, place, place.replace(":", "#L")), ""] + ["    " + line for line in text] + [""]
+        lines += ["`%s` ([%s](../%s))%s:" % (name, place, place.replace(":", "#L"), about), ""] + ["    " + line for line in text] + [""]
         if more:
             lines += ["| Word | What it is | Place |", "|---|---|---|"]
             lines += ["| `%s` | %s | %s |" % (d.name, d.meaning(), d.link("../")) for d in sorted(more, key=lambda d: (d.path, d.line))] + [""]

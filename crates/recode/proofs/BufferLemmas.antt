@@ -51,10 +51,10 @@ kept_enough b c e k = record {
 }
 
 pub same_start : {W L : Type 0} (a : Writers W L) → AreReady a → AreTheSame a a
-same_start a ready = record { output = refl; buffer = refl; room = refl; within = ready.within; line = ready.line; log = refl; policy = refl }
+same_start a ready = record { output = refl; buffer = refl; room = refl; within = ready.within; line = ready.line; log = refl }
 
 pub same_on : {W L : Type 0} {a b c : Writers W L} → AreTheSame a b → AreTheSame b c → AreTheSame a c
-same_on p q = record { output = q.output ∙ p.output; buffer = q.buffer ∙ p.buffer; room = q.room ∙ p.room; within = q.within; line = q.line; log = q.log ∙ p.log; policy = q.policy ∙ p.policy }
+same_on p q = record { output = q.output ∙ p.output; buffer = q.buffer ∙ p.buffer; room = q.room ∙ p.room; within = q.within; line = q.line; log = q.log ∙ p.log }
 
 -- writers for which nothing is held
 pub view_none : {W L : Type 0} (a : Writers W L) → HoldNothing a → writers_view a ≡ holding_none (written_by a)

@@ -11,13 +11,14 @@ use Rattle.recode.specs.TaggedByte.{TaggedByte, Wrote, IsPrefix, tagged, output_
 use Rattle.recode.specs.WrittenItems.{IsLeft, IsSpared, bad_line_count, lost_line_count}
 use Rattle.recode.specs.State.{WillBeFaithful, to_write}
 use Rattle.recode.specs.calls.TraceToWrite.{AreSound}
-use Rattle.recode.specs.Work.{TakesAtLeast, TakesCalls}
+use Rattle.recode.specs.Work.{ReportsFewCalls}
 use Rattle.recode.specs.Job.{IsValidJob, Faithful, input_pieces, output_pieces, input_text, target_of, log_of, output_of, trace, whole_trace}
 use Rattle.recode.specs.Latency.{WroteDecided}
 use Rattle.recode.specs.Policy.{reference_form}
-use Rattle.recode.specs.Session.{View, IsNewSession, Tells, IsReport, Completes, Fails}
+use Rattle.recode.specs.Session.{View, IsNewSession, Tells, Completes, Fails}
 use Rattle.recode.specs.Step.{Finishes}
 use Rattle.recode.specs.Devices.{Devices}
+use Rattle.recode.specs.declared.counts.Counts.{Counts}
 use Rattle.recode.specs.declared.job.Fault.{Fault}
 use Rattle.recode.specs.declared.job.Job.{Job}
 use Rattle.recode.specs.declared.job.Policy.{Policy}
@@ -45,55 +46,62 @@ faithful_where_kept j x v keeps h k =
 pub quiet_where_faithful : (j : Job) (x : List ℕ) → IsValidJob j → Faithful j x → log_of j x ≡ []
 quiet_where_faithful j x v f = quiet_where_kept j x f.source (mapped_where_faithful j x v f)
 
--- The report.
-is_report : (j : Job) (x : List ℕ) (v w : View) (p : Report) → IsNewSession v j → Tells w p → v.state.source x ≡ w.state.source [] → w.state.counts.read ≡ v.state.counts.read + length x
-    → w.state.counts.bad ≡ v.state.counts.bad + bad_line_count (whole_trace j x) → w.state.counts.lost ≡ v.state.counts.lost + lost_line_count (whole_trace j x) → WillBeFaithful v.state x ↔ IsTrue w.state.verdict.faithful
-    → IsValidJob j → length x ≤ j.limit → TakesCalls (3 * length x + 3) v.state.counts w.state.counts (to_write v.state x) []
-    → TakesAtLeast (3 * (w.state.counts.bad - v.state.counts.bad) + 2 * min 1 (length x) + 2) v.state.counts w.state.counts → AreSound w.state.decoder.pending w.state.counts → IsReport j x p
-is_report j x v w p b t same read_is malformed_is lost_is told valid within calls least sound =
-    let e = target_of j in
-    let bads : p.bad ≡ malformed_count (input_pieces j x) = omega (arith, t.bad, malformed_is, b.bad, bad_line_count-trace (reference_form j.policy) e Ascii 0 0 (input_pieces j x)) in
-    let losts : p.lost ≡ lost_count e (input_text j x) = omega (arith, t.lost, lost_is, b.lost, lost_line_count-trace (reference_form j.policy) e Ascii 0 0 (input_pieces j x)) in
-    let read : p.read ≡ length x = omega (arith, t.read, read_is, b.read) in
-    let most : p.calls ≤ 37 * p.read + 9 = omega (arith, t.calls, t.read, calls, b.calls, b.index, b.read, b.bad, b.lost, read_is, malformed_is, lost_is, sound.index, sound.bad, sound.lost, ap length (b.owes_trace x), items_split (whole_trace j x), whole_within j x valid) in
+whole_items : (before after : Devices) (j : Job) (v u : View) → IsNewSession v j → (f : Finishes before after j.limit v.state u.state) → f.pays.written_items ≡ whole_trace j f.chunk
+whole_items before after j v u b f = sym (append-nil f.pays.written_items) ∙ sym f.pays.equals ∙ b.owes_trace f.chunk
+
+-- The lines of a whole conversion are as many as its malformed sequences and its lost characters.
+record AreLines (j : Job) (x : List ℕ) (before after : Counts) : Type 0 where
+  bad : after.bad ≡ before.bad + malformed_count (input_pieces j x)
+  lost : after.lost ≡ before.lost + lost_count (target_of j) (input_text j x)
+
+lines : (before after : Devices) (j : Job) (v u : View) → IsNewSession v j → (f : Finishes before after j.limit v.state u.state) → AreLines j f.chunk v.state.counts u.state.counts
+lines before after j v u b f =
+    let items = whole_items before after j v u b f in
+    let p = reference_form j.policy in
     record {
-      read = read;
-      bad = bads;
-      lost = losts;
-      least = omega (arith, read, t.calls, t.bad, t.lost, b.calls, b.bad, b.lost, least (omega (arith, most, t.calls, read, within, valid.limit)));
-      most = most;
-      encoding = t.encoding ∙ sym same ∙ b.source x;
-      faithful = (λ h. (b.verdict x).0 (told.1 (sym t.verdict ∙ h)), λ h. t.verdict ∙ told.0 ((b.verdict x).1 h));
+      bad = f.pays.counted.bad ∙ ap (λ n. v.state.counts.bad + n) (ap bad_line_count items ∙ bad_line_count-trace p (target_of j) Ascii 0 0 (input_pieces j f.chunk));
+      lost = f.pays.counted.lost ∙ ap (λ n. v.state.counts.lost + n) (ap lost_line_count items ∙ lost_line_count-trace p (target_of j) Ascii 0 0 (input_pieces j f.chunk));
     }
 
 pub completes : (before after : Devices) (j : Job) (v u : View) (p : Report) → IsValidJob j → IsNewSession v j → Finishes before after j.limit v.state u.state → Tells u p → Completes before.reads after.reads before.written after.written j p
 completes before after j v u p valid b f t =
     let x : List ℕ = f.chunk in
-    let written_items : f.pays.written_items ≡ whole_trace j x = sym (append-nil f.pays.written_items) ∙ sym f.pays.equals ∙ b.owes_trace x in
-    let spared : IsSpared j.policy (whole_trace j x) = subst (IsSpared j.policy) written_items (subst (λ (q : Policy). IsSpared q f.pays.written_items) b.policy f.pays.spared) in
-    let wrote : Wrote before.written after.written (tagged (trace j x)) = subst (λ t. Wrote before.written after.written (tagged t)) (written_items ∙ sym (trace_where_spared j x spared)) f.pays.wrote in
-    let within : length x ≤ j.limit = omega (arith, f.within, f.counted, b.read) in
-    let report = is_report j x v u p b t f.source f.counted
-    (f.pays.counted.bad ∙ ap (λ t. v.state.counts.bad + bad_line_count t) written_items) (f.pays.counted.lost ∙ ap (λ t. v.state.counts.lost + lost_line_count t) written_items) f.verdict valid within f.calls f.least f.sound in
+    let items = whole_items before after j v u b f in
+    let counted = lines before after j v u b f in
+    let spared : IsSpared j.policy (whole_trace j x) = subst (IsSpared j.policy) items (subst (λ (q : Policy). IsSpared q f.pays.written_items) b.policy f.pays.spared) in
+    let wrote : Wrote before.written after.written (tagged (trace j x)) = subst (λ t. Wrote before.written after.written (tagged t)) (items ∙ sym (trace_where_spared j x spared)) f.pays.wrote in
     record {
       input = x;
       given = f.given;
       converted = record {
         whole = record {
-          within = within;
+          within = omega (arith, f.within, f.counted, b.read);
           unstopped = λ stops. sym (lost_line_count-trace (reference_form j.policy) (target_of j) Ascii 0 0 (input_pieces j x)) ∙ spared stops;
           output = wrote.output;
           logged = wrote.lined;
         };
-        report = report;
+        report = record {
+          read = omega (arith, t.read, f.counted, b.read);
+          bad = omega (arith, t.bad, counted.bad, b.bad);
+          lost = omega (arith, t.lost, counted.lost, b.lost);
+          encoding = t.encoding ∙ sym f.source ∙ b.source x;
+          faithful = (λ h. (b.verdict x).0 (f.verdict.1 (sym t.verdict ∙ h)), λ h. t.verdict ∙ f.verdict.0 ((b.verdict x).1 h));
+        };
       };
     }
 
-prefix_outputs : (t u : List TaggedByte) → IsPrefix t u → IsPrefix (output_bytes t) (output_bytes u)
-prefix_outputs t u f = (output_bytes f.0, ap output_bytes f.1 ∙ output_bytes-append t f.0)
-
-prefix_lines : (t u : List TaggedByte) → IsPrefix t u → IsPrefix (log_bytes t) (log_bytes u)
-prefix_lines t u f = (log_bytes f.0, ap log_bytes f.1 ∙ log_bytes-append t f.0)
+-- The bounds on the calls that are reported.
+pub few_calls : (before after : Devices) (j : Job) (v u : View) (p : Report) → IsValidJob j → IsNewSession v j → Finishes before after j.limit v.state u.state → Tells u p → ReportsFewCalls p
+few_calls before after j v u p valid b f t =
+    let x : List ℕ = f.chunk in
+    let within : length x ≤ j.limit = omega (arith, f.within, f.counted, b.read) in
+    let read : p.read ≡ length x = omega (arith, t.read, f.counted, b.read) in
+    let items = whole_items before after j v u b f in
+    let bad = f.pays.counted.bad ∙ ap (λ t. v.state.counts.bad + bad_line_count t) items in
+    let lost = f.pays.counted.lost ∙ ap (λ t. v.state.counts.lost + lost_line_count t) items in
+    let most : p.calls ≤ 37 * p.read + 9 =
+    omega (arith, t.calls, t.read, f.calls, b.calls, b.index, b.read, b.bad, b.lost, f.counted, bad, lost, f.sound.index, f.sound.bad, f.sound.lost, ap length (b.owes_trace x), items_split (whole_trace j x), whole_within j x valid) in
+    record { least = omega (arith, read, t.calls, t.bad, t.lost, b.calls, b.bad, b.lost, f.least (omega (arith, most, t.calls, read, within, valid.limit))); most = most }
 
 pub fails : (before after : Devices) (j : Job) (v : View) (f : Fault) → IsNewSession v j → HasStopped before after j.limit v.state f → Fails before after j f
 fails before after j v f b s =
@@ -106,8 +114,6 @@ fails before after j v f b s =
       taken = s.pays.taken;
       wrote = s.pays.wrote;
       prefix = λ r h. (left r h).prefix;
-      output = λ r h. prefix_outputs _ _ (left r h).prefix;
-      logged = λ r h. prefix_lines _ _ (left r h).prefix;
       stopped = λ r h. (left r h).stopped;
       latest = λ h.
           let k = s.latest h in

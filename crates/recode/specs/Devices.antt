@@ -1,5 +1,5 @@
 -- What passed through the three devices of a conversion, and how many of their calls have failed.
-use Rattle.std.specs.Prelude.{◌≡◌, ℕ, ◌+◌, List, [], ◌∷◌, ◌++◌, Result}
+use Rattle.std.specs.Prelude.{◌≡◌, ℕ, ◌+◌, ◌≤◌, List, [], ◌∷◌, ◌++◌, Result}
 use Rattle.std.specs.List.{concat}
 use Rattle.recode_log.specs.Call.{passed_by}
 use Rattle.recode_log.specs.Counted.{failures_of, history_of, passed_of}
@@ -39,6 +39,12 @@ pub record Failures : Type 0 where
   pub reader : ℕ
   pub writer : ℕ
   pub log : ℕ
+
+-- at most so many calls of each have failed
+pub record HaveFailedAtMost (most : ℕ) (f : Failures) : Type 0 where
+  pub reader : f.reader ≤ most
+  pub writer : f.writer ≤ most
+  pub log : f.log ≤ most
 
 -- what each call of the reader gave that did not fail, what was written, and the failed calls
 pub record Devices : Type 0 where

@@ -7,9 +7,8 @@ use Rattle.recode.specs.Job.{trace, whole_trace, target_of, output_of, log_of, s
 use Rattle.recode.specs.Latency.{WroteDecided}
 use Rattle.recode.specs.State.{State, WillBeFaithful, to_write}
 use Rattle.recode.specs.Devices.{Devices, GaveToEnd, Written}
-use Rattle.recode.specs.TaggedByte.{TaggedByte, Wrote, IsPrefix, tagged, output_bytes, log_bytes}
+use Rattle.recode.specs.TaggedByte.{TaggedByte, Wrote, IsPrefix, tagged}
 use Rattle.recode.specs.Step.{WasRead}
-use Rattle.recode.specs.Work.{fewest_calls, most_calls}
 use Rattle.recode.specs.WrittenItems.{IsStop}
 use Rattle.recode.specs.declared.job.Fault.{Fault}
 use Rattle.recode.specs.declared.job.Fault.TheVariants.{Read, TooLong}
@@ -79,8 +78,6 @@ pub record IsReport (j : Job) (x : List ℕ) (p : Report) : Type 0 where
   pub read : p.read ≡ length x
   pub bad : p.bad ≡ malformed_count (input_pieces j x)
   pub lost : p.lost ≡ lost_count (target_of j) (input_text j x)
-  pub least : fewest_calls p.read p.bad p.lost ≤ p.calls
-  pub most : p.calls ≤ most_calls p.read
   pub encoding : p.encoding ≡ source_in j x
   pub faithful : IsTrue p.faithful ↔ Faithful j x
 
@@ -114,7 +111,5 @@ pub record Fails (before after : Devices) (j : Job) (f : Fault) : Type 0 where
   pub taken : List TaggedByte
   pub wrote : Wrote before.written after.written taken
   pub prefix : (r : List ℕ) → (read.ended ≡ true → r ≡ []) → IsPrefix taken (tagged (trace j (read.input ++ r)))
-  pub output : (r : List ℕ) → (read.ended ≡ true → r ≡ []) → IsPrefix (output_bytes taken) (output_of j (read.input ++ r))
-  pub logged : (r : List ℕ) → (read.ended ≡ true → r ≡ []) → IsPrefix (log_bytes taken) (log_of j (read.input ++ r))
   pub stopped : (r : List ℕ) → (read.ended ≡ true → r ≡ []) → IsStop j.policy f taken (trace j (read.input ++ r))
   pub latest : (f ≡ Read) ⊎ (f ≡ TooLong) → (ps : List Piece) × WroteDecided before.written after.written j read.input ps

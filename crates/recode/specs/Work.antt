@@ -2,6 +2,7 @@
 use Rattle.std.specs.Prelude.{ℕ, ◌+◌, ◌*◌, ◌^◌, ◌-◌, ◌<◌, ◌≤◌, Bool, true, false, List, length, min}
 use Rattle.encoding_mem.specs.Items.{Item}
 use Rattle.recode.specs.declared.counts.Counts.{Counts}
+use Rattle.recode.specs.declared.job.Report.{Report}
 
 -- As many calls were counted, at least and at most. The count stops at the greatest number.
 pub record IsCounted (least most calls calls' : ℕ) : Type 0 where
@@ -32,3 +33,8 @@ fewest_calls read bad lost = 3 * bad + lost + 2 * min 1 read + 2
 -- the greatest number of calls that is reported: 37 for each byte that was read, and 9
 abbrev pub most_calls : (read : ℕ) → ℕ
 most_calls read = 37 * read + 9
+
+-- the number of calls that a report has is between the two
+pub record ReportsFewCalls (p : Report) : Type 0 where
+  pub least : fewest_calls p.read p.bad p.lost ≤ p.calls
+  pub most : p.calls ≤ most_calls p.read

@@ -5,7 +5,7 @@ ghost use Rattle.std.specs.Io.KnownBytes.{Appends};
 ghost use Rattle.recode_log.specs.Counted.{IsTold, inner_of, failures_of, history_of, passed_of};
 ghost use Rattle.recode.specs.Job.{IsValidJob};
 ghost use Rattle.recode.specs.calls.Buffers.{AreEnough, KeepSizes};
-ghost use Rattle.recode.specs.Devices.{devices_in, KeepsWritten, written_in};
+ghost use Rattle.recode.specs.Devices.{HaveFailedAtMost, KeepsWritten, devices_in, written_in};
 ghost use Rattle.recode.specs.Conversion.{Breaks, Converts, EndsInFlush, IsFlushCause, RisesBy};
 ghost use Rattle.recode.specs.Conversion.{message_of};
 ghost use Rattle.recode.specs.RunsTold.{BreaksTold, ConvertsTold};
@@ -118,9 +118,8 @@ pub fn convert<R: Read, W: Write, L: Write>(
 ) -> u8
     requires job { IsValidJob job }
     requires buffers { AreEnough buffers.old }
-    requires reader { failures_of reader.old ≤ 2 ^ 64 - 5 }
-    requires writer { failures_of writer.old ≤ 2 ^ 64 - 5 }
-    requires log { failures_of log.old ≤ 2 ^ 64 - 5 }
+    requires counts { HaveFailedAtMost (2 ^ 64 - 5)
+        (devices_in reader.old writer.old log.old).failures }
 
     ensures buffers { KeepSizes buffers.old buffers.new }
     ensures converts { result ≢ 4 → Converts (devices_in reader.old writer.old log.old)

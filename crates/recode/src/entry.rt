@@ -3,6 +3,7 @@
 ghost use Rattle.std.specs.Prelude.{◌≡◌, ◌⊎◌, ◌≤◌, ◌<◌, ◌^◌, ◌-◌, length, map, OnOk};
 ghost use Rattle.encoding_front.specs.Encodings.{IsReady, output_encoding_of};
 ghost use Rattle.recode_log.specs.Counted.{failures_of};
+ghost use Rattle.recode.specs.Devices.{HaveFailedAtMost, devices_in};
 ghost use Rattle.recode.specs.Job.{IsValidJob};
 ghost use Rattle.recode.specs.Program.{AddsFromFiles, AnswersProgram, AnswersWords};
 ghost use Rattle.recode.specs.Program.{IsConversionOn, ports, mark_of_word, policy_of_word};
@@ -119,9 +120,8 @@ fn convert_in_buffers<R: Read, W: Write, L: Write>(
     form: PivotWord,
 ) -> u8
     requires job { IsValidJob job }
-    requires reader { failures_of reader.old ≤ 2 ^ 64 - 5 }
-    requires writer { failures_of writer.old ≤ 2 ^ 64 - 5 }
-    requires log { failures_of log.old ≤ 2 ^ 64 - 5 }
+    requires counts { HaveFailedAtMost (2 ^ 64 - 5)
+        (devices_in reader.old writer.old log.old).failures }
     ensures { IsConversionOn R.remaining W.contents L.contents
         (ports reader.old writer.old log.old) (ports reader.new writer.new log.new) job.entry
         result }
@@ -168,9 +168,8 @@ fn run_words<S: IndexSource, R: Read, W: Write, L: Write>(
     log: &mut Counted<L>,
 ) -> u8
     requires limit { words.limit ≤ 2 ^ 48 }
-    requires reader { failures_of reader.old ≤ 2 ^ 64 - 5 }
-    requires writer { failures_of writer.old ≤ 2 ^ 64 - 5 }
-    requires log { failures_of log.old ≤ 2 ^ 64 - 5 }
+    requires counts { HaveFailedAtMost (2 ^ 64 - 5)
+        (devices_in reader.old writer.old log.old).failures }
     ensures { AnswersWords (S.holds source.old) R.remaining W.contents L.contents
         (ports reader.old writer.old log.old) (ports reader.new writer.new log.new) words.entry
         result }
@@ -228,9 +227,8 @@ pub fn program<S: IndexSource, R: Read, W: Write, L: Write>(
     log: &mut Counted<L>,
 ) -> u8
     requires words { 0 < length words.now }
-    requires reader { failures_of reader.old ≤ 2 ^ 64 - 5 }
-    requires writer { failures_of writer.old ≤ 2 ^ 64 - 5 }
-    requires log { failures_of log.old ≤ 2 ^ 64 - 5 }
+    requires counts { HaveFailedAtMost (2 ^ 64 - 5)
+        (devices_in reader.old writer.old log.old).failures }
     ensures { AnswersProgram (S.holds source.old) R.remaining W.contents L.contents
         (ports reader.old writer.old log.old) (ports reader.new writer.new log.new)
         (map (λ s. s.now) words.now) result }

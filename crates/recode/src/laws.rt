@@ -46,6 +46,7 @@ ghost use Rattle.recode.specs.Step.{WrotePrefix};
 ghost use Rattle.recode.specs.TaggedByte.{IsPrefix, TaggedByte};
 ghost use Rattle.recode.specs.Told.{TellWhatPassed, Told};
 ghost use Rattle.recode_log.specs.Told.{TellsReads, TellsTaken};
+ghost use Rattle.recode.specs.Work.{ReportsFewCalls};
 ghost use Rattle.recode.specs.WrittenItems.{StopsAtLoss, bad_line_count, lost_line_count};
 ghost use Rattle.recode.specs.declared.job.Fault.{Fault};
 ghost use Rattle.recode.specs.declared.job.Job.{Job};
@@ -319,7 +320,7 @@ pub fn steps_add_up()
 /// A session stepped by hand keeps the promise of `run`: steps that went on, and the one that ended
 /// them, are a run. At the start there are none, and each that returns `More` is added. With one
 /// that returns `Done`, and with the session's report, they are a run that came to its end; with
-/// one that returns a fault, a run that it ended.
+/// one that returns a fault, a run that it ended. The report says as few calls as one of `run`.
 pub fn steps_are_a_run()
     ensures begins { (t : Devices) (j : Job) (v : View) → IsNewSession v j
         → HasRun t t j.limit v.state v.state }
@@ -328,7 +329,7 @@ pub fn steps_are_a_run()
     ensures completes { (t t1 t2 : Devices) (j : Job) (v w : View) (s : State) (p : Report)
         → IsValidJob j → IsNewSession v j → HasRun t t1 j.limit v.state s
         → Finishes t1 t2 j.limit s w.state → Tells w p
-        → Completes t.reads t2.reads t.written t2.written j p }
+        → Completes t.reads t2.reads t.written t2.written j p × ReportsFewCalls p }
     ensures fails { (t t1 t2 : Devices) (j : Job) (v : View) (s : State) (f : Fault)
         → IsNewSession v j → HasRun t t1 j.limit v.state s
         → Stops t1 t2 j.limit s f → Fails t t2 j f }

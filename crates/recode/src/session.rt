@@ -15,7 +15,9 @@ ghost use Rattle.recode.specs.Fault.{EndsAtFault};
 ghost use Rattle.recode.specs.Step.{Finishes, StepCalls, Stops, StepsOn};
 ghost use Rattle.recode.specs.RunsTold.{CompletesTold, FailsTold};
 ghost use Rattle.recode.specs.Told.{TellWhatPassed, told_in};
-ghost use Rattle.recode.specs.Devices.{CountsFault, devices_in, reads_of, written_in};
+ghost use Rattle.recode.specs.Devices.{CountsFault, HaveFailedAtMost, devices_in, reads_of};
+ghost use Rattle.recode.specs.Devices.{written_in};
+ghost use Rattle.recode.specs.Work.{ReportsFewCalls};
 
 use crate::chunk::write_chunk;
 use crate::engine::Engine;
@@ -120,7 +122,7 @@ impl<'t> Session<'t> {
     ///   session is over.
     ///
     /// Conditions: the session is not over (`is_over`), the buffers are enough
-    /// (`Buffers::is_enough`), and fewer than 2^64 - 1 calls of each device have failed
+    /// (`Buffers::is_enough`), and at most 2^64 - 2 calls of each device have failed
     /// (`Counted::failures`). Nothing stays in the buffers: each step may be lent others.
     pub fn step<R: Read, W: Write, L: Write>(
         &mut self,
@@ -131,9 +133,8 @@ impl<'t> Session<'t> {
     ) -> Result<Progress, Fault>
         requires over { ¬ (IsOver (view_of self.old).phase) }
         requires buffers { AreEnough buffers.old }
-        requires reader { failures_of reader.old < 2 ^ 64 - 1 }
-        requires writer { failures_of writer.old < 2 ^ 64 - 1 }
-        requires log { failures_of log.old < 2 ^ 64 - 1 }
+        requires counts { HaveFailedAtMost (2 ^ 64 - 2)
+            (devices_in reader.old writer.old log.old).failures }
 
         ensures more { result ≡ Ok Progress.More → StepsOn
             (devices_in reader.old writer.old log.old) (devices_in reader.new writer.new log.new)
@@ -169,12 +170,12 @@ impl<'t> Session<'t> {
             held: 0,
             output: writer,
             log,
-            policy: self.job.policy,
         };
         // Lent as `&mut`, since the borrow checker refuses `&` beside the other buffers.
         write_chunk(
             &mut self.engine,
             &mut writers,
+            self.job.policy,
             &mut buffers.input[..read],
             &mut buffers.pivot,
             &mut buffers.check,
@@ -206,7 +207,7 @@ impl<'t> Session<'t> {
 ///   before their end. At `Unmappable` it is all that comes before the character, and its line.
 ///
 /// Conditions: the job is valid (`Job::is_valid`), the buffers are enough (`Buffers::is_enough`),
-/// and fewer than 2^64 - 1 calls of each device have failed (`Counted::failures`).
+/// and at most 2^64 - 2 calls of each device have failed (`Counted::failures`).
 pub fn run<R: Read, W: Write, L: Write>(
     reader: &mut Counted<R>,
     writer: &mut Counted<W>,
@@ -216,14 +217,14 @@ pub fn run<R: Read, W: Write, L: Write>(
 ) -> Result<Report, Fault>
     requires job { IsValidJob job }
     requires buffers { AreEnough buffers.old }
-    requires reader { failures_of reader.old < 2 ^ 64 - 1 }
-    requires writer { failures_of writer.old < 2 ^ 64 - 1 }
-    requires log { failures_of log.old < 2 ^ 64 - 1 }
+    requires counts { HaveFailedAtMost (2 ^ 64 - 2)
+        (devices_in reader.old writer.old log.old).failures }
 
     ensures completes { IfOk result (λ p. Completes (reads_of reader.old) (reads_of reader.new)
         (written_in writer.old log.old) (written_in writer.new log.new) job.entry p) }
     ensures fails { IfErr result (λ f. Fails (devices_in reader.old writer.old log.old)
         (devices_in reader.new writer.new log.new) job.entry f) }
+    ensures work { IfOk result ReportsFewCalls }
     ensures completes_told { IfOk result (λ p. CompletesTold
         (devices_in reader.old writer.old log.old) (devices_in reader.new writer.new log.new)
         (told_in R.remaining W.contents L.contents reader.old writer.old log.old)

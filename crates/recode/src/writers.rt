@@ -4,7 +4,7 @@ ghost use Rattle.std.specs.Prelude.{◌≡◌, ◌≤◌, take};
 ghost use Rattle.recode.specs.calls.Held.{held_line_bytes};
 ghost use Rattle.recode.specs.calls.Writers.{HasValidLine};
 
-use crate::job::{Fault, Policy};
+use crate::job::Fault;
 use encoding_front::{Reference, write_reference};
 use encoding_mem::encode::put_all;
 use recode_log::counted::Counted;
@@ -19,8 +19,7 @@ pub struct MalformedLine {
     pub length: u8,
 }
 
-/// Where a conversion writes: its output, and the log of what is lost; and what it writes for a
-/// character without bytes.
+/// Where a conversion writes: its output, and the log of what is lost.
 ///
 /// What is to be written is held first: the line of a malformed sequence, and after it bytes of
 /// the output, at the start of the buffer. It is delivered before the next line, so that each line
@@ -39,7 +38,6 @@ pub struct Writers<'w, W, L> {
     pub held: usize,
     pub output: &'w mut Counted<W>,
     pub log: &'w mut Counted<L>,
-    pub policy: Policy,
 }
 
 impl<'w, W: Write, L: Write> Writers<'w, W, L> {
@@ -50,13 +48,6 @@ impl<'w, W: Write, L: Write> Writers<'w, W, L> {
     ghost use Rattle.recode_log.specs.Line.{IsValid};
     ghost use Rattle.recode.specs.calls.Held.{item_of, log_line_of};
     ghost use Rattle.recode.specs.calls.Writers.{AreReady, HandsOn, HoldNothing};
-    ghost use Rattle.recode.specs.declared.converter.ConverterResult.TheVariants.{Found};
-    ghost use Rattle.std.specs.Prelude.{◌^◌};
-    ghost use Rattle.recode_log.specs.declared.line.LogLine.TheVariants.{Lost};
-    ghost use Rattle.recode.specs.Policy.{reference_form};
-    ghost use Rattle.recode.specs.WrittenItems.{IsSpared};
-    ghost use Rattle.recode.specs.Converter.{found_items};
-    ghost use Rattle.recode.specs.declared.job.Policy.{Policy};
 
     // Delivers the line that is held, if there is one, all of it or a prefix.
     fn deliver_line(&mut self) -> Result<(), Fault>
@@ -94,35 +85,6 @@ impl<'w, W: Write, L: Write> Writers<'w, W, L> {
             self.deliver_held()
         } else {
             Ok(())
-        }
-    }
-
-    /// Logs a lost character, and holds its reference, or stops.
-    pub fn log_lost(&mut self, index: u64, scalar: char) -> Result<(), Fault>
-        requires valid { index ≤ 2 ^ 48 }
-        requires ready { AreReady self.old }
-        ensures hands { HandsOn W.contents L.contents self.old self.new
-            (found_items (reference_form self.old.policy) (Found (Lost index scalar))) result }
-        ensures spared { OnOk result (¬ (self.old.policy ≡ Policy.Stop)) }
-    {
-        self.log_line(LogLine::Lost { index, scalar })?;
-        let form = self.policy.reference_at(index, scalar)?;
-        self.put_reference(scalar, form)
-    }
-
-    /// Takes what the engine found: the line of a malformed sequence is held, a lost character is
-    /// logged.
-    pub fn take_found(&mut self, line: LogLine) -> Result<(), Fault>
-        requires valid { IsValid line }
-        requires ready { AreReady self.old }
-        ensures hands { HandsOn W.contents L.contents self.old self.new
-            (found_items (reference_form self.old.policy) (Found line)) result }
-        ensures spared { OnOk result (IsSpared self.old.policy
-            (found_items (reference_form self.old.policy) (Found line))) }
-    {
-        match line {
-            LogLine::Bad { offset, length } => self.hold_line(MalformedLine { offset, length }),
-            LogLine::Lost { index, scalar } => self.log_lost(index, scalar),
         }
     }
 

@@ -3,6 +3,7 @@
 ghost use Rattle.std.specs.Prelude.{◌≡◌, ◌≤◌, ◌<◌, ◌^◌, ◌-◌, ℕ, List, Option, map};
 ghost use Rattle.std.specs.Prelude.{IfErr, IfOk, IfSome, length, string_bytes};
 ghost use Rattle.recode_log.specs.Counted.{failures_of};
+ghost use Rattle.recode.specs.Devices.{HaveFailedAtMost, devices_in};
 ghost use Rattle.recode.specs.Program.{ports};
 ghost use Rattle.recode_system.specs.CommandLine.{AnswersSystem, IsWhy, words_with_name};
 
@@ -85,9 +86,8 @@ pub fn answer<C: CommandLine + AllocGlobal, F: Files, R: Read, W: Write, L: Writ
     writer: &mut Counted<W>,
     log: &mut Counted<L>,
 ) -> u8
-    requires reader { failures_of reader.old ≤ 2 ^ 64 - 5 }
-    requires writer { failures_of writer.old ≤ 2 ^ 64 - 5 }
-    requires log { failures_of log.old ≤ 2 ^ 64 - 5 }
+    requires counts { HaveFailedAtMost (2 ^ 64 - 5)
+        (devices_in reader.old writer.old log.old).failures }
     ensures answered { AnswersSystem (C.told line.now) R.remaining W.contents L.contents
         (ports reader.old writer.old log.old) (ports reader.new writer.new log.new) result }
     ensures status { result ≤ 4 }

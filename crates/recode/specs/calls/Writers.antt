@@ -8,6 +8,7 @@ use Rattle.encoding_mem.specs.Items.{Item}
 use Rattle.recode.specs.calls.Held.{LeavesPrefix, Passes, WritersView, log_line_of}
 use Rattle.recode_log.specs.Told.{TellsTaken}
 use Rattle.recode.specs.declared.job.Fault.{Fault}
+use Rattle.recode.specs.declared.job.Policy.{Policy}
 use Rattle.recode.specs.declared.writers.MalformedLine.{MalformedLine}
 use Rattle.recode.specs.declared.writers.Writers.{Writers}
 
@@ -37,8 +38,8 @@ pub record AreReady {W L : Type 0} (writers : Writers W L) : Type 0 where
   pub within : writers.held ≤ length writers.buffer.now
   pub line : HasValidLine writers.line
 
--- The writer, the log and the buffer are those that they were, the bytes that are held are within the buffer and the
--- line is valid, and the policy stays.
+-- The writer, the log and the buffer are those that they were, the bytes that are held are within the buffer, and the
+-- line is valid.
 pub record AreTheSame {W L : Type 0} (before after : Writers W L) : Type 0 where
   pub output : after.output.ghost_name ≡ before.output.ghost_name
   pub buffer : after.buffer.ghost_name ≡ before.buffer.ghost_name
@@ -46,7 +47,6 @@ pub record AreTheSame {W L : Type 0} (before after : Writers W L) : Type 0 where
   pub within : after.held ≤ length after.buffer.now
   pub line : HasValidLine after.line
   pub log : after.log.ghost_name ≡ before.log.ghost_name
-  pub policy : after.policy ≡ before.policy
 
 -- The count of the writer that a fault is of rose by one, and its last call is the one that failed. The other count
 -- stayed. No fault is of another device.
@@ -67,10 +67,18 @@ pub record TellWhatTaken {W L : Type 0} (contents : W → Option (List ℕ)) (lo
   pub output : TellsTaken (passed_of before.output.now) (passed_of after.output.now) (contents (inner_of before.output.now)) (contents (inner_of after.output.now))
   pub log : TellsTaken (passed_of before.log.now) (passed_of after.log.now) (logged (inner_of before.log.now)) (logged (inner_of after.log.now))
 
--- Items were passed. Or a writer failed: its count rose, and what was taken is a prefix of what was held, of these items
--- and of what follows them.
-pub record HandsOn {W L T : Type 0} (contents : W → Option (List ℕ)) (logged : L → Option (List ℕ)) (before after : Writers W L) (items : List Item) (result : Result T Fault) : Type 0 where
+-- Items were passed. Or there was a fault: under each of these policies, what was taken is a prefix of what is written of
+-- what was held, of these items and of what follows them. If it is one of a writer, its count rose.
+pub record HandsOnIf {W L T : Type 0} (contents : W → Option (List ℕ)) (logged : L → Option (List ℕ)) (applies : Policy → Type 0) (before after : Writers W L) (items : List Item) (result : Result T Fault) : Type 0 where
   pub ok : OnOk result (Passes (writers_view before) (writers_view after) items)
-  pub err : IfErr result (λ f. (more : List Item) → LeavesPrefix (writers_view before) (writers_view after) before.policy f (items ++ more))
+  pub err : (p : Policy) → applies p → IfErr result (λ f. (more : List Item) → LeavesPrefix (writers_view before) (writers_view after) p f (items ++ more))
   pub failures : CountsWriterFault before after result
   pub told : TellWhatTaken contents logged before after
+
+-- whatever the policy
+abbrev pub HandsOn : {W L T : Type 0} → (W → Option (List ℕ)) → (L → Option (List ℕ)) → (before after : Writers W L) → List Item → Result T Fault → Type 0
+HandsOn contents logged before after items result = HandsOnIf contents logged (λ p. Unit {0}) before after items result
+
+-- under this policy
+abbrev pub HandsOnUnder : {W L T : Type 0} → Policy → (W → Option (List ℕ)) → (L → Option (List ℕ)) → (before after : Writers W L) → List Item → Result T Fault → Type 0
+HandsOnUnder policy contents logged before after items result = HandsOnIf contents logged (λ p. p ≡ policy) before after items result

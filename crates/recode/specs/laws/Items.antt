@@ -10,7 +10,7 @@ use Rattle.encoding_mem.specs.declared.form.Form.{Form}
 use Rattle.encoding_mem.specs.declared.form.Form.TheVariants.{Mapped, Unmapped}
 use Rattle.encoding_mem.specs.declared.reference.Reference.{Reference}
 use Rattle.recode.specs.Policy.{up_to_loss, written_under}
-use Rattle.recode.specs.TaggedByte.{Line, Out, TaggedByte, log_bytes, output_bytes, tagged, tagged_item}
+use Rattle.recode.specs.TaggedByte.{IsPrefix, Line, Out, TaggedByte, log_bytes, output_bytes, tagged, tagged_item}
 use Rattle.recode.specs.WrittenItems.{AreCounted, IsSpared, bad_line_count, lost_line_count}
 use Rattle.recode.specs.declared.counts.Counts.{Counts}
 use Rattle.recode.specs.declared.job.Policy.{Policy}
@@ -24,6 +24,13 @@ pub log_bytes-append : (s t : List TaggedByte) → log_bytes (s ++ t) ≡ log_by
 log_bytes-append [] t = refl
 log_bytes-append (Out b ∷ s) t = log_bytes-append s t
 log_bytes-append (Line b ∷ s) t = ap (λ l. b ∷ l) (log_bytes-append s t)
+
+-- a prefix of what is written has a prefix of the output's bytes, and one of the log's
+pub output_bytes-prefix : (t u : List TaggedByte) → IsPrefix t u → IsPrefix (output_bytes t) (output_bytes u)
+output_bytes-prefix t u f = (output_bytes f.0, ap output_bytes f.1 ∙ output_bytes-append t f.0)
+
+pub log_bytes-prefix : (t u : List TaggedByte) → IsPrefix t u → IsPrefix (log_bytes t) (log_bytes u)
+log_bytes-prefix t u f = (log_bytes f.0, ap log_bytes f.1 ∙ log_bytes-append t f.0)
 
 pub output_bytes-bytes : (bs : List ℕ) → output_bytes (tagged (map Byte bs)) ≡ bs
 output_bytes-bytes [] = refl

@@ -3,15 +3,13 @@ use Rattle.std.proofs.lemmas.List.{length-map, take_rest}
 use Rattle.encoding_mem.specs.Items.{Byte}
 use Rattle.recode.specs.Converter.{found_items}
 use Rattle.recode.specs.Policy.{reference_form}
-use Rattle.recode.specs.WrittenItems.{IsSpared}
 use Rattle.recode.specs.calls.EngineView.{standing}
-use Rattle.recode.specs.calls.Writers.{HandsOn}
 use Rattle.recode.specs.declared.converter.ConverterResult.TheVariants.{Found}
 use Rattle.recode.specs.declared.engine.Engine.{Engine}
 use Rattle.recode.specs.declared.job.Policy.{Policy}
 use Rattle.recode.specs.laws.Items.{spared_append}
 use Rattle.recode.proofs.BufferLemmas.{lent_on, lent_start}
-use Rattle.recode.proofs.HandsLemmas.{hands_fault, hands_held, hands_ready, hands_then, holding_more, told_then}
+use Rattle.recode.proofs.HandsLemmas.{hands_fault, hands_held, hands_ready, hands_then, hands_under, told_then}
 use Rattle.recode.proofs.ShellLemmas.{between_none, found_some, holds_none, ok_of, pumps_bytes, pumps_done, pumps_held, pumps_more, pumps_start, pumps_stuck, pumps_under, ready_start, smaller_by, sound_start, spared_only}
 use Rattle.recode.proofs.chunk.write_chunk.Goals as goal
 
@@ -21,10 +19,10 @@ calls-init g c =
     let parts = g.E.RawEncoder.parts in
     let r = c.requires in
     let start : Engine g.row.D.Denot g.row.E.Denot = record c.args.engine.now { from = 0; to = 0 } in
-    let c0 = standing view parts c.args.writers.now.policy start c.args.pivot.now in
+    let c0 = standing view parts c.args.policy start c.args.pivot.now in
     let empty = between_none c.args.pivot.now in
     record {
-      pumps = pumps_start r.writers (sound_start c0 r.none empty r.ready.sound);
+      pumps = pumps_start r.writers.0 (sound_start c0 r.none empty r.ready.sound);
       ready = ready_start (standing view parts Policy.Decimal start c.args.pivot.now) c.args.chunk.now c.is_empty-last.result r.none empty r.limit
           (record { open_ = r.ready.open_; sound = record { index = r.ready.sound.index; bad = r.ready.sound.bad; lost = r.ready.sound.lost }; tells = r.ready.tells });
       holds = holds_none c.args.pivot.now;
@@ -33,8 +31,8 @@ calls-init g c =
 
 pub returns-in_err-make_room-clause-err : goal.returns-in_err-make_room-clause-err
 returns-in_err-make_room-clause-err g c =
-    let left = hands_fault [] c.from_residual.ensures.1 c.in_err-make_room.ensures.hands in
-    rw (sym c.is_empty-last.ensures) (pumps_stuck c.calls.invariant.pumps left c.requires.none (between_none c.args.pivot.now) c.requires.held)
+    let left = hands_fault [] c.from_residual.ensures.1 (hands_under c.in_err-make_room.ensures.hands) in
+    rw (sym c.is_empty-last.ensures) (pumps_stuck c.calls.invariant.pumps left c.requires.none (between_none c.args.pivot.now) c.requires.writers.1)
 
 pub returns-in_err-make_room-clause-told : goal.returns-in_err-make_room-clause-told
 returns-in_err-make_room-clause-told g c = told_then _ _ _ c.calls.invariant.pumps.hands.told c.in_err-make_room.ensures.hands.told
@@ -42,14 +40,14 @@ returns-in_err-make_room-clause-told g c = told_then _ _ _ c.calls.invariant.pum
 pub returns-in-InputEmpty-clause-chunk : goal.returns-in-InputEmpty-clause-chunk
 returns-in-InputEmpty-clause-chunk g c =
     let i = c.calls.invariant in
-    let room = c.in_ok-make_room.ensures.hands in
+    let room = hands_under c.in_ok-make_room.ensures.hands in
     let k = c.convert-result in
-    let p = c.args.writers.now.policy in
+    let p = c.args.policy in
     let ends = rw c.in-InputEmpty.is at (k.ensures.ends p) in
-    let held = hands_held k.new.dst k.result.2 (hands_ready (hands_ready c.requires.writers i.pumps.hands) room) (search rules) k.ensures.wrote.room in
+    let held = hands_held k.new.dst k.result.2 (hands_ready (hands_ready c.requires.writers.0 i.pumps.hands) room) (search rules) k.ensures.wrote.room in
     let all = rw ends.0 at (pumps_bytes (take k.result.2 k.new.dst) (pumps_held i.pumps room) held (rw c.in-InputEmpty.is at (k.ensures.law p))) in
-    rw (sym c.is_empty-last.ensures, c.deliver_held.ensures.hands.failures.same.policy, room.failures.same.policy, i.pumps.hands.failures.same.policy)
-    (pumps_done c.requires.none (between_none c.args.pivot.now) ends.1 ends.2 refl c.requires.held ends.3 all c.deliver_held.ensures.hands c.deliver_held.ensures.none)
+    rw (sym c.is_empty-last.ensures)
+    (pumps_done c.requires.none (between_none c.args.pivot.now) ends.1 ends.2 refl c.requires.writers.1 ends.3 all (hands_under c.deliver_held.ensures.hands) c.deliver_held.ensures.none)
 
 pub returns-in-InputEmpty-clause-none : goal.returns-in-InputEmpty-clause-none
 returns-in-InputEmpty-clause-none g c = ok_of c.deliver_held.result (rw c.in-InputEmpty.is at (c.convert-result.ensures.ends Policy.Decimal)).1
@@ -57,22 +55,22 @@ returns-in-InputEmpty-clause-none g c = ok_of c.deliver_held.result (rw c.in-Inp
 pub returns-in-InputEmpty-clause-err : goal.returns-in-InputEmpty-clause-err
 returns-in-InputEmpty-clause-err g c =
     let i = c.calls.invariant in
-    let room = c.in_ok-make_room.ensures.hands in
+    let room = hands_under c.in_ok-make_room.ensures.hands in
     let k = c.convert-result in
-    let held = hands_held k.new.dst k.result.2 (hands_ready (hands_ready c.requires.writers i.pumps.hands) room) (search rules) k.ensures.wrote.room in
-    let all = pumps_bytes (take k.result.2 k.new.dst) (pumps_held i.pumps room) held (rw c.in-InputEmpty.is at (k.ensures.law c.args.writers.now.policy)) in
-    rw (sym c.is_empty-last.ensures) (pumps_stuck all c.deliver_held.ensures.hands c.requires.none (between_none c.args.pivot.now) c.requires.held)
+    let held = hands_held k.new.dst k.result.2 (hands_ready (hands_ready c.requires.writers.0 i.pumps.hands) room) (search rules) k.ensures.wrote.room in
+    let all = pumps_bytes (take k.result.2 k.new.dst) (pumps_held i.pumps room) held (rw c.in-InputEmpty.is at (k.ensures.law c.args.policy)) in
+    rw (sym c.is_empty-last.ensures) (pumps_stuck all (hands_under c.deliver_held.ensures.hands) c.requires.none (between_none c.args.pivot.now) c.requires.writers.1)
 
 pub returns-in-InputEmpty-clause-told : goal.returns-in-InputEmpty-clause-told
 returns-in-InputEmpty-clause-told g c =
     let i = c.calls.invariant in
     let room = c.in_ok-make_room.ensures.hands in
     let k = c.convert-result in
-    let held = hands_held k.new.dst k.result.2 (hands_ready (hands_ready c.requires.writers i.pumps.hands) room) (search rules) k.ensures.wrote.room in
+    let held = hands_held {applies = λ p. Unit {0}} k.new.dst k.result.2 (hands_ready (hands_ready c.requires.writers.0 i.pumps.hands) room) (search rules) k.ensures.wrote.room in
     told_then _ _ _ (told_then _ _ _ (told_then _ _ _ i.pumps.hands.told room.told) held.told) c.deliver_held.ensures.hands.told
 
 pub returns-in-InputEmpty-clause-target : goal.returns-in-InputEmpty-clause-target
-returns-in-InputEmpty-clause-target g c = (c.convert-result.ensures.law c.args.writers.now.policy).target ∙ c.calls.invariant.pumps.turns.target
+returns-in-InputEmpty-clause-target g c = (c.convert-result.ensures.law c.args.policy).target ∙ c.calls.invariant.pumps.turns.target
 
 pub calls-smaller-in-OutputFull : goal.calls-smaller-in-OutputFull
 calls-smaller-in-OutputFull g c =
@@ -87,11 +85,11 @@ calls-smaller-in-OutputFull g c =
 pub calls-preserved-in-OutputFull : goal.calls-preserved-in-OutputFull
 calls-preserved-in-OutputFull g c =
     let i = c.calls.invariant in
-    let room = c.in_ok-make_room.ensures.hands in
+    let room = hands_under c.in_ok-make_room.ensures.hands in
     let k = c.convert-result in
-    let held = hands_held k.new.dst k.result.2 (hands_ready (hands_ready c.requires.writers i.pumps.hands) room) (search rules) k.ensures.wrote.room in
+    let held = hands_held k.new.dst k.result.2 (hands_ready (hands_ready c.requires.writers.0 i.pumps.hands) room) (search rules) k.ensures.wrote.room in
     record {
-      pumps = rw (take_rest c.calls.rest.now k.result.1) (pumps_bytes (take k.result.2 k.new.dst) (pumps_held i.pumps room) held (rw c.in-OutputFull.is at (k.ensures.law c.args.writers.now.policy)));
+      pumps = rw (take_rest c.calls.rest.now k.result.1) (pumps_bytes (take k.result.2 k.new.dst) (pumps_held i.pumps room) held (rw c.in-OutputFull.is at (k.ensures.law c.args.policy)));
       ready = rw (take_rest c.calls.rest.now k.result.1) (rw c.in-OutputFull.is at (k.ensures.ends Policy.Decimal)).1;
       holds = k.ensures.holds;
       lent = lent_on i.lent k.ensures.lent;
@@ -108,18 +106,16 @@ calls-smaller g c =
 pub calls-preserved : goal.calls-preserved
 calls-preserved g c =
     let i = c.calls.invariant in
-    let room = c.in_ok-make_room.ensures.hands in
+    let room = hands_under c.in_ok-make_room.ensures.hands in
     let k = c.convert-result in
-    let p = c.args.writers.now.policy in
+    let p = c.args.policy in
     let bytes = take k.result.2 k.new.dst in
-    let held = hands_held k.new.dst k.result.2 (hands_ready (hands_ready c.requires.writers i.pumps.hands) room) (search rules) k.ensures.wrote.room in
-    let policy : c.make_room.new.self.policy ≡ p = room.failures.same.policy ∙ i.pumps.hands.failures.same.policy in
+    let held = hands_held k.new.dst k.result.2 (hands_ready (hands_ready c.requires.writers.0 i.pumps.hands) room) (search rules) k.ensures.wrote.room in
     let f = c.in_ok-take_found-in-Found.ensures in
     let found = found_items (reference_form p) (Found c.in-Found.line) in
-    let taken = subst (λ (q : Policy). HandsOn {T = Unit {0}} g.W.Write.contents g.L.Write.contents (holding_more c.make_room.new.self k.new.dst k.result.2) c.take_found.new.self (found_items (reference_form q) (Found c.in-Found.line)) (Ok tt)) policy f.hands in
-    let spared = spared_append p (map Byte bytes) found (spared_only p bytes) (subst (λ (q : Policy). IsSpared q (found_items (reference_form q) (Found c.in-Found.line))) policy f.spared) in
+    let spared = spared_append p (map Byte bytes) found (spared_only p bytes) f.spared in
     record {
-      pumps = rw (take_rest c.calls.rest.now k.result.1) (pumps_more (pumps_held i.pumps room) (hands_then (spared_only _ bytes) held taken) spared (rw c.in-Found.is at (k.ensures.law p)));
+      pumps = rw (take_rest c.calls.rest.now k.result.1) (pumps_more (pumps_held i.pumps room) (hands_then (λ q is. spared_only q bytes) held f.hands) spared (rw c.in-Found.is at (k.ensures.law p)));
       ready = rw (take_rest c.calls.rest.now k.result.1) (rw c.in-Found.is at (k.ensures.ends Policy.Decimal)).1;
       holds = k.ensures.holds;
       lent = lent_on i.lent k.ensures.lent;
@@ -128,24 +124,22 @@ calls-preserved g c =
 pub returns-in_err-take_found-in-Found-clause-err : goal.returns-in_err-take_found-in-Found-clause-err
 returns-in_err-take_found-in-Found-clause-err g c =
     let i = c.calls.invariant in
-    let room = c.in_ok-make_room.ensures.hands in
+    let room = hands_under c.in_ok-make_room.ensures.hands in
     let k = c.convert-result in
-    let p = c.args.writers.now.policy in
+    let p = c.args.policy in
     let bytes = take k.result.2 k.new.dst in
-    let held = hands_held k.new.dst k.result.2 (hands_ready (hands_ready c.requires.writers i.pumps.hands) room) (search rules) k.ensures.wrote.room in
-    let policy : c.make_room.new.self.policy ≡ p = room.failures.same.policy ∙ i.pumps.hands.failures.same.policy in
+    let held = hands_held k.new.dst k.result.2 (hands_ready (hands_ready c.requires.writers.0 i.pumps.hands) room) (search rules) k.ensures.wrote.room in
     let e = c.in_err-take_found-in-Found in
-    let taken = subst (λ (q : Policy). HandsOn {T = Unit {0}} g.W.Write.contents g.L.Write.contents (holding_more c.make_room.new.self k.new.dst k.result.2) c.take_found.new.self (found_items (reference_form q) (Found c.in-Found.line)) (Err e.field-0.0)) policy e.ensures.hands in
-    let passed = hands_fault [] c.from_residual-in_err-take_found-in-Found.ensures.1 (hands_then (spared_only _ bytes) held taken) in
-    rw (sym c.is_empty-last.ensures) (pumps_under (pumps_held i.pumps room) passed (rw c.in-Found.is at (k.ensures.law p)) c.requires.none (between_none c.args.pivot.now) c.requires.held)
+    let passed = hands_fault [] c.from_residual-in_err-take_found-in-Found.ensures.1 (hands_then (λ q is. spared_only q bytes) held e.ensures.hands) in
+    rw (sym c.is_empty-last.ensures) (pumps_under (pumps_held i.pumps room) passed (rw c.in-Found.is at (k.ensures.law p)) c.requires.none (between_none c.args.pivot.now) c.requires.writers.1)
 
 pub returns-in_err-take_found-in-Found-clause-target : goal.returns-in_err-take_found-in-Found-clause-target
-returns-in_err-take_found-in-Found-clause-target g c = (c.convert-result.ensures.law c.args.writers.now.policy).target ∙ c.calls.invariant.pumps.turns.target
+returns-in_err-take_found-in-Found-clause-target g c = (c.convert-result.ensures.law c.args.policy).target ∙ c.calls.invariant.pumps.turns.target
 
 pub returns-in_err-take_found-in-Found-clause-told : goal.returns-in_err-take_found-in-Found-clause-told
 returns-in_err-take_found-in-Found-clause-told g c =
     let i = c.calls.invariant in
     let room = c.in_ok-make_room.ensures.hands in
     let k = c.convert-result in
-    let held = hands_held k.new.dst k.result.2 (hands_ready (hands_ready c.requires.writers i.pumps.hands) room) (search rules) k.ensures.wrote.room in
+    let held = hands_held {applies = λ p. Unit {0}} k.new.dst k.result.2 (hands_ready (hands_ready c.requires.writers.0 i.pumps.hands) room) (search rules) k.ensures.wrote.room in
     told_then _ _ _ (told_then _ _ _ (told_then _ _ _ i.pumps.hands.told room.told) held.told) c.in_err-take_found-in-Found.ensures.hands.told

@@ -10,9 +10,9 @@ abbrev pub invariant-calls : goal.invariant-calls
 invariant-calls g l =
     let view = g.D.StreamDecoder.view in
     let parts = g.E.RawEncoder.parts in
-    let p = l.initial.writers.policy in
+    let p = l.policy in
     record {
-      pumps : Pumps g.W.Write.contents g.L.Write.contents l.initial.writers l.writers (standing view parts p l.initial.engine l.initial.pivot) (standing view parts p l.engine l.pivot) l.last l.initial.rest l.rest 0 0;
+      pumps : Pumps g.W.Write.contents g.L.Write.contents p l.initial.writers l.writers (standing view parts p l.initial.engine l.initial.pivot) (standing view parts p l.engine l.pivot) l.last l.initial.rest l.rest 0 0;
       ready : CanGoOn (standing view parts Policy.Decimal l.engine l.pivot) l.rest l.last;
       holds : HoldsBetween l.pivot l.engine.from l.engine.to;
       lent : KeepsLent l.initial.pivot l.initial.check l.pivot l.check;

@@ -1,6 +1,6 @@
 use Rattle.std.proofs.Common.{arith}
 use Rattle.recode.proofs.LatencyLemmas.{new_settled}
-use Rattle.recode.proofs.RunLemmas.{completes, fails}
+use Rattle.recode.proofs.RunLemmas.{completes, fails, few_calls}
 use Rattle.recode.proofs.StepLemmas.{goes_on_start, goes_on_more, goes_on_finish, goes_on_stop}
 use Rattle.recode.proofs.laws.steps_are_a_run.Goals as goal
 
@@ -11,7 +11,9 @@ pub returns-clause-goes_on : goal.returns-clause-goes_on
 returns-clause-goes_on c = goes_on_more
 
 pub returns-clause-completes : goal.returns-clause-completes
-returns-clause-completes c t t1 t2 j v w s p valid b ran f tells = completes t t2 j v w p valid b (goes_on_finish t t1 t2 j.limit v.state s w.state ran f) tells
+returns-clause-completes c t t1 t2 j v w s p valid b ran f tells =
+    let all = goes_on_finish t t1 t2 j.limit v.state s w.state ran f in
+    (completes t t2 j v w p valid b all tells, few_calls t t2 j v w p valid b all tells)
 
 pub returns-clause-fails : goal.returns-clause-fails
 returns-clause-fails c t t1 t2 j v s f b ran stops = fails t t2 j v f b (goes_on_stop t t1 t2 j.limit v.state s f ran stops)

@@ -7,7 +7,7 @@ use Rattle.recode.proofs.TellLemmas.{none_yet_on, tells_none, tells_then}
 use Rattle.recode.proofs.BufferLemmas.{kept_enough, kept_on, kept_start}
 use Rattle.recode.proofs.LatencyLemmas.{new_settled}
 use Rattle.recode.proofs.StepLemmas.{finishes_within, goes_on_start, goes_on_more, goes_on_finish, goes_on_stop, steps_within, stops_within}
-use Rattle.recode.proofs.RunLemmas.{completes, fails}
+use Rattle.recode.proofs.RunLemmas.{completes, fails, few_calls}
 use Rattle.recode.proofs.ToldLemmas.{completes_told, fails_told}
 use Rattle.recode.proofs.session.run.Goals as goal
 
@@ -31,14 +31,11 @@ step-requires-clause-over g c = λ h. subst IsOver c.run.invariant.open_ h
 pub step-requires-clause-buffers : goal.step-requires-clause-buffers
 step-requires-clause-buffers g c = c.run.invariant.enough
 
-pub step-requires-clause-reader : goal.step-requires-clause-reader
-step-requires-clause-reader g c = omega (arith, c.run.invariant.reader_count, c.requires.reader)
-
-pub step-requires-clause-writer : goal.step-requires-clause-writer
-step-requires-clause-writer g c = omega (arith, c.run.invariant.writer_count, c.requires.writer)
-
-pub step-requires-clause-log : goal.step-requires-clause-log
-step-requires-clause-log g c = omega (arith, c.run.invariant.log_count, c.requires.log)
+pub step-requires-clause-counts : goal.step-requires-clause-counts
+step-requires-clause-counts g c =
+    let i = c.run.invariant in
+    let r = c.requires.counts in
+    record { reader = omega (arith, i.reader_count, r.reader); writer = omega (arith, i.writer_count, r.writer); log = omega (arith, i.log_count, r.log) }
 
 pub run-preserved : goal.run-preserved
 run-preserved g c =
@@ -60,6 +57,13 @@ pub returns-in-Ok-Done-clause-completes : goal.returns-in-Ok-Done-clause-complet
 returns-in-Ok-Done-clause-completes g c =
     let e = c.in-Ok-Done.ensures in
     completes _ _ c.args.job (view_of c.new-session.result) (view_of c.step.new.self) _ c.requires.job c.new-session.ensures
+    (goes_on_finish _ _ _ _ _ _ _ c.run.invariant.ran (finishes_within _ _ (ap (λ (j : Job). j.limit) c.run.invariant.job) (e.done (ap Ok c.in-Ok-Done.field-0-is))))
+    (c.report.ensures _)
+
+pub returns-in-Ok-Done-clause-work : goal.returns-in-Ok-Done-clause-work
+returns-in-Ok-Done-clause-work g c =
+    let e = c.in-Ok-Done.ensures in
+    few_calls _ _ c.args.job (view_of c.new-session.result) (view_of c.step.new.self) _ c.requires.job c.new-session.ensures
     (goes_on_finish _ _ _ _ _ _ _ c.run.invariant.ran (finishes_within _ _ (ap (λ (j : Job). j.limit) c.run.invariant.job) (e.done (ap Ok c.in-Ok-Done.field-0-is))))
     (c.report.ensures _)
 

@@ -78,7 +78,7 @@ returns-in-Done-clause-whole c =
     let w = view_of c.step.new.self in
     let finishes : Finishes t1 t2 j.limit v.state w.state = subst (λ (k : Job). Finishes t1 t2 k.limit v.state w.state) s.job (c.step.ensures.done done) in
     let tells = c.devices_tell.ensures.goes_on t t1 t2 _ _ _ c.args.input.now refl c.steps.invariant.tells c.step.ensures.told.0 in
-    let completes = c.steps_are_a_run.ensures.completes t t1 t2 j (view_of c.new-session.result) w v.state c.in-Some.report c.requires.job c.new-session.ensures s.run finishes c.in-Some.ensures.tells in
+    let completes = (c.steps_are_a_run.ensures.completes t t1 t2 j (view_of c.new-session.result) w v.state c.in-Some.report c.requires.job c.new-session.ensures s.run finishes c.in-Some.ensures.tells).0 in
     rw (c.into_inner.ensures, c.into_inner-in-Done.ensures) (
     gave_all j c.args.input.now (inner_of c.step.new.reader).rest.now _ _ t2 tells c.in-Some.report
     (c.known_input.ensures.completes c.args.input.now t t2 j c.in-Some.report (c.devices_tell.ensures.input c.args.input.now [] t2.reads _ _ refl tells.input) completes))

@@ -17,7 +17,7 @@ returns-in_err-deliver-clause-hands g c =
     let held = take c.deliver_line.new.self.held c.deliver_line.new.self.buffer.now in
     hands_after e.hands (record {
       ok = search rules;
-      err = hands_each _ _ _ _ _ _ c.from_residual-in_err-deliver.ensures.1 (λ more. under_bytes _ _ _ _ _ held _ _ more c.in_err-deliver.ensures.fault c.in_err-deliver.ensures.err.4
+      err = λ p any. hands_each _ _ _ _ _ _ c.from_residual-in_err-deliver.ensures.1 (λ more. under_bytes _ _ _ _ _ held _ _ more c.in_err-deliver.ensures.fault c.in_err-deliver.ensures.err.4
           (ap (λ line. (line_items line ++ map Byte held) ++ more) e.none));
       failures = record { writer = search rules; log = search rules; not_reader = search rules; not_other = search rules; same = search rules; last = last_each _ _ _ _ _ c.from_residual-in_err-deliver.ensures.1 c.in_err-deliver.ensures.fault c.in_err-deliver.ensures.failed };
       told = record { output = took_part _ _ _ _ held c.in_err-deliver.ensures.err; log = taken_none _ _ };
@@ -28,7 +28,7 @@ returns-clause-hands g c =
     let e = c.in_ok-deliver_line.ensures in
     hands_after e.hands (record {
       ok = rw e.none (delivers _ _ _ _ _ c.in_ok-deliver.ensures.ok.2 refl);
-      err = tt;
+      err = λ p any. tt;
       failures = search rules;
       told = record { output = took_whole _ _ _ _ _ c.in_ok-deliver.ensures.ok; log = taken_none _ _ };
     })

@@ -10,7 +10,7 @@ returns-clause-hands g c =
     let is = c.put_held_line-len.ensures.bytes in
     record {
       ok = line_whole _ _ _ _ c.args.self.now.line held _ _ _ is _ c.deliver.ensures.ok;
-      err = line_part _ _ _ _ c.args.self.now.line held _ _ _ is _ _ c.deliver.ensures.fault c.deliver.ensures.err;
+      err = λ p any. line_part _ _ _ _ c.args.self.now.line held _ _ _ is _ _ c.deliver.ensures.fault c.deliver.ensures.err;
       failures = record { writer = search rules; log = search rules; not_reader = search rules; not_other = search rules; same = search rules; last = last_log _ _ _ c.deliver.ensures.fault c.deliver.ensures.failed };
       told = record { output = taken_none _ _; log = taken_by _ _ _ _ _ _ _ _ c.deliver.ensures.ok c.deliver.ensures.err };
     }

@@ -15,7 +15,7 @@ returns g c =
     record {
       hands = hands_after e.hands (record {
         ok = holds;
-        err = tt;
+        err = λ p any. tt;
         failures = search rules;
         told = record { output = taken_none _ _; log = taken_none _ _ };
       });

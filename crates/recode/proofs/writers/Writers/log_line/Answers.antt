@@ -17,7 +17,7 @@ returns-clause-hands g c =
     let is = c.put_all-end.ensures.prefix ∙ ap (λ x. x ++ take c.write_into-len.result c.write_into-len.new.dst) c.put_held_line-start.ensures.bytes ∙ ap (λ x. held_line_bytes line ++ x) c.write_into-len.ensures.line in
     hands_after e.hands (record {
       ok = lines_whole _ _ _ _ line _ _ c.args.line _ _ none is _ c.deliver.ensures.ok;
-      err = lines_part _ _ _ _ line _ _ c.args.line _ _ none is _ _ c.deliver.ensures.fault c.deliver.ensures.err;
+      err = λ p any. lines_part _ _ _ _ line _ _ c.args.line _ _ none is _ _ c.deliver.ensures.fault c.deliver.ensures.err;
       failures = record { writer = search rules; log = search rules; not_reader = search rules; not_other = search rules; same = search rules; last = last_log _ _ _ c.deliver.ensures.fault c.deliver.ensures.failed };
       told = record { output = taken_none _ _; log = taken_by _ _ _ _ _ _ _ _ c.deliver.ensures.ok c.deliver.ensures.err };
     })

@@ -19,7 +19,7 @@ returns-in_ok-deliver_held g c =
     record {
       hands = hands_after e.hands (record {
         ok = delivers_whole _ _ _ _ _ held _ _ _ _ e.none.line none is _ c.deliver.ensures.ok;
-        err = delivers_part _ _ _ _ _ held _ _ _ _ e.none.line none is _ _ c.deliver.ensures.fault c.deliver.ensures.err;
+        err = λ p any. delivers_part _ _ _ _ _ held _ _ _ _ e.none.line none is _ _ c.deliver.ensures.fault c.deliver.ensures.err;
         failures = record { writer = search rules; log = search rules; not_reader = search rules; not_other = search rules; same = search rules; last = last_write _ _ _ c.deliver.ensures.fault c.deliver.ensures.failed };
         told = record { output = taken_by _ _ _ _ _ _ _ _ c.deliver.ensures.ok c.deliver.ensures.err; log = taken_none _ _ };
       });
@@ -29,7 +29,7 @@ pub returns-else-len-self : goal.returns-else-len-self
 returns-else-len-self g c = record {
   hands = record {
     ok = holds _ _ _ _ _ (c.put_all-self.ensures.prefix ∙ ap (λ x. take c.args.self.now.held c.args.self.now.buffer.now ++ x) c.write_reference-len.ensures.reference);
-    err = tt;
+    err = λ p any. tt;
     failures = search rules;
     told = record { output = taken_none _ _; log = taken_none _ _ };
   };
