@@ -5,7 +5,6 @@ use Rattle.encoding_front.specs.EncodingTable.{encodings, encoding_name}
 use Rattle.encoding_front.specs.Encodings.{is_ascii_compatible_of, is_single_byte_of, mark_at_start, needs_of, output_encoding_of, byte_order_marks, pieces_of, coding_of, set_pieces_of}
 use Rattle.encoding_front.specs.calls.CodecBounds.{need_of, decoded_length_of}
 use Rattle.encoding_front.specs.declared.encoding.Encoding.{Encoding}
-use Rattle.std.specs.List.{range_with_len}
 use Rattle.std.specs.Char.{encode_utf8}
 use Rattle.encoding_mem.specs.Piece.{well_formed, malformed}
 use Rattle.encoding_mem.specs.Pieces.{pieces_in}

@@ -1,5 +1,5 @@
 -- Worked rows of `specs/Marks.antt`.
-use Rattle.std.specs.Prelude.{◌≡◌, None, Some, [], ◌∷◌, ◌++◌, refl, replicate}
+use Rattle.std.specs.Prelude.{◌≡◌, None, [], ◌∷◌, ◌++◌, refl, replicate}
 use Rattle.encoding_mem.specs.Piece.{well_formed, malformed}
 use Rattle.encoding_tables.specs.IndexLists.{IndexLists}
 use Rattle.encoding_tables.specs.examples.IndexLists.{alone}
