@@ -68,7 +68,7 @@ class Page:
 
     def lists_of_indexes(self):
         """The list of each kind of index, which has the entry at each pointer or 0, and the rows of the ranges."""
-        flats = [Made("None")] * len(self.definitions.makers["IndexKind"])
+        flats = {}
         files = {re.sub(r"\W", "", name[6:-4]).lower(): name[6:-4] for name in os.listdir(INDEXES) if name.endswith(".txt")}
         for kind in self.definitions.makers["IndexKind"]:
             rows = standard.index(INDEXES, files[kind.replace("_", "").lower()])
@@ -78,8 +78,8 @@ class Page:
             entries = [0] * (rows[-1][0] + 1)
             for pointer, scalar in rows:
                 entries[pointer] = scalar
-            flats[self.run("number", Made(kind))] = some(Entries(entries))
-        return Record(flats=tuple(flats), rows=some(ranges))
+            flats[Made(kind)] = some(Entries(entries))
+        return Record(flats=lambda kind: flats.get(kind, Made("None")), rows=some(ranges))
 
     def pieces(self, name, data):
         """The pieces of an input: of each its length and its text, or none if it is malformed."""

@@ -169,9 +169,9 @@ def kind_files():
 
 def kind_slot():
     return [
-        "    // The number of this kind among all.",
+        "    // The slot of this kind among all.",
         "    pub(crate) fn slot(self) -> usize",
-        "        ensures value { result ≡ number self }",
+        "        ensures value { result ≡ slot_of self }",
         "        ensures small { result < %d }" % len(KINDS),
         "    {",
         "        self as usize",
@@ -192,8 +192,8 @@ def variants_of_kinds():
     return ["use %s.{%s}" % (path, ", ".join(KINDS))]
 
 
-def kind_numbers():
-    return ["number %s = %d" % (kind, number) for number, kind in enumerate(KINDS)]
+def kind_slots():
+    return ["slot_of %s = %d" % (kind, slot) for slot, kind in enumerate(KINDS)]
 
 
 def all_kinds():
@@ -306,9 +306,6 @@ def own_indexes():
     names = [row["name"] for row in INDEXES]
     pairs = ["(%s, 0x%X)" % (variant(row["name"]), 0x100 + names.index(row["indexes"][0])) for row in SINGLE_BYTE]
     return [
-        "abbrev kind_count : ℕ",
-        "kind_count = %d" % len(KINDS),
-        "",
         "unfoldable own_index : List (Encoding × ℕ)",
         "own_index = %s" % listed(pairs),
     ]
@@ -431,7 +428,7 @@ PARTS = {
     "encoding_labels/specs/Labels.antt": [constants_of_places, places_rise],
     "encoding_tables/src/index_kind.rt": [kind_variants, kind_files, kind_slot],
     "encoding_tables/src/tables.rt": [flats, no_flats],
-    "encoding_tables/specs/Kinds.antt": [variants_of_kinds, kind_numbers],
+    "encoding_tables/specs/calls/Slots.antt": [variants_of_kinds, kind_slots],
     "encoding_tables/specs/FileNames.antt": [variants_of_kinds],
     "encoding_tables/specs/laws/Kinds.antt": [variants_of_kinds, all_kinds],
     "encoding_tables/specs/examples/Kinds.antt": [variants_of_kinds, kinds_of_examples],

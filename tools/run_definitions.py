@@ -186,7 +186,6 @@ LIBRARY = {
     "position": (2, position),
     "scalar": (1, lambda n: n < 0xD800 or 0xDFFF < n < 0x110000),
     "slice_index": (2, lambda entries, k: entries[k] if k < len(entries) else 0),
-    "slice_index_or": (3, lambda entries, k, other: entries[k] if k < len(entries) else other),
     "slice_range": (3, slice_range),
     "starts_with": (3, lambda same, entries, front: entries[: len(front)] == front),
     "suc": (1, lambda n: n + 1),

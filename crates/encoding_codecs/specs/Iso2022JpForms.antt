@@ -1,6 +1,6 @@
 -- What is written in ISO-2022-JP, by the lists of the indexes jis0208 and iso-2022-jp-katakana (the Encoding Standard,
 -- section 12.2.2, "ISO-2022-JP encoder").
-use Rattle.std.specs.Prelude.{ℕ, ◌+◌, ◌-◌, ◌/◌, ◌%◌, ◌==◌, ◌||◌, not, Bool, true, false, List, [], ◌∷◌, nat_lt, if◌then◌else◌, Option, None, Some}
+use Rattle.std.specs.Prelude.{ℕ, ◌+◌, ◌-◌, ◌/◌, ◌%◌, ◌==◌, ◌||◌, List, [], ◌∷◌, nat_lt, if◌then◌else◌, Option, Some}
 use Rattle.std.specs.Option.{option_map, option_and_then}
 use Rattle.encoding_mem.specs.Coding.{Coding, form_of_bytes}
 use Rattle.encoding_mem.specs.declared.form.Form.{Form}
@@ -38,53 +38,30 @@ iso_2022_jp_form jis0208 katakana c = if nat_lt c 0x80 then ascii_form c
 
 -- ---- the sets
 
--- two sets of an encoder of ISO-2022-JP are equal: both ASCII, both Roman, or both JIS X 0208
-abbrev pub is_same_set : EscapeState → EscapeState → Bool
-is_same_set Ascii Ascii = true
-is_same_set Roman Roman = true
-is_same_set Jis Jis = true
-is_same_set _ _ = false
+-- the set of what is in ASCII and in Roman, in ISO-2022-JP: that of the two which is in force, or
+-- ASCII if JIS X 0208 is
+abbrev pub ascii_or_roman : EscapeState → EscapeState
+ascii_or_roman Jis = Ascii
+ascii_or_roman s = s
 
--- the sets that a character may have in ISO-2022-JP, and the one taken if none of them is in force
-pub record Sets : Type 0 where
-  pub allows : EscapeState → Bool
-  pub default : EscapeState
+-- The set in which a character with a given form is written in ISO-2022-JP, by the set in force:
+-- JIS X 0208 if it has two bytes, else ASCII for 5C and 7E, Roman for U+00A5 and U+203E, and ASCII
+-- or Roman for what is left, also if it has no bytes.
+abbrev pub iso_2022_jp_set : EscapeState → ℕ → Form → EscapeState
+iso_2022_jp_set s c (Mapped (_ ∷ _ ∷ [])) = Jis
+iso_2022_jp_set s c form = if c == 0x5C || c == 0x7E then Ascii else if c == 0xA5 || c == 0x203E then Roman else ascii_or_roman s
 
--- the sets of a character that is in one set alone, to which an encoder changes from any other
-abbrev pub only : EscapeState → Sets
-only s = record { allows = is_same_set s; default = s }
-
--- the sets ASCII and Roman: either stays if it is in force, and ASCII is taken if JIS X 0208 is
-abbrev pub ascii_or_roman : Sets
-ascii_or_roman = record { allows = λ s. not (is_same_set Jis s); default = Ascii }
-
--- the set in which a character is written in ISO-2022-JP, by its sets and the set in force: the
--- set in force if that is among them, else their default
-abbrev pub set_after : Sets → EscapeState → EscapeState
-set_after sets s = if sets.allows s then s else sets.default
-
--- the sets of a character by its jis0208 pointer: JIS X 0208 alone, or ASCII and Roman without one
-abbrev pub sets_of_pointer : Option ℕ → Sets
-sets_of_pointer None = ascii_or_roman
-sets_of_pointer (Some p) = only Jis
-
--- The sets of a character in ISO-2022-JP: ASCII for 5C and 7E, ASCII or Roman for the rest of
--- ASCII, Roman for U+00A5 and U+203E, else JIS X 0208, but ASCII or Roman if it is unmappable.
-abbrev pub iso_2022_jp_sets : List ℕ → List ℕ → ℕ → Sets
-iso_2022_jp_sets jis0208 katakana c = if nat_lt c 0x80 then (if c == 0x5C || c == 0x7E then only Ascii else ascii_or_roman)
-    else (if c == 0xA5 || c == 0x203E then only Roman else sets_of_pointer (iso_2022_jp_pointer jis0208 katakana c))
-
--- the escape to a set: 1B 28 42 to ASCII, 1B 28 4A to Roman, 1B 24 42 to JIS X 0208
-abbrev pub iso_2022_jp_escape_to : EscapeState → List ℕ
-iso_2022_jp_escape_to Ascii = 0x1B ∷ 0x28 ∷ 0x42 ∷ []
-iso_2022_jp_escape_to Roman = 0x1B ∷ 0x28 ∷ 0x4A ∷ []
-iso_2022_jp_escape_to Jis = 0x1B ∷ 0x24 ∷ 0x42 ∷ []
-
--- the escape from one set to another: three bytes, or none if the two are equal
+-- the escape from one set to another: 1B 28 42 to ASCII, 1B 28 4A to Roman, 1B 24 42 to JIS X 0208,
+-- or no bytes if the two are equal
 abbrev pub iso_2022_jp_escape : EscapeState → EscapeState → List ℕ
-iso_2022_jp_escape s s' = if is_same_set s s' then [] else iso_2022_jp_escape_to s'
+iso_2022_jp_escape Ascii Ascii = []
+iso_2022_jp_escape Roman Roman = []
+iso_2022_jp_escape Jis Jis = []
+iso_2022_jp_escape _ Ascii = 0x1B ∷ 0x28 ∷ 0x42 ∷ []
+iso_2022_jp_escape _ Roman = 0x1B ∷ 0x28 ∷ 0x4A ∷ []
+iso_2022_jp_escape _ Jis = 0x1B ∷ 0x24 ∷ 0x42 ∷ []
 
 -- the "ISO-2022-JP encoder" (section 12.2.2): form and set of each character, escapes between sets
 abbrev pub iso_2022_jp_coding : List ℕ → List ℕ → Coding
-iso_2022_jp_coding jis0208 katakana = let set : EscapeState → ℕ → EscapeState = λ s c. set_after (iso_2022_jp_sets jis0208 katakana c) s in
-    record { form = iso_2022_jp_form jis0208 katakana; set = set; escape = iso_2022_jp_escape }
+iso_2022_jp_coding jis0208 katakana = let form : ℕ → Form = iso_2022_jp_form jis0208 katakana in
+    record { form = form; set = λ s c. iso_2022_jp_set s c (form c); escape = iso_2022_jp_escape }

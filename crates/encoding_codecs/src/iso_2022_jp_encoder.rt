@@ -6,8 +6,7 @@ ghost use Rattle.encoding_mem.specs.calls.EncodedLength.{encoded_length_iso_2022
 ghost use Rattle.encoding_tables.specs.IndexLists.{has, index_entries};
 ghost use Rattle.encoding_tables.specs.declared.index_kind.IndexKind.{IndexKind};
 ghost use Rattle.encoding_codecs.specs.Iso2022JpForms.{looked_up, iso_2022_jp_pointer, ascii_form};
-ghost use Rattle.encoding_codecs.specs.Iso2022JpForms.{is_same_set, ascii_or_roman, set_after};
-ghost use Rattle.encoding_codecs.specs.Iso2022JpForms.{iso_2022_jp_coding};
+ghost use Rattle.encoding_codecs.specs.Iso2022JpForms.{ascii_or_roman, iso_2022_jp_coding};
 ghost use Rattle.encoding_codecs.specs.laws.Iso2022JpForms.{iso_2022_jp_laws, iso_2022_jp_fits};
 
 use crate::jis::{folded, is_katakana};
@@ -135,33 +134,21 @@ impl<'a> EncoderRule for Iso2022JpEncoder<'a> {
 
     #[inline(always)]
     fn escape(&self, from: EscapeState, to: EscapeState) -> Bytes {
-        if is_set(from, to) {
-            return Bytes::none();
+        match (from, to) {
+            (EscapeState::Ascii, EscapeState::Ascii)
+            | (EscapeState::Roman, EscapeState::Roman)
+            | (EscapeState::Jis, EscapeState::Jis) => Bytes::none(),
+            (_, EscapeState::Ascii) => Bytes::three(0x1B, 0x28, 0x42),
+            (_, EscapeState::Roman) => Bytes::three(0x1B, 0x28, 0x4A),
+            (_, EscapeState::Jis) => Bytes::three(0x1B, 0x24, 0x42),
         }
-        match to {
-            EscapeState::Ascii => Bytes::three(0x1B, 0x28, 0x42),
-            EscapeState::Roman => Bytes::three(0x1B, 0x28, 0x4A),
-            EscapeState::Jis => Bytes::three(0x1B, 0x24, 0x42),
-        }
-    }
-}
-
-#[inline(always)]
-fn is_set(a: EscapeState, b: EscapeState) -> bool
-    ensures { result ≡ is_same_set a b }
-{
-    match (a, b) {
-        (EscapeState::Ascii, EscapeState::Ascii)
-        | (EscapeState::Roman, EscapeState::Roman)
-        | (EscapeState::Jis, EscapeState::Jis) => true,
-        _ => false,
     }
 }
 
 // The set of a character that may be written in ASCII and in Roman.
 #[inline(always)]
 fn ascii_or_roman(set: EscapeState) -> EscapeState
-    ensures { result ≡ set_after ascii_or_roman set }
+    ensures { result ≡ ascii_or_roman set }
 {
     match set {
         EscapeState::Jis => EscapeState::Ascii,

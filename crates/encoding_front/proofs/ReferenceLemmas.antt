@@ -1,19 +1,18 @@
 -- How long a reference can be. Calls with replacement: what the calls without replacement and the references
 -- between them make together. How a call with replacement ends. A turn of a call with replacement: one call
 -- without, and the reference that it asks for. A whole text through last calls with replacement, one after another.
-use Rattle.std.proofs.Common.{ℕ, ◌≡◌, ◌≤◌, ◌<◌, List, length, ap, arith, ◌↔◌, ◌+◌, Bool, true, false, IsTrue, [], ◌∷◌, ◌++◌, refl, sym, ◌∙◌, append_assoc, length-append, add_assoc, zero-add, ◌-◌, ◌⊎◌, inl, inr, subst, take, drop, length-drop, ◌||◌, zero, suc}
+use Rattle.std.proofs.Common.{ℕ, ◌≡◌, ◌≤◌, ◌<◌, List, length, ap, arith, ◌↔◌, ◌+◌, Bool, true, false, IsTrue, [], ◌∷◌, ◌++◌, refl, sym, ◌∙◌, append_assoc, length-append, ◌-◌, ◌⊎◌, inl, inr, subst, take, drop, length-drop, ◌||◌, zero, suc}
 use Rattle.std.proofs.lemmas.Fmt.{length-decimal-le}
 use Rattle.std.specs.Fmt.{decimal}
 use Rattle.std.proofs.lemmas.List.{append-nil, append_cancel_right, drop-drop, drop_all, drop-append-le, length-take-le, take-append-le, take_rest}
 use Rattle.encoding_mem.specs.declared.reference.Reference.TheVariants.{Decimal}
-use Rattle.encoding_mem.specs.Coding.{AllMapped, Coding, IsMapped, last_set, lost_count, bytes_from, open_from, reference_bytes, spelled, unmapped_count, whole_from, output}
+use Rattle.encoding_mem.specs.Coding.{AllMapped, Coding, IsMapped, last_set, lost_count, bytes_from, open_from, reference_bytes, spelled, whole_from, output}
 use Rattle.encoding_mem.specs.calls.EncoderCalls.{WritesPart, Encodes, EncodesItems}
 use Rattle.encoding_mem.specs.laws.Losses.{lost_count-append}
 use Rattle.encoding_mem.specs.laws.ReadBack.{none_lost}
 use Rattle.encoding_mem.specs.laws.EncoderCalls.{items_in_bytes, last_set-append, mapped_open, open_from-append}
 use Rattle.encoding_mem.specs.declared.encoder_result.EncoderResult.TheVariants.{Unmappable, InputEmpty, OutputFull}
-use Rattle.encoding_mem.specs.declared.form.Form.{Form}
-use Rattle.encoding_mem.specs.declared.form.Form.TheVariants.{Mapped, Unmapped}
+use Rattle.encoding_mem.specs.declared.form.Form.TheVariants.{Unmapped}
 use Rattle.encoding_mem.specs.declared.form.EscapeState.{EscapeState}
 use Rattle.std.specs.Bool.{MatchBool}
 use Rattle.encoding_mem.specs.calls.EncoderRule.{Moves}

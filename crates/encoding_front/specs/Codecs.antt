@@ -1,5 +1,5 @@
 -- What each kind of codec means: the pieces of the bytes that it reads, and what it writes for characters.
-use Rattle.std.specs.Prelude.{ℕ, false, List}
+use Rattle.std.specs.Prelude.{ℕ, List}
 use Rattle.encoding_mem.specs.Piece.{Piece}
 use Rattle.encoding_mem.specs.Coding.{Coding}
 use Rattle.encoding_mem.specs.Utf8.{pieces_utf8}
@@ -33,7 +33,7 @@ pub record Codec : Type 0 where
 abbrev pub codec_of : IndexLists → CodecKind → Codec
 codec_of t CodecKind.Utf8 = record { pieces = pieces_utf8; coding = utf8_coding }
 codec_of t (CodecKind.Utf16 big_endian) = record { pieces = pieces_utf16 big_endian; coding = utf8_coding }
-codec_of t CodecKind.Replacement = record { pieces = pieces_replacement false; coding = utf8_coding }
+codec_of t CodecKind.Replacement = record { pieces = pieces_replacement; coding = utf8_coding }
 codec_of t CodecKind.UserDefined = record { pieces = pieces_user_defined; coding = user_defined_coding }
 codec_of t (CodecKind.SingleByte kind) = let flat = index_entries t kind in
     record { pieces = pieces_single_byte flat; coding = single_byte_coding flat }

@@ -56,7 +56,13 @@ pub struct Encoder<'t> {
 }
 
 impl<'t> Model for Encoder<'t> {
+    ghost use Rattle.std.specs.Coded.{codes};
+    ghost use Rattle.encoding_tables.specs.laws.Kinds.{index_lists_code};
+    ghost use Rattle.encoding_front.specs.calls.Encoder.{EncoderState, IsCodecOf};
+
     ghost Value = { EncoderState };
+
+    ghost coded = { Prim.hlevel (codes, index_lists_code) };
 
     ghost view = { λ s. record {
       tables = s.tables.now;

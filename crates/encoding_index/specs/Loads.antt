@@ -3,7 +3,7 @@ use Rattle.std.specs.Prelude.{◌≡◌, ◌≢◌, ◌⊎◌, ℕ, false, is_so
 use Rattle.std.specs.Bool.{MatchBool}
 use Rattle.std.specs.Option.{option_map, option_or}
 use Rattle.encoding_tables.specs.Kinds.{index_size, is_ranges}
-use Rattle.encoding_tables.specs.IndexLists.{IndexLists, flat_of, has}
+use Rattle.encoding_tables.specs.IndexLists.{IndexLists, has}
 use Rattle.encoding_tables.specs.TableFaults.{flat_fault, range_fault}
 use Rattle.encoding_tables.specs.declared.index_kind.IndexKind.{IndexKind}
 use Rattle.encoding_tables.specs.declared.table_fault.TableFault.{TableFault}
@@ -37,12 +37,12 @@ load_fault tables kind text = option_or (option_map Text (text_fault kind text))
 -- ranges, else its list
 abbrev pub Loads : IndexLists → IndexKind → List ℕ → Type 0
 Loads tables kind text =
-    MatchBool (is_ranges kind) (tables.rows ≡ Some (text_rows text)) (flat_of tables kind ≡ Some (text_list (index_size kind) text))
+    MatchBool (is_ranges kind) (tables.rows ≡ Some (text_rows text)) (tables.flats kind ≡ Some (text_list (index_size kind) text))
 
 -- tables before and after a call differ at most in the index of the kind
 abbrev pub KeepsOtherKinds : IndexLists → IndexLists → IndexKind → Type 0
 KeepsOtherKinds old new kind =
-    ((other : IndexKind) → other ≢ kind → flat_of new other ≡ flat_of old other) × (is_ranges kind ≡ false → new.rows ≡ old.rows)
+    ((other : IndexKind) → other ≢ kind → new.flats other ≡ old.flats other) × (is_ranges kind ≡ false → new.rows ≡ old.rows)
 
 -- a load failed since memory was refused, either to read the index text or to the tables
 abbrev pub WantsMemory : {T : Type 0} → Result T LoadFault → Type 0

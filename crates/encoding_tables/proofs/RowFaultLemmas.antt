@@ -9,7 +9,7 @@ use Rattle.std.proofs.lemmas.List.Sums.{position_or_len_is}
 use Rattle.encoding_tables.specs.calls.SortedRows.{row_at}
 use Rattle.encoding_tables.specs.PackedRows.{flat_list, packed_entry, PointersRise, PointersAreBelow}
 use Rattle.encoding_tables.specs.Kinds.{index_size}
-use Rattle.encoding_tables.specs.TableFaults.{is_same_kind, first_bad_entry, first_reserved, flat_fault, entry_fault}
+use Rattle.encoding_tables.specs.TableFaults.{first_bad_entry, reserved_fault, first_reserved, flat_fault, entry_fault}
 use Rattle.encoding_tables.specs.declared.table_fault.TableFault.{TableFault}
 use Rattle.encoding_tables.specs.declared.table_fault.TableFault.TheVariants.{Present, Size, Entry, Memory, Reserved}
 use Rattle.encoding_tables.specs.declared.index_kind.IndexKind.TheVariants.{Jis0208}
@@ -132,9 +132,13 @@ of_first : (a b : Option TableFault) → IsOther a → IsOther b → IsOther (op
 of_first None b h k = k
 of_first (Some f) b h k = h
 
+of_kind : (kind : IndexKind) (flat : List ℕ) → IsOther (reserved_fault kind flat)
+of_kind Jis0208 flat = of_reserved (first_reserved flat)
+of_kind _ flat = λ e. absurd (cc)
+
 pub memory_is_no_fault : (there : Bool) (kind : IndexKind) (flat : List ℕ) → flat_fault there kind flat ≢ Some Memory
 memory_is_no_fault there kind flat =
     of_either there (Some Present) _ (λ e. absurd (cc)) (
     of_either (not (length flat == index_size kind)) (Some Size) _ (λ e. absurd (cc)) (
     of_first (option_map Entry (first_bad_entry kind flat)) _ (of_entry (first_bad_entry kind flat))
-    (of_either (is_same_kind kind Jis0208) (option_map Reserved (first_reserved flat)) None (of_reserved (first_reserved flat)) (λ e. absurd (cc)))))
+    (of_kind kind flat)))

@@ -2,22 +2,18 @@
 use Rattle.std.specs.Prelude.{ℕ, ◌+◌, Bool, List, length, ◌&&◌, ◌||◌, ◌==◌, nat_lt, not, if◌then◌else◌, Option, None, Some, slice_range}
 use Rattle.std.specs.List.{position}
 use Rattle.std.specs.Option.{option_map, option_or}
-use Rattle.encoding_tables.specs.Kinds.{number, index_size}
+use Rattle.encoding_tables.specs.Kinds.{index_size, is_big5}
 use Rattle.encoding_tables.specs.RangeFaults.{bad_row}
 use Rattle.encoding_tables.specs.declared.index_kind.IndexKind.{IndexKind}
-use Rattle.encoding_tables.specs.declared.index_kind.IndexKind.TheVariants.{Big5, Jis0208}
+use Rattle.encoding_tables.specs.declared.index_kind.IndexKind.TheVariants.{Jis0208}
 use Rattle.encoding_tables.specs.declared.table_fault.TableFault.{TableFault}
 use Rattle.encoding_tables.specs.declared.table_fault.TableFault.TheVariants.{Present, Size, Entry, Reserved, Ranges}
-
--- whether two kinds of index are equal
-abbrev pub is_same_kind : IndexKind → IndexKind → Bool
-is_same_kind a b = number a == number b
 
 -- whether a list of a kind may have a given entry: 0, a scalar from U+0080 to U+FFFF, or, in Big5,
 -- one of plane 2
 abbrev pub is_entry_of : IndexKind → ℕ → Bool
 is_entry_of kind v = v == 0 || (not (nat_lt v 0x80) && nat_lt v 0xD800) || (not (nat_lt v 0xE000) && nat_lt v 0x10000)
-    || ((is_same_kind kind Big5 && not (nat_lt v 0x20000)) && nat_lt v 0x30000)
+    || ((is_big5 kind && not (nat_lt v 0x20000)) && nat_lt v 0x30000)
 
 -- the pointer of the first entry that a list of the kind may not have, if there is one
 abbrev pub first_bad_entry : IndexKind → List ℕ → Option ℕ
@@ -30,7 +26,8 @@ first_reserved flat = option_map (λ k. 8836 + k) (position (λ v. not (v == 0))
 -- the fault of a list of JIS X 0208, if it maps a pointer from 8836 to 10715, where Shift_JIS has
 -- end-user-defined characters: it names the first such pointer
 abbrev pub reserved_fault : IndexKind → List ℕ → Option TableFault
-reserved_fault kind flat = if is_same_kind kind Jis0208 then option_map Reserved (first_reserved flat) else None
+reserved_fault Jis0208 flat = option_map Reserved (first_reserved flat)
+reserved_fault _ flat = None
 
 -- what is wrong with a list's entries, if anything: the first that the kind may not have, or else
 -- the first that JIS X 0208 maps where it is reserved

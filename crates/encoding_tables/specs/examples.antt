@@ -10,6 +10,7 @@ pub mod RangeFaults
 pub mod Ranges
 pub mod Replacement
 pub mod SingleByte
+pub mod Slots
 pub mod SortedRows
 pub mod TableFaults
 pub mod UserDefined

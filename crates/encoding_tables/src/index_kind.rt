@@ -1,7 +1,8 @@
 //! The 34 kinds of index: their sizes and their files.
 
 ghost use Rattle.std.specs.Prelude.{◌≡◌, ◌<◌};
-ghost use Rattle.encoding_tables.specs.Kinds.{number, index_size, is_ranges, is_single_byte_kind};
+ghost use Rattle.encoding_tables.specs.Kinds.{index_size, is_ranges, is_single_byte_kind};
+ghost use Rattle.encoding_tables.specs.calls.Slots.{slot_of};
 ghost use Rattle.encoding_tables.specs.FileNames.{file_name_of};
 
 /// One of the indexes of the Encoding Standard (section 5, "Indexes"): those of the single-byte
@@ -129,9 +130,9 @@ impl IndexKind {
     }
 
     // Written by tools/generate_encodings.py from tools/encodings.toml; do not edit.
-    // The number of this kind among all.
+    // The slot of this kind among all.
     pub(crate) fn slot(self) -> usize
-        ensures value { result ≡ number self }
+        ensures value { result ≡ slot_of self }
         ensures small { result < 34 }
     {
         self as usize

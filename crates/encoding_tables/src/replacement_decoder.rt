@@ -8,8 +8,9 @@ ghost use Rattle.encoding_mem.specs.laws.Pieces.{pieces_in-are_pieces};
 ghost use Rattle.encoding_mem.specs.calls.Decoding.{IsFreshDecoder};
 ghost use Rattle.encoding_mem.specs.calls.DecodedLength.{decoded_length_replacement};
 ghost use Rattle.encoding_mem.specs.laws.Shows.{decided_in};
-ghost use Rattle.encoding_tables.specs.Replacement.{first_piece_replacement, after_replacement};
 ghost use Rattle.encoding_tables.specs.Replacement.{pieces_replacement};
+ghost use Rattle.encoding_tables.specs.laws.Replacement.{first_piece_replacement, after_replacement};
+ghost use Rattle.encoding_tables.specs.laws.Replacement.{replacement_left};
 ghost use Rattle.encoding_tables.specs.laws.Replacement.{cuts_replacement, replacement_needs};
 ghost use Rattle.encoding_tables.specs.laws.Replacement.{replacement_covers, decided_by_one};
 
@@ -26,7 +27,7 @@ pub struct ReplacementRule {
 }
 
 impl DecoderRule for ReplacementRule {
-    ghost pieces = { λ s x. pieces_replacement s.error_returned x };
+    ghost pieces = { λ s x. replacement_left s.error_returned x };
 
     ghost whole = { λ s. pieces_in-whole first_piece_replacement after_replacement cuts_replacement s.error_returned };
 
@@ -78,7 +79,7 @@ impl EachByteDecoder<ReplacementRule> {
     /// A decoder of a new stream.
     pub fn new() -> Self
         ensures { IsFreshDecoder (⟦<ReplacementDecoder as RawDecoder>⟧.state result)
-            (pieces_replacement false) decoded_length_replacement }
+            pieces_replacement decoded_length_replacement }
     {
         EachByteDecoder::of_rule(ReplacementRule {
             error_returned: false,

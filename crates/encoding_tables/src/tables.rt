@@ -3,8 +3,8 @@
 ghost use Rattle.std.specs.Prelude.{◌≡◌, ◌≢◌, ◌⊎◌, [], false, true, MatchOption, OnOk, OnErr};
 ghost use Rattle.std.specs.Prelude.{is_some};
 ghost use Rattle.encoding_tables.specs.Kinds.{is_ranges, is_single_byte_kind, index_size};
-ghost use Rattle.encoding_tables.specs.IndexLists.{IndexLists, flat_of, has, index_entries};
-ghost use Rattle.encoding_tables.specs.IndexLists.{range_rows, AreAcceptedTables, AreTaken};
+ghost use Rattle.encoding_tables.specs.IndexLists.{IndexLists, has, index_entries};
+ghost use Rattle.encoding_tables.specs.IndexLists.{range_rows, AreAcceptedTables};
 ghost use Rattle.encoding_tables.specs.Accepted.{IsIndex};
 ghost use Rattle.encoding_tables.specs.PackedRows.{flat_list, PointersRise, PointersAreBelow};
 ghost use Rattle.encoding_tables.specs.TableFaults.{flat_fault, range_fault};
@@ -37,21 +37,24 @@ pub struct Tables {
 }
 
 impl Model for Tables {
+    ghost use Rattle.encoding_tables.specs.IndexLists.{IndexLists, AreAcceptedTables};
+    ghost use Rattle.encoding_tables.specs.calls.Slots.{lists_in};
+    ghost use Rattle.encoding_tables.specs.laws.Kinds.{index_lists_code};
+
     ghost Value = { IndexLists };
 
-    ghost view = { λ t. record {
-      flats = t.flats;
-      rows = t.ranges;
-    } };
+    ghost coded = { index_lists_code };
 
-    ghost invariant = { λ t. AreTaken t.flats t.ranges };
+    ghost view = { λ t. lists_in t.flats t.ranges };
+
+    ghost invariant = { λ t. AreAcceptedTables (lists_in t.flats t.ranges) };
 }
 
 impl Tables {
     /// Tables with no index. They take no memory; what is handed in later is kept in memory of
     /// `alloc`.
     pub fn new(alloc: Global) -> Tables
-        ensures flats { (kind : IndexKind) → flat_of result kind ≡ None }
+        ensures flats { (kind : IndexKind) → result.flats kind ≡ None }
         ensures rows { result.rows ≡ None }
     {
         Tables {
@@ -97,9 +100,9 @@ impl Tables {
         requires { is_ranges kind ≡ false }
         ensures fault { MatchOption (flat_fault (has self.old kind) kind flat.now)
             ((result ≡ Ok tt) ⊎ (result ≡ Err TableFault.Memory)) (λ f. result ≡ Err f) }
-        ensures taken { OnOk result (flat_of self.new kind ≡ Some flat.now) }
+        ensures taken { OnOk result (self.new.flats kind ≡ Some flat.now) }
         ensures others { (other : IndexKind) → other ≢ kind
-            → flat_of self.new other ≡ flat_of self.old other }
+            → self.new.flats other ≡ self.old.flats other }
         ensures rows { self.new.rows ≡ self.old.rows }
         ensures unchanged { OnErr result (self.new ≡ self.old) }
     {
@@ -132,9 +135,9 @@ impl Tables {
             ((result ≡ Ok tt) ⊎ (result ≡ Err TableFault.Memory)) (λ f. result ≡ Err f) }
         ensures grows { rows.now ≡ [] → result ≢ Err TableFault.Memory }
         ensures taken { OnOk result
-            (flat_of self.new kind ≡ Some (flat_list (index_size kind) rows.now)) }
+            (self.new.flats kind ≡ Some (flat_list (index_size kind) rows.now)) }
         ensures others { (other : IndexKind) → other ≢ kind
-            → flat_of self.new other ≡ flat_of self.old other }
+            → self.new.flats other ≡ self.old.flats other }
         ensures rows { self.new.rows ≡ self.old.rows }
         ensures unchanged { OnErr result (self.new ≡ self.old) }
     {
@@ -182,7 +185,7 @@ impl Tables {
     pub fn flat(&self, kind: IndexKind) -> Flat<'_>
         requires there { has self.now kind ≡ true }
         requires listed { is_ranges kind ≡ false }
-        ensures entries { flat_of self.now kind ≡ Some result }
+        ensures entries { self.now.flats kind ≡ Some result }
         ensures index { IsIndex kind result }
     {
         self.index(kind).flat()
@@ -202,7 +205,7 @@ impl Tables {
     pub(crate) fn single_byte(&self, kind: IndexKind) -> Flat<'_>
         requires there { has self.now kind ≡ true }
         requires single { is_single_byte_kind kind ≡ true }
-        ensures entries { flat_of self.now kind ≡ Some result }
+        ensures entries { self.now.flats kind ≡ Some result }
         ensures scalars { AreEntries result }
         ensures basic { AreBasic result }
     {
@@ -269,7 +272,7 @@ impl Tables {
     fn index(&self, kind: IndexKind) -> &PackedIndex
         requires there { has self.now kind ≡ true }
         requires listed { is_ranges kind ≡ false }
-        ensures entries { flat_of self.now kind ≡ Some result.now }
+        ensures entries { self.now.flats kind ≡ Some result.now }
         ensures accepted { flat_fault false kind result.now ≡ None }
     {
         match &self.flats[kind.slot()] {

@@ -6,7 +6,7 @@ use Rattle.std.proofs.lemmas.Bool.{cases_eq}
 use Rattle.std.specs.Str.{bytes_eq}
 use Rattle.encoding_tables.specs.FileNames.{file_name_of}
 use Rattle.encoding_tables.specs.Kinds.{number, index_size, is_ranges}
-use Rattle.encoding_tables.specs.IndexLists.{IndexLists, flat_of, has}
+use Rattle.encoding_tables.specs.IndexLists.{IndexLists, has}
 use Rattle.encoding_index.specs.IndexText.{text_list, text_rows}
 use Rattle.encoding_index.specs.Loads.{KeepsOtherKinds, Loads, load_fault, table_fault, text_fault}
 use Rattle.encoding_index.specs.declared.fault.IndexFault.{IndexFault}
@@ -58,8 +58,8 @@ ranges_is _ e = cc
 
 -- tables that hold what a text stands for have the index
 loaded_has : (tables : IndexLists) (kind : IndexKind) (text : List ℕ) → Loads tables kind text → has tables kind ≡ true
-loaded_has tables kind text loads = elim (is_ranges kind) as (λ b. MatchBool b (tables.rows ≡ Some (text_rows text)) (flat_of tables kind ≡ Some (text_list (index_size kind) text))
-    → (if b then is_some tables.rows else is_some (flat_of tables kind)) ≡ true) [
+loaded_has tables kind text loads = elim (is_ranges kind) as (λ b. MatchBool b (tables.rows ≡ Some (text_rows text)) (tables.flats kind ≡ Some (text_list (index_size kind) text))
+    → (if b then is_some tables.rows else is_some (tables.flats kind)) ≡ true) [
       | true ↦ λ rows. ap is_some rows
       | false ↦ λ flat. ap is_some flat
     ] loads
@@ -82,10 +82,10 @@ flat_is_new false kind flat e = refl
 index_is_new : (tables : IndexLists) (kind : IndexKind) (text : List ℕ) → table_fault tables kind text ≡ None → has tables kind ≡ false
 index_is_new tables kind text = elim (is_ranges kind) as (λ r.
     (if r then range_fault (is_some tables.rows) (text_rows text)
-    else flat_fault (if r then is_some tables.rows else is_some (flat_of tables kind)) kind (text_list (index_size kind) text)) ≡ None
-    → (if r then is_some tables.rows else is_some (flat_of tables kind)) ≡ false) [
+    else flat_fault (if r then is_some tables.rows else is_some (tables.flats kind)) kind (text_list (index_size kind) text)) ≡ None
+    → (if r then is_some tables.rows else is_some (tables.flats kind)) ≡ false) [
       | true ↦ rows_are_new (is_some tables.rows) (text_rows text)
-      | false ↦ flat_is_new (is_some (flat_of tables kind)) kind (text_list (index_size kind) text)
+      | false ↦ flat_is_new (is_some (tables.flats kind)) kind (text_list (index_size kind) text)
     ]
 
 taken_is_new : (tables : IndexLists) (kind : IndexKind) (text : List ℕ) → load_fault tables kind text ≡ None → has tables kind ≡ false
@@ -102,16 +102,16 @@ others_are_flat kind other apart e = elim (is_ranges kind) as (λ s. is_ranges k
 -- an index of another kind stays
 keeps_loaded : (old new : IndexLists) (kind other : IndexKind) (text : List ℕ) → KeepsOtherKinds old new kind → other ≢ kind → Loads old other text → Loads new other text
 keeps_loaded old new kind other text keeps apart = elim (is_ranges other) as (λ r. is_ranges other ≡ r
-    → MatchBool r (old.rows ≡ Some (text_rows text)) (flat_of old other ≡ Some (text_list (index_size other) text))
-    → MatchBool r (new.rows ≡ Some (text_rows text)) (flat_of new other ≡ Some (text_list (index_size other) text))) [
+    → MatchBool r (old.rows ≡ Some (text_rows text)) (old.flats other ≡ Some (text_list (index_size other) text))
+    → MatchBool r (new.rows ≡ Some (text_rows text)) (new.flats other ≡ Some (text_list (index_size other) text))) [
       | true ↦ λ e rows. keeps.1 (others_are_flat kind other apart e) ∙ rows
       | false ↦ λ e flat. keeps.0 other apart ∙ flat
     ] refl
 
 keeps_absent : (old new : IndexLists) (kind other : IndexKind) → KeepsOtherKinds old new kind → other ≢ kind → has old other ≡ false → has new other ≡ false
 keeps_absent old new kind other keeps apart = elim (is_ranges other) as (λ r. is_ranges other ≡ r
-    → (if r then is_some old.rows else is_some (flat_of old other)) ≡ false
-    → (if r then is_some new.rows else is_some (flat_of new other)) ≡ false) [
+    → (if r then is_some old.rows else is_some (old.flats other)) ≡ false
+    → (if r then is_some new.rows else is_some (new.flats other)) ≡ false) [
       | true ↦ λ e absent. ap is_some (keeps.1 (others_are_flat kind other apart e)) ∙ absent
       | false ↦ λ e absent. ap is_some (keeps.0 other apart) ∙ absent
     ] refl

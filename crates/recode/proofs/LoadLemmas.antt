@@ -7,9 +7,9 @@ use Rattle.std.proofs.lemmas.Bool.{cases_eq, false_from_ne_true}
 use Rattle.std.proofs.Common.{◌<◌, drop, drop-cons, get_or, length, suc, take}
 use Rattle.std.proofs.lemmas.List.{take-append-drop}
 use Rattle.std.proofs.lemmas.List.Elements.{Contains-append_left, Contains-append_right}
-use Rattle.encoding_tables.specs.IndexLists.{IndexLists, flat_of, has}
-use Rattle.encoding_tables.specs.Kinds.{is_ranges, number, index_size}
-use Rattle.encoding_tables.specs.laws.Kinds.{number-same}
+use Rattle.encoding_tables.specs.IndexLists.{IndexLists, has}
+use Rattle.encoding_tables.specs.Kinds.{is_ranges, index_size}
+use Rattle.encoding_tables.specs.laws.Kinds.{same_or_apart}
 use Rattle.encoding_tables.specs.FileNames.{file_name_of}
 use Rattle.encoding_tables.specs.declared.table_fault.TableFault.{TableFault}
 use Rattle.encoding_tables.specs.declared.index_kind.IndexKind.{IndexKind}
@@ -29,23 +29,23 @@ some_there true rows flat r f h = ap is_some h
 some_there false rows flat r f h = ap is_some h
 
 pub loaded_there : (new : IndexLists) (kind : IndexKind) (text : List ℕ) → Loads new kind text → has new kind ≡ true
-loaded_there new kind text h = some_there (is_ranges kind) new.rows (flat_of new kind) (text_rows text) (text_list (index_size kind) text) h
+loaded_there new kind text h = some_there (is_ranges kind) new.rows (new.flats kind) (text_rows text) (text_list (index_size kind) text) h
 
 -- the ranges are of one kind
-ranges_number : (k : IndexKind) → is_ranges k ≡ true → number k ≡ 30
-ranges_number Gb18030Ranges h = refl
-ranges_number _ h = cc
+ranges_are_one : (k : IndexKind) → is_ranges k ≡ true → k ≡ Gb18030Ranges
+ranges_are_one Gb18030Ranges h = refl
+ranges_are_one _ h = cc
 
-not_ranges : (k kind : IndexKind) → number k ≢ number kind → is_ranges k ≡ true → is_ranges kind ≡ false
-not_ranges k kind apart is = false_from_ne_true (is_ranges kind) (λ yes. apart (ranges_number k is ∙ sym (ranges_number kind yes)))
+not_ranges : (k kind : IndexKind) → k ≢ kind → is_ranges k ≡ true → is_ranges kind ≡ false
+not_ranges k kind apart is = false_from_ne_true (is_ranges kind) (λ yes. apart (ranges_are_one k is ∙ sym (ranges_are_one kind yes)))
 
 -- the index of another kind stays as it is
 stays_by : (b c : Bool) {rows rows' : Option (List (ℕ × ℕ))} {flat flat' : Option (List ℕ)} → (b ≡ true → c ≡ false) → (c ≡ false → rows' ≡ rows) → flat' ≡ flat → MatchBool b (rows' ≡ rows) (flat' ≡ flat)
 stays_by true c one same flat = same (one refl)
 stays_by false c one same flat = flat
 
-stays : (old new : IndexLists) (kind k : IndexKind) → number k ≢ number kind → KeepsOtherKinds old new kind → MatchBool (is_ranges k) (new.rows ≡ old.rows) (flat_of new k ≡ flat_of old k)
-stays old new kind k apart keeps = stays_by (is_ranges k) (is_ranges kind) (not_ranges k kind apart) keeps.1 (keeps.0 k (λ e. apart (ap number e)))
+stays : (old new : IndexLists) (kind k : IndexKind) → k ≢ kind → KeepsOtherKinds old new kind → MatchBool (is_ranges k) (new.rows ≡ old.rows) (new.flats k ≡ old.flats k)
+stays old new kind k apart keeps = stays_by (is_ranges k) (is_ranges kind) (not_ranges k kind apart) keeps.1 (keeps.0 k apart)
 
 there_still : (b : Bool) (rows rows' : Option (List (ℕ × ℕ))) (flat flat' : Option (List ℕ)) → MatchBool b (rows' ≡ rows) (flat' ≡ flat) → (if b then is_some rows' else is_some flat') ≡ (if b then is_some rows else is_some flat)
 there_still true rows rows' flat flat' same = ap is_some same
@@ -56,8 +56,8 @@ loaded_still true rows rows' flat flat' r f same was = same ∙ was
 loaded_still false rows rows' flat flat' r f same was = same ∙ was
 
 pub load_keeps : (old new : IndexLists) (kind : IndexKind) (text : List ℕ) → Loads new kind text → KeepsOtherKinds old new kind → AreKept old new
-load_keeps old new kind text loads keeps k was = elim (cases_eq (number k) (number kind)) [
-  | inl same ↦ rw (number-same k kind same) (loaded_there new kind text loads)
+load_keeps old new kind text loads keeps k was = elim (same_or_apart k kind) [
+  | inl same ↦ rw same (loaded_there new kind text loads)
   | inr apart ↦ there_still (is_ranges k) _ _ _ _ (stays old new kind k apart keeps) ∙ was
 ]
 
@@ -91,7 +91,7 @@ map_told : (told : Option (List ℕ)) (P Q : List ℕ → Type 0) → ((text : L
 map_told None P Q f h = tt
 map_told (Some text) P Q f h = f text h
 
-other_of_file : (old new : IndexLists) (kind k : IndexKind) (told : Option (List ℕ)) → number k ≢ number kind → KeepsOtherKinds old new kind
+other_of_file : (old new : IndexLists) (kind k : IndexKind) (told : Option (List ℕ)) → k ≢ kind → KeepsOtherKinds old new kind
     → (has old k ≡ true → IfSome told (IsOfText old k)) → has new k ≡ true → IfSome told (IsOfText new k)
 other_of_file old new kind k told apart keeps was now =
     let same = stays old new kind k apart keeps in
@@ -104,8 +104,8 @@ pub load_adds : (holds holds' : FileTexts) (dir : List ℕ) (old new : IndexList
     → KeepsOtherKinds old new kind → AddsFromFiles holds holds' dir old new
 load_adds holds holds' dir old new kind text same told faultless loads keeps = record {
   same = same;
-  added = λ was k now. elim (cases_eq (number k) (number kind)) [
-    | inl this ↦ rw (number-same k kind this)
+  added = λ was k now. elim (same_or_apart k kind) [
+    | inl this ↦ rw this
         (map_told (holds dir (file_name_of kind)) (λ t. text ≡ t) (IsOfText new kind) (λ t is. rw (← is) record { faultless = faultless; loads = loads }) told)
     | inr apart ↦ other_of_file old new kind k (holds dir (file_name_of k)) apart keeps (was k) now
   ];
@@ -123,13 +123,13 @@ none_there : (b : Bool) (rows : Option (List (ℕ × ℕ))) (flat : Option (List
 none_there true rows flat no_rows no_flat now = cc
 none_there false rows flat no_rows no_flat now = cc
 
-pub adds_to_none : (holds : FileTexts) (dir : List ℕ) (tables : IndexLists) → ((kind : IndexKind) → flat_of tables kind ≡ None) → tables.rows ≡ None → AreOfFiles holds dir tables
-adds_to_none holds dir tables flats rows kind now = absurd (none_there (is_ranges kind) tables.rows (flat_of tables kind) rows (flats kind) now)
+pub adds_to_none : (holds : FileTexts) (dir : List ℕ) (tables : IndexLists) → ((kind : IndexKind) → tables.flats kind ≡ None) → tables.rows ≡ None → AreOfFiles holds dir tables
+adds_to_none holds dir tables flats rows kind now = absurd (none_there (is_ranges kind) tables.rows (tables.flats kind) rows (flats kind) now)
 
 -- what is put there by a load is of its kind
 pub load_adds_only : (old new : IndexLists) (kind : IndexKind) → KeepsOtherKinds old new kind → AddsOnly old new (kind ∷ [])
-load_adds_only old new kind keeps k now = elim (cases_eq (number k) (number kind)) [
-  | inl same ↦ inr (0, omega arith, sym (number-same k kind same))
+load_adds_only old new kind keeps k now = elim (same_or_apart k kind) [
+  | inl same ↦ inr (0, omega arith, sym same)
   | inr apart ↦ inl (sym (there_still (is_ranges k) _ _ _ _ (stays old new kind k apart keeps)) ∙ now)
 ]
 

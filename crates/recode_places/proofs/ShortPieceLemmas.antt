@@ -1,5 +1,5 @@
 -- A malformed sequence has at most four bytes, in each encoding.
-use Rattle.std.proofs.Common.{ℕ, zero, suc, ◌≤◌, ◌==◌, ◌||◌, ◌&&◌, Bool, true, false, cond, List, [], ◌∷◌, ◌++◌, Option, Some, None, nat_lt, nat_le, drop, length, arith}
+use Rattle.std.proofs.Common.{ℕ, zero, suc, map, ◌≤◌, ◌==◌, ◌||◌, ◌&&◌, Bool, true, false, cond, List, [], ◌∷◌, ◌++◌, Option, Some, None, nat_lt, nat_le, drop, length, arith}
 use Rattle.std.specs.Int.{is_in_range}
 use Rattle.std.specs.Option.{unwrap_or}
 use Rattle.std.specs.Char.Utf16.{is_high_surrogate, is_low_surrogate}
@@ -11,7 +11,7 @@ use Rattle.encoding_tables.specs.EachByte.{first_piece_by_byte}
 use Rattle.encoding_tables.specs.IndexLists.{IndexLists, index_entries, range_rows}
 use Rattle.encoding_tables.specs.Lookups.{value_of}
 use Rattle.encoding_tables.specs.Ranges.{range_value}
-use Rattle.encoding_tables.specs.Replacement.{after_replacement, first_piece_replacement}
+use Rattle.encoding_tables.specs.Replacement.{pieces_replacement}
 use Rattle.encoding_tables.specs.Utf16.{after_high_surrogate, first_piece_utf16, unit_of}
 use Rattle.encoding_tables.specs.declared.index_kind.IndexKind.{IndexKind}
 use Rattle.encoding_codecs.specs.Big5.{big5_first, big5_pair}
@@ -96,9 +96,13 @@ short_utf16 big_endian (a ∷ b ∷ x) =
     let u = unit_of big_endian a b in
     short_if (is_high_surrogate u) _ _ (short_high big_endian u x) (short_if (scalar u) _ _ tt (omega arith))
 
-short_replacement : (error_returned : Bool) (x : List ℕ) → IsShort (first_piece_replacement error_returned x)
-short_replacement false x = omega arith
-short_replacement true x = tt
+short_ignored : (x : List ℕ) → AreShort (map (λ _. well_formed 1 []) x)
+short_ignored [] = tt
+short_ignored (b ∷ x) = (tt, short_ignored x)
+
+short_replacement : (x : List ℕ) → AreShort (pieces_replacement x)
+short_replacement [] = tt
+short_replacement (b ∷ x) = (omega arith, short_ignored x)
 
 short_byte : (char_of : ℕ → Option ℕ) (x : List ℕ) → IsShort (first_piece_by_byte char_of x)
 short_byte char_of [] = omega arith
@@ -195,7 +199,7 @@ short_of t Encoding.Gbk x =
 short_of t Encoding.Iso2022Jp x = short_mode (index_entries t IndexKind.Jis0208) Ascii x
 short_of t Encoding.Utf16Be x = short_by _ (short_utf16 true) x
 short_of t Encoding.Utf16Le x = short_by _ (short_utf16 false) x
-short_of t Encoding.Replacement x = short_in first_piece_replacement after_replacement short_replacement false x
+short_of t Encoding.Replacement x = short_replacement x
 short_of t _ x = short_by _ (short_byte _) x
 
 short_mark : (n : ℕ) → AreShort (mark_piece n)

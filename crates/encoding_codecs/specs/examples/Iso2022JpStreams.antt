@@ -7,7 +7,7 @@ use Rattle.encoding_mem.specs.Pieces.{pieces_in}
 use Rattle.encoding_mem.specs.declared.form.Form.TheVariants.{Mapped, Unmapped}
 use Rattle.encoding_mem.specs.declared.form.EscapeState.TheVariants.{Ascii, Roman, Jis}
 use Rattle.encoding_codecs.specs.Iso2022Jp.{cut_at_escapes, pieces_in_mode, pieces_iso_2022_jp}
-use Rattle.encoding_codecs.specs.Iso2022JpForms.{iso_2022_jp_form, iso_2022_jp_sets, set_after, iso_2022_jp_coding}
+use Rattle.encoding_codecs.specs.Iso2022JpForms.{iso_2022_jp_form, iso_2022_jp_coding}
 
 -- lists for examples: U+3002 at pointer 2, U+FF0D at 3, U+30CF at 422; and U+3002 for U+FF61
 jis0208 : List ℕ
@@ -84,11 +84,11 @@ roman_stays : open_from Decimal (iso_2022_jp_coding jis0208 katakana) Roman (0x4
 roman_stays = refl
 
 -- what is lost is reported in ASCII or in Roman
-lost_from_jis : set_after (iso_2022_jp_sets jis0208 katakana 0x1F4A9) Jis ≡ Ascii
+lost_from_jis : (iso_2022_jp_coding jis0208 katakana).set Jis 0x1F4A9 ≡ Ascii
 unfolding jis0208
 lost_from_jis = refl
 
-lost_in_roman : set_after (iso_2022_jp_sets jis0208 katakana 0x1F4A9) Roman ≡ Roman
+lost_in_roman : (iso_2022_jp_coding jis0208 katakana).set Roman 0x1F4A9 ≡ Roman
 unfolding jis0208
 lost_in_roman = refl
 

@@ -1,5 +1,5 @@
 -- What ISO-2022-JP writes for a character is read back as it, or is broken.
-use Rattle.std.proofs.Common.{◌≡◌, ◌≢◌, ℕ, ◌+◌, ◌/◌, ◌%◌, ◌<◌, ◌≤◌, ◌==◌, ◌⊎◌, inl, inr, Bool, true, false, cond, nat_le, nat_lt, List, [], ◌∷◌, ◌++◌, length, drop, refl, sym, ◌∙◌, ap, subst, arith, lit<, lit≤, Option, Some, None, append_assoc}
+use Rattle.std.proofs.Common.{◌≡◌, ◌≢◌, ℕ, ◌+◌, ◌/◌, ◌%◌, ◌<◌, ◌≤◌, ◌==◌, ◌⊎◌, inl, inr, Bool, true, false, cond, nat_le, List, [], ◌∷◌, ◌++◌, length, drop, refl, sym, ◌∙◌, ap, subst, arith, lit<, lit≤, Option, Some, None, append_assoc}
 use Rattle.std.specs.Prelude.{◌||◌}
 use Rattle.std.specs.Int.{is_in_range}
 use Rattle.std.proofs.lemmas.Bool.{cases_lt, cases_eq, cases_Bool, lt-ltb, le-ltb, le-leb, ne_eqb, eqb-false, or_parts, and_from}
@@ -23,8 +23,8 @@ use Rattle.encoding_tables.specs.Lookups.{AreEntries, value_of, first_pointer}
 use Rattle.encoding_tables.specs.laws.Pointers.{first_is_least}
 use Rattle.encoding_codecs.specs.Iso2022Jp.{ascii_mode, roman_mode, jis_mode, ascii_piece, pieces_in_mode, jis_pair_pointer}
 use Rattle.encoding_codecs.specs.laws.Iso2022JpDecide.{first_piece_iso_2022_jp, char_first_piece, mode_after}
-use Rattle.encoding_codecs.specs.Iso2022JpForms.{looked_up, iso_2022_jp_pointer, ascii_form, iso_2022_jp_form, is_same_set, only, ascii_or_roman, set_after, sets_of_pointer, iso_2022_jp_sets, iso_2022_jp_escape_to, iso_2022_jp_escape, iso_2022_jp_coding, iso_2022_jp_pair_bytes}
-use Rattle.encoding_codecs.specs.laws.Iso2022JpForms.{set_after-only}
+use Rattle.encoding_codecs.specs.Iso2022JpForms.{looked_up, iso_2022_jp_pointer, ascii_form, iso_2022_jp_form, iso_2022_jp_set, iso_2022_jp_escape, iso_2022_jp_coding, iso_2022_jp_pair_bytes}
+use Rattle.encoding_codecs.specs.laws.Iso2022JpForms.{set_of_one, escape_to, escape_is}
 use Rattle.encoding_codecs.specs.laws.Iso2022Jp.{cuts_iso_2022_jp, agrees, no_escape_at, iso_2022_jp_ends}
 use Rattle.encoding_codecs.specs.Iso2022JpSets.{mode_of, pieces_from_set}
 use Rattle.encoding_codecs.specs.declared.iso_2022_jp_decoder.Mode.{Mode}
@@ -56,13 +56,18 @@ pair jis0208 scalars k l d y h j is =
 
 -- an escape before a byte that is no 1B
 ignored : (jis0208 : List ℕ) → AreEntries jis0208 → (m : Mode) (q : EscapeState) (f : ℕ) (z : List ℕ) → f ≢ 0x1B
-    → pieces_in_mode jis0208 m (iso_2022_jp_escape_to q ++ (f ∷ z)) ≡ well_formed 3 [] ∷ pieces_in_mode jis0208 (mode_of q) (f ∷ z)
+    → pieces_in_mode jis0208 m (escape_to q ++ (f ∷ z)) ≡ well_formed 3 [] ∷ pieces_in_mode jis0208 (mode_of q) (f ∷ z)
 ignored jis0208 scalars m Ascii f z n = cons jis0208 scalars m 0x1B (0x28 ∷ 0x42 ∷ f ∷ z) ∙ rw (no_escape_at f z n) refl
 ignored jis0208 scalars m Roman f z n = cons jis0208 scalars m 0x1B (0x28 ∷ 0x4A ∷ f ∷ z) ∙ rw (no_escape_at f z n) refl
 ignored jis0208 scalars m Jis f z n = cons jis0208 scalars m 0x1B (0x24 ∷ 0x42 ∷ f ∷ z) ∙ rw (no_escape_at f z n) refl
 
+-- the piece of an escape, if there is one
+abbrev skipped : List ℕ → List Piece
+skipped [] = []
+skipped (b ∷ bs) = well_formed 3 [] ∷ []
+
 escapes : EscapeState → EscapeState → List Piece
-escapes s q = cond (is_same_set s q) [] (well_formed 3 [] ∷ [])
+escapes s q = skipped (iso_2022_jp_escape s q)
 
 through : (jis0208 : List ℕ) → AreEntries jis0208 → (s q : EscapeState) (f : ℕ) (z : List ℕ) → f ≢ 0x1B
     → pieces_from_set jis0208 s (iso_2022_jp_escape s q ++ (f ∷ z)) ≡ escapes s q ++ pieces_from_set jis0208 q (f ∷ z)
@@ -80,37 +85,39 @@ through jis0208 scalars Jis Roman f z n = ignored jis0208 scalars jis_mode Roman
 -- an escape gives nothing
 escapes_text : (s q : EscapeState) (ps : List Piece) → text (escapes s q ++ ps) ≡ text ps
 unfolding escapes
-escapes_text s q ps = either (is_same_set s q)
+escapes_text s q ps = either (iso_2022_jp_escape s q)
   where
-    either : (t : Bool) → text (cond t [] (well_formed 3 [] ∷ []) ++ ps) ≡ text ps
-    either true = refl
-    either false = refl
+    either : (escape : List ℕ) → text (skipped escape ++ ps) ≡ text ps
+    either [] = refl
+    either (b ∷ bs) = refl
 
 escapes_well_formed : (s q : EscapeState) (ps : List Piece) → AreWellFormed ps → AreWellFormed (escapes s q ++ ps)
 unfolding escapes
-escapes_well_formed s q ps h = either (is_same_set s q)
+escapes_well_formed s q ps h = either (iso_2022_jp_escape s q)
   where
-    either : (t : Bool) → AreWellFormed (cond t [] (well_formed 3 [] ∷ []) ++ ps)
-    either true = h
-    either false = (tt, h)
+    either : (escape : List ℕ) → AreWellFormed (skipped escape ++ ps)
+    either [] = h
+    either (b ∷ bs) = (tt, h)
 
 well_formed_behind : (s q : EscapeState) (ps : List Piece) → AreWellFormed (escapes s q ++ ps) → AreWellFormed ps
 unfolding escapes
-well_formed_behind s q ps h = either (is_same_set s q) h
+well_formed_behind s q ps h = either (iso_2022_jp_escape s q) h
   where
-    either : (t : Bool) → AreWellFormed (cond t [] (well_formed 3 [] ∷ []) ++ ps) → AreWellFormed ps
-    either true h = h
-    either false h = h.1
+    either : (escape : List ℕ) → AreWellFormed (skipped escape ++ ps) → AreWellFormed ps
+    either [] h = h
+    either (b ∷ bs) h = h.1
 
 escapes_sizes : (s q : EscapeState) (ps : List Piece) (bs : List ℕ) → sizes ps ≡ length bs → sizes (escapes s q ++ ps) ≡ length (iso_2022_jp_escape s q ++ bs)
 unfolding escapes
-escapes_sizes s q ps bs h = either (is_same_set s q) q
+escapes_sizes s q ps bs h = elim (escape_is s q) [
+  | inl none ↦ rw none h
+  | inr some ↦ rw some (sized q)
+]
   where
-    either : (t : Bool) (q : EscapeState) → sizes (cond t [] (well_formed 3 [] ∷ []) ++ ps) ≡ length (cond t [] (iso_2022_jp_escape_to q) ++ bs)
-    either true q = h
-    either false Ascii = omega (arith, h)
-    either false Roman = omega (arith, h)
-    either false Jis = omega (arith, h)
+    sized : (q : EscapeState) → sizes (skipped (escape_to q) ++ ps) ≡ length (escape_to q ++ bs)
+    sized Ascii = omega (arith, h)
+    sized Roman = omega (arith, h)
+    sized Jis = omega (arith, h)
 
 -- ---- what a character is in its set
 
@@ -193,10 +200,16 @@ IsOneByte Ascii = Unit {0}
 IsOneByte Roman = Unit {0}
 IsOneByte Jis = ⊥
 
-one_byte : (s : EscapeState) → IsOneByte (set_after ascii_or_roman s)
-one_byte Ascii = tt
-one_byte Roman = tt
-one_byte Jis = tt
+one_byte : (single yen : Bool) (s : EscapeState) → IsOneByte (set_of_one single yen s)
+one_byte true yen s = tt
+one_byte false true s = tt
+one_byte false false Ascii = tt
+one_byte false false Roman = tt
+one_byte false false Jis = tt
+
+-- what is lost is in one of them
+lost_in_one_byte : (s : EscapeState) (c d : ℕ) → IsOneByte (iso_2022_jp_set s c (Unmapped d))
+lost_in_one_byte s c d = one_byte (c == 0x5C || c == 0x7E) (c == 0xA5 || c == 0x203E) s
 
 -- a reference begins with 26, which is itself there
 mark : (jis0208 : List ℕ) → AreEntries jis0208 → (q : EscapeState) (y : List ℕ) → IsOneByte q → pieces_from_set jis0208 q (0x26 ∷ y) ≡ well_formed 1 (0x26 ∷ []) ∷ pieces_from_set jis0208 q y
@@ -246,32 +259,27 @@ gives_pair jis0208 scalars d p c e =
     gives_piece jis0208 Jis (0x21 + p / 94) ((0x21 + p % 94) ∷ []) d c (λ k. absurd (omega (arith, k))) (λ r. pair jis0208 scalars (p / 94) (p % 94) d r high low entry)
 
 gives_pointer : (ref : Reference) (jis0208 : List ℕ) → AreEntries jis0208 → (o : Option ℕ) (s : EscapeState) (c : ℕ) → 0x80 ≤ c
-    → Gives jis0208 (set_after (sets_of_pointer (option_and_then (λ d. first_pointer jis0208 d 0 8836) o)) s) (spelled ref (form_of_pointer iso_2022_jp_pair_bytes c (option_and_then (λ d. first_pointer jis0208 d 0 8836) o))) c
-gives_pointer ref jis0208 scalars None s c high = gives_reference ref jis0208 scalars (set_after ascii_or_roman s) c c (one_byte s) (λ e. absurd (omega (arith, e, high)))
+    → let form = form_of_pointer iso_2022_jp_pair_bytes c (option_and_then (λ d. first_pointer jis0208 d 0 8836) o) in Gives jis0208 (iso_2022_jp_set s c form) (spelled ref form) c
+gives_pointer ref jis0208 scalars None s c high = gives_reference ref jis0208 scalars _ c c (lost_in_one_byte s c c) (λ e. absurd (omega (arith, e, high)))
 gives_pointer ref jis0208 scalars (Some d) s c high = by (first_pointer jis0208 d 0 8836) refl
   where
-    by : (p : Option ℕ) → first_pointer jis0208 d 0 8836 ≡ p → Gives jis0208 (set_after (sets_of_pointer (first_pointer jis0208 d 0 8836)) s) (spelled ref (form_of_pointer iso_2022_jp_pair_bytes c (first_pointer jis0208 d 0 8836))) c
-    by None e = rw e (gives_reference ref jis0208 scalars (set_after ascii_or_roman s) c c (one_byte s) (λ k. absurd (omega (arith, k, high))))
-    by (Some p) e = rw (e, set_after-only Jis s) (gives_pair jis0208 scalars d p c e)
+    by : (p : Option ℕ) → first_pointer jis0208 d 0 8836 ≡ p
+        → let form = form_of_pointer iso_2022_jp_pair_bytes c (first_pointer jis0208 d 0 8836) in Gives jis0208 (iso_2022_jp_set s c form) (spelled ref form) c
+    by None e = rw e (gives_reference ref jis0208 scalars _ c c (lost_in_one_byte s c c) (λ k. absurd (omega (arith, k, high))))
+    by (Some p) e = rw e (gives_pair jis0208 scalars d p c e)
 
 -- ---- each character
 
 ascii_step : (ref : Reference) (jis0208 : List ℕ) → AreEntries jis0208 → (s : EscapeState) (c : ℕ) → c < 0x80
-    → Gives jis0208 (set_after (cond (c == 0x5C || c == 0x7E) (only Ascii) ascii_or_roman) s) (spelled ref (ascii_form c)) c
+    → Gives jis0208 (iso_2022_jp_set s c (ascii_form c)) (spelled ref (ascii_form c)) c
 ascii_step ref jis0208 scalars s c low = elim (cases_Bool (c == 0x0E || c == 0x0F || c == 0x1B)) [
-  | inl control ↦ rw control (gives_reference ref jis0208 scalars _ 0xFFFD c (chosen (c == 0x5C || c == 0x7E) s) (other c control))
-  | inr free ↦ rw free (gives_ascii jis0208 scalars _ c (chosen (c == 0x5C || c == 0x7E) s) low free (either (c == 0x5C || c == 0x7E) s))
+  | inl control ↦ rw control (gives_reference ref jis0208 scalars _ 0xFFFD c (lost_in_one_byte s c 0xFFFD) (other c control))
+  | inr free ↦ rw free (gives_ascii jis0208 scalars _ c (one_byte (c == 0x5C || c == 0x7E) (c == 0xA5 || c == 0x203E) s) low free (either (c == 0x5C || c == 0x7E) (c == 0xA5 || c == 0x203E)))
 ]
   where
-    chosen : (t : Bool) (s : EscapeState) → IsOneByte (set_after (cond t (only Ascii) ascii_or_roman) s)
-    chosen true Ascii = tt
-    chosen true Roman = tt
-    chosen true Jis = tt
-    chosen false s = one_byte s
-
-    either : (t : Bool) (s : EscapeState) → (set_after (cond t (only Ascii) ascii_or_roman) s ≡ Ascii) ⊎ (t ≡ false)
-    either true s = inl (set_after-only Ascii s)
-    either false s = inr refl
+    either : (single yen : Bool) → (set_of_one single yen s ≡ Ascii) ⊎ (single ≡ false)
+    either true yen = inl refl
+    either false yen = inr refl
 
     other : (c : ℕ) → (c == 0x0E || c == 0x0F || c == 0x1B) ≡ true → c ≢ 0x26
     other c control e = clash (rw e at control)
@@ -280,17 +288,18 @@ ascii_step ref jis0208 scalars s c low = elim (cases_Bool (c == 0x0E || c == 0x0
         clash k = cc
 
 high_step : (ref : Reference) (jis0208 katakana : List ℕ) → AreEntries jis0208 → (s : EscapeState) (c : ℕ) → 0x80 ≤ c
-    → Gives jis0208 (set_after (cond (c == 0xA5 || c == 0x203E) (only Roman) (sets_of_pointer (iso_2022_jp_pointer jis0208 katakana c))) s)
-    (spelled ref (cond (c == 0xA5) (Mapped (0x5C ∷ [])) (cond (c == 0x203E) (Mapped (0x7E ∷ [])) (form_of_pointer iso_2022_jp_pair_bytes c (iso_2022_jp_pointer jis0208 katakana c))))) c
+    → let form = cond (c == 0xA5) (Mapped (0x5C ∷ [])) (cond (c == 0x203E) (Mapped (0x7E ∷ [])) (form_of_pointer iso_2022_jp_pair_bytes c (iso_2022_jp_pointer jis0208 katakana c))) in
+    Gives jis0208 (iso_2022_jp_set s c form) (spelled ref form) c
 high_step ref jis0208 katakana scalars s c high = elim (cases_eq c 0xA5) [
-  | inl yen ↦ rw (yen, set_after-only Roman s) (gives_piece jis0208 Roman 0x5C [] 0xA5 0xA5 (λ e. absurd (omega (arith, e))) (λ r. byte jis0208 scalars roman_mode 0x5C 0xA5 r (λ e. absurd (omega (arith, e))) refl))
+  | inl yen ↦ rw yen (gives_piece jis0208 Roman 0x5C [] 0xA5 0xA5 (λ e. absurd (omega (arith, e))) (λ r. byte jis0208 scalars roman_mode 0x5C 0xA5 r (λ e. absurd (omega (arith, e))) refl))
   | inr free ↦ elim (cases_eq c 0x203E) [
-    | inl line ↦ rw (line, set_after-only Roman s) (gives_piece jis0208 Roman 0x7E [] 0x203E 0x203E (λ e. absurd (omega (arith, e))) (λ r. byte jis0208 scalars roman_mode 0x7E 0x203E r (λ e. absurd (omega (arith, e))) refl))
+    | inl line ↦ rw line (gives_piece jis0208 Roman 0x7E [] 0x203E 0x203E (λ e. absurd (omega (arith, e))) (λ r. byte jis0208 scalars roman_mode 0x7E 0x203E r (λ e. absurd (omega (arith, e))) refl))
     | inr frees ↦ rw (ne_eqb c 0xA5 free, ne_eqb c 0x203E frees) (gives_pointer ref jis0208 scalars (looked_up katakana c) s c high)
   ]
 ]
 
-gives : (ref : Reference) (jis0208 katakana : List ℕ) → AreEntries jis0208 → (s : EscapeState) (c : ℕ) → Gives jis0208 (set_after (iso_2022_jp_sets jis0208 katakana c) s) (spelled ref (iso_2022_jp_form jis0208 katakana c)) c
+gives : (ref : Reference) (jis0208 katakana : List ℕ) → AreEntries jis0208 → (s : EscapeState) (c : ℕ)
+    → let form = iso_2022_jp_form jis0208 katakana c in Gives jis0208 (iso_2022_jp_set s c form) (spelled ref form) c
 gives ref jis0208 katakana scalars s c = elim (cases_lt c 0x80) [
   | inl low ↦ rw (lt-ltb c 0x80 low) (ascii_step ref jis0208 scalars s c low)
   | inr high ↦ rw (le-ltb c 0x80 high) (high_step ref jis0208 katakana scalars s c high)
@@ -298,21 +307,11 @@ gives ref jis0208 katakana scalars s c = elim (cases_lt c 0x80) [
 
 pub iso_2022_jp_steps : (jis0208 katakana : List ℕ) → AreEntries jis0208 → StepLaw (iso_2022_jp_coding jis0208 katakana) (pieces_from_set jis0208)
 iso_2022_jp_steps jis0208 katakana scalars ref s c is =
-    behind_escape jis0208 scalars s (set_after (iso_2022_jp_sets jis0208 katakana c) s) (spelled ref (iso_2022_jp_form jis0208 katakana c)) c (gives ref jis0208 katakana scalars s c)
+    behind_escape jis0208 scalars s (iso_2022_jp_set s c (iso_2022_jp_form jis0208 katakana c)) (spelled ref (iso_2022_jp_form jis0208 katakana c)) c (gives ref jis0208 katakana scalars s c)
 
 -- ---- a character without bytes
 
--- it is referred to in a set of one byte a character
-lost_in_one_byte : (low single yen line : Bool) (f : Form) (o : Option ℕ) (c : ℕ) (s : EscapeState) → ¬ (IsMapped (cond low f (cond yen (Mapped (0x5C ∷ [])) (cond line (Mapped (0x7E ∷ [])) (form_of_pointer iso_2022_jp_pair_bytes c o)))))
-    → IsOneByte (set_after (cond low (cond single (only Ascii) ascii_or_roman) (cond (yen || line) (only Roman) (sets_of_pointer o))) s)
-lost_in_one_byte true true yen line f o c s lost = subst IsOneByte (sym (set_after-only Ascii s)) tt
-lost_in_one_byte true false yen line f o c s lost = one_byte s
-lost_in_one_byte false single true line f o c s lost = absurd (lost tt)
-lost_in_one_byte false single false true f o c s lost = absurd (lost tt)
-lost_in_one_byte false single false false f None c s lost = one_byte s
-lost_in_one_byte false single false false f (Some p) c s lost = absurd (lost tt)
-
--- and its reference is never read as it
+-- its reference is never read as it
 lost_is_broken : (ref : Reference) (jis0208 : List ℕ) → AreEntries jis0208 → (s q : EscapeState) (d c : ℕ) → IsOneByte q → c ≢ 0x26
     → IsBroken (pieces_from_set jis0208 s) (iso_2022_jp_escape s q ++ reference_bytes ref d) (c ∷ [])
 lost_is_broken ref jis0208 scalars s q d c one other = rw (reference_behind ref d) (record {
@@ -331,40 +330,33 @@ lost_step : (ref : Reference) (jis0208 katakana : List ℕ) → AreEntries jis02
     → IsBroken (pieces_from_set jis0208 s) (one_from ref (iso_2022_jp_coding jis0208 katakana) s c) (c ∷ [])
 lost_step ref jis0208 katakana scalars s c lost = by (iso_2022_jp_form jis0208 katakana c) refl
   where
-    q : EscapeState
-    q = set_after (iso_2022_jp_sets jis0208 katakana c) s
-
-    one : IsOneByte q
-    one = lost_in_one_byte (nat_lt c 0x80) (c == 0x5C || c == 0x7E) (c == 0xA5) (c == 0x203E) (ascii_form c) (iso_2022_jp_pointer jis0208 katakana c) c s lost
-
-    by : (f : Form) → iso_2022_jp_form jis0208 katakana c ≡ f → IsBroken (pieces_from_set jis0208 s) (iso_2022_jp_escape s q ++ spelled ref f) (c ∷ [])
+    by : (f : Form) → iso_2022_jp_form jis0208 katakana c ≡ f → IsBroken (pieces_from_set jis0208 s) (iso_2022_jp_escape s (iso_2022_jp_set s c f) ++ spelled ref f) (c ∷ [])
     by (Mapped bs) is = absurd (lost (subst IsMapped (sym is) tt))
-    by (Unmapped d) is = lost_is_broken ref jis0208 scalars s q d c one (λ same. lost (subst (λ a. IsMapped (iso_2022_jp_form jis0208 katakana a)) (sym same) tt))
+    by (Unmapped d) is = lost_is_broken ref jis0208 scalars s (iso_2022_jp_set s c (Unmapped d)) d c (lost_in_one_byte s c d) (λ same. lost (subst (λ a. IsMapped (iso_2022_jp_form jis0208 katakana a)) (sym same) tt))
 
 -- ---- an escape that ends the bytes
 
 -- it is ignored
-last_escape : (jis0208 : List ℕ) → AreEntries jis0208 → (m : Mode) (q : EscapeState) → pieces_in_mode jis0208 m (iso_2022_jp_escape_to q) ≡ well_formed 3 [] ∷ []
+last_escape : (jis0208 : List ℕ) → AreEntries jis0208 → (m : Mode) (q : EscapeState) → pieces_in_mode jis0208 m (escape_to q) ≡ well_formed 3 [] ∷ []
 last_escape jis0208 scalars m Ascii = cons jis0208 scalars m 0x1B (0x28 ∷ 0x42 ∷ []) ∙ ap (λ ps. well_formed 3 [] ∷ ps) (iso_2022_jp_ends jis0208 ascii_mode)
 last_escape jis0208 scalars m Roman = cons jis0208 scalars m 0x1B (0x28 ∷ 0x4A ∷ []) ∙ ap (λ ps. well_formed 3 [] ∷ ps) (iso_2022_jp_ends jis0208 roman_mode)
 last_escape jis0208 scalars m Jis = cons jis0208 scalars m 0x1B (0x24 ∷ 0x42 ∷ []) ∙ ap (λ ps. well_formed 3 [] ∷ ps) (iso_2022_jp_ends jis0208 jis_mode)
 
 ends_with_escape : (jis0208 : List ℕ) → AreEntries jis0208 → (s q : EscapeState) → ReadsAs (pieces_from_set jis0208 s) (iso_2022_jp_escape s q) []
-ends_with_escape jis0208 scalars s q = either (is_same_set s q)
-  where
-    either : (t : Bool) → ReadsAs (pieces_from_set jis0208 s) (cond t [] (iso_2022_jp_escape_to q)) []
-    either true = let is = iso_2022_jp_ends jis0208 (mode_of s) in record { well_formed = subst AreWellFormed (sym is) tt; same = ap text is }
-    either false = let is = last_escape jis0208 scalars (mode_of s) q in record { well_formed = subst AreWellFormed (sym is) (tt, tt); same = ap text is }
+ends_with_escape jis0208 scalars s q = elim (escape_is s q) [
+  | inl none ↦ let is = iso_2022_jp_ends jis0208 (mode_of s) in rw none (record { well_formed = subst AreWellFormed (sym is) tt; same = ap text is })
+  | inr some ↦ let is = last_escape jis0208 scalars (mode_of s) q in rw some (record { well_formed = subst AreWellFormed (sym is) (tt, tt); same = ap text is })
+]
 
 -- but after it another makes it malformed
-escape_before_another : (jis0208 : List ℕ) → AreEntries jis0208 → (m : Mode) (q : EscapeState) → head_piece (pieces_in_mode jis0208 m (iso_2022_jp_escape_to q ++ iso_2022_jp_escape_to Ascii)) ≡ Some (malformed 3)
-escape_before_another jis0208 scalars m Ascii = ap head_piece (cons jis0208 scalars m 0x1B (0x28 ∷ 0x42 ∷ iso_2022_jp_escape_to Ascii))
-escape_before_another jis0208 scalars m Roman = ap head_piece (cons jis0208 scalars m 0x1B (0x28 ∷ 0x4A ∷ iso_2022_jp_escape_to Ascii))
-escape_before_another jis0208 scalars m Jis = ap head_piece (cons jis0208 scalars m 0x1B (0x24 ∷ 0x42 ∷ iso_2022_jp_escape_to Ascii))
+escape_before_another : (jis0208 : List ℕ) → AreEntries jis0208 → (m : Mode) (q : EscapeState) → head_piece (pieces_in_mode jis0208 m (escape_to q ++ escape_to Ascii)) ≡ Some (malformed 3)
+escape_before_another jis0208 scalars m Ascii = ap head_piece (cons jis0208 scalars m 0x1B (0x28 ∷ 0x42 ∷ escape_to Ascii))
+escape_before_another jis0208 scalars m Roman = ap head_piece (cons jis0208 scalars m 0x1B (0x28 ∷ 0x4A ∷ escape_to Ascii))
+escape_before_another jis0208 scalars m Jis = ap head_piece (cons jis0208 scalars m 0x1B (0x24 ∷ 0x42 ∷ escape_to Ascii))
 
-escape_is_undecided : (jis0208 : List ℕ) → AreEntries jis0208 → (m : Mode) (q : EscapeState) → IsUndecided (pieces_in_mode jis0208 m) (iso_2022_jp_escape_to q)
+escape_is_undecided : (jis0208 : List ℕ) → AreEntries jis0208 → (m : Mode) (q : EscapeState) → IsUndecided (pieces_in_mode jis0208 m) (escape_to q)
 escape_is_undecided jis0208 scalars m q = record {
-  more = iso_2022_jp_escape_to Ascii;
+  more = escape_to Ascii;
   bytes = (lit< tt, (lit< tt, (lit< tt, tt)));
   short = lit≤ tt;
   differs = λ same. clash (sym (ap head_piece (last_escape jis0208 scalars m q)) ∙ same ∙ escape_before_another jis0208 scalars m q);
@@ -381,9 +373,8 @@ iso_2022_jp_by_step jis0208 katakana scalars = record {
   lost = λ ref s c is lost. lost_step ref jis0208 katakana scalars s c lost;
   nothing = λ s. iso_2022_jp_ends jis0208 (mode_of s);
   ignored = ends_with_escape jis0208 scalars;
-  undecided = λ s s'. either (is_same_set s s') s s';
+  undecided = λ s s'. elim (escape_is s s') [
+    | inl none ↦ inl none
+    | inr some ↦ inr (rw some (escape_is_undecided jis0208 scalars (mode_of s) s'))
+  ];
 }
-  where
-    either : (t : Bool) (s s' : EscapeState) → (cond t [] (iso_2022_jp_escape_to s') ≡ []) ⊎ IsUndecided (pieces_from_set jis0208 s) (cond t [] (iso_2022_jp_escape_to s'))
-    either true s s' = inl refl
-    either false s s' = inr (escape_is_undecided jis0208 scalars (mode_of s) s')

@@ -1,7 +1,7 @@
 -- Laws of the rule of the encodings with characters of two bytes. Each is there for the whole rule, and for the parts
 -- from which a longer rule is built.
-use Rattle.std.proofs.Common.{◌≡◌, ℕ, suc, ◌+◌, ◌*◌, ◌<◌, ◌≤◌, Bool, true, false, cond, nat_lt, List, [], ◌∷◌, length, refl, ap, ◌∙◌, arith}
-use Rattle.std.specs.Char.{len_utf8, IsScalar}
+use Rattle.std.proofs.Common.{◌≡◌, ℕ, suc, ◌+◌, ◌<◌, ◌≤◌, Bool, true, false, cond, nat_lt, List, [], ◌∷◌, length, refl, ap, ◌∙◌, arith}
+use Rattle.std.specs.Char.{IsScalar}
 use Rattle.std.proofs.lemmas.Bool.{ltb-true, lt-ltb, and_from}
 use Rattle.std.proofs.lemmas.Bool.Decides.{nat_tests}
 use Rattle.std.proofs.Math.Utf8.{scalar}
@@ -11,10 +11,9 @@ use Rattle.encoding_mem.specs.laws.Pieces.{CutsEach}
 use Rattle.encoding_mem.specs.laws.Shows.{Shows, shows_cond, shows_cons, shows_const, shows_first_piece}
 use Rattle.encoding_mem.specs.calls.DecoderRule.{TellsFirstPiece, IsModest, cut_short}
 use Rattle.encoding_mem.specs.laws.Utf8.{cuts_cond, cuts_malformed, cuts_one}
-use Rattle.encoding_mem.specs.calls.Writing.{len_utf16}
 use Rattle.encoding_mem.specs.laws.Writing.{cost_fits, cost_fits16}
 use Rattle.encoding_mem.specs.declared.first_piece.FirstPiece.{FirstPiece}
-use Rattle.encoding_mem.specs.declared.first_piece.FirstPiece.TheVariants.{One, Malformed}
+use Rattle.encoding_mem.specs.declared.first_piece.FirstPiece.TheVariants.{Malformed}
 use Rattle.encoding_mem.specs.Decided.{AreBytes}
 use Rattle.encoding_codecs.specs.TwoByte.{first_piece_by_lead, piece_of_first, piece_of_trail, after_bytes, first_piece_two_byte}
 use Rattle.encoding_codecs.specs.laws.TwoByteDecide.{decide_of_first, decide_by_lead, decide_trail, decide_after}

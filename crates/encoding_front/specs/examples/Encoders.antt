@@ -10,6 +10,7 @@ use Rattle.encoding_front.specs.calls.Encoder.{ReplacingEndsWith, kept_back, que
 use Rattle.encoding_front.specs.declared.coder_result.CoderResult.{CoderResult}
 use Rattle.encoding_front.specs.declared.encoding.Encoding.TheVariants.{Iso2022Jp, Replacement, Utf8, Utf16Le, Windows1252, Big5, EucJp, EucKr, Gb18030, Gbk, ShiftJis, XUserDefined, Utf16Be}
 use Rattle.encoding_tables.specs.IndexLists.{IndexLists}
+use Rattle.encoding_tables.specs.examples.IndexLists.{no_flats}
 use Rattle.encoding_front.specs.Encodings.{coding_of}
 use Rattle.encoding_front.specs.declared.encoding.Encoding.{Encoding}
 use Rattle.encoding_mem.specs.declared.form.EscapeState.{EscapeState}
@@ -99,7 +100,7 @@ room_of_utf_8_with_kept = refl
 
 -- of ISO-2022-JP with no index: U+00A5 is written in Roman, and U+1F4A9 as a reference of 9 bytes
 unfoldable no_tables : IndexLists
-no_tables = record { flats = []; rows = None }
+no_tables = record { flats = no_flats; rows = None }
 
 abbrev yen_and_pile : List ℕ
 yen_and_pile = 0xA5 ∷ 0x1F4A9 ∷ []

@@ -5,7 +5,6 @@ use Rattle.encoding_front.specs.EncodingTable.{encodings, encoding_name}
 use Rattle.encoding_front.specs.Encodings.{is_ascii_compatible_of, is_single_byte_of, mark_at_start, needs_of, output_encoding_of, byte_order_marks, pieces_of, coding_of, set_pieces_of}
 use Rattle.encoding_front.specs.calls.CodecBounds.{need_of, decoded_length_of}
 use Rattle.encoding_front.specs.declared.encoding.Encoding.{Encoding}
-use Rattle.std.specs.List.{range_with_len}
 use Rattle.std.specs.Char.{encode_utf8}
 use Rattle.encoding_mem.specs.Piece.{well_formed, malformed}
 use Rattle.encoding_mem.specs.Pieces.{pieces_in}
@@ -14,6 +13,7 @@ use Rattle.encoding_mem.specs.declared.form.Form.TheVariants.{Mapped, Unmapped}
 use Rattle.encoding_mem.specs.declared.form.EscapeState.TheVariants.{Ascii, Roman, Jis}
 use Rattle.encoding_mem.specs.declared.room.OutputUnit.TheVariants.{Units, Bytes, Replaced}
 use Rattle.encoding_tables.specs.IndexLists.{IndexLists}
+use Rattle.encoding_tables.specs.calls.Slots.{slot_of}
 use Rattle.encoding_codecs.specs.Iso2022Jp.{pieces_in_mode}
 -- Written by tools/generate_encodings.py from tools/encodings.toml; do not edit.
 use Rattle.encoding_front.specs.declared.encoding.Encoding.TheVariants.{Big5, EucJp, EucKr, Gb18030, Gbk, Ibm866, Iso2022Jp, Iso8859_2, Iso8859_3, Iso8859_4, Iso8859_5, Iso8859_6, Iso8859_7, Iso8859_8, Iso8859_8I, Iso8859_10, Iso8859_13, Iso8859_14, Iso8859_15, Iso8859_16, Koi8R, Koi8U, Macintosh, Replacement, ShiftJis, Utf8, Utf16Be, Utf16Le, Windows874, Windows1250, Windows1251, Windows1252, Windows1253, Windows1254, Windows1255, Windows1256, Windows1257, Windows1258, XMacCyrillic, XUserDefined}
@@ -130,21 +130,18 @@ usize_of_utf_16 = refl
 
 -- each single-byte encoding with the scalar value at the pointer 0 of its own index, as the tables below have it
 -- Written by tools/generate_encodings.py from tools/encodings.toml; do not edit.
-abbrev kind_count : ℕ
-kind_count = 34
-
 unfoldable own_index : List (Encoding × ℕ)
 own_index = (Ibm866, 0x100) ∷ (Iso8859_2, 0x101) ∷ (Iso8859_3, 0x102) ∷ (Iso8859_4, 0x103) ∷ (Iso8859_5, 0x104) ∷ (Iso8859_6, 0x105) ∷ (Iso8859_7, 0x106) ∷ (Iso8859_8, 0x107) ∷ (Iso8859_8I, 0x107) ∷ (Iso8859_10, 0x108) ∷ (Iso8859_13, 0x109) ∷ (Iso8859_14, 0x10A) ∷ (Iso8859_15, 0x10B) ∷ (Iso8859_16, 0x10C) ∷ (Koi8R, 0x10D) ∷ (Koi8U, 0x10E) ∷ (Macintosh, 0x10F) ∷ (Windows874, 0x110) ∷ (Windows1250, 0x111) ∷ (Windows1251, 0x112) ∷ (Windows1252, 0x113) ∷ (Windows1253, 0x114) ∷ (Windows1254, 0x115) ∷ (Windows1255, 0x116) ∷ (Windows1256, 0x117) ∷ (Windows1257, 0x118) ∷ (Windows1258, 0x119) ∷ (XMacCyrillic, 0x11A) ∷ []
 
 -- end
 
--- Tables for examples: the index of the kind k has U+0100 + k at the pointer 0; that of jis0208 has beside it what the
+-- Tables for examples: the index in slot k has U+0100 + k at the pointer 0; that of jis0208 has beside it what the
 -- katakana have, and the ranges begin with U+0080.
-list_of : ℕ → Option (List ℕ)
-list_of k = Some ((0x100 + k) ∷ (if k == 31 then 0x121 else 0) ∷ [])
+list_of : IndexKind → Option (List ℕ)
+list_of kind = Some ((0x100 + slot_of kind) ∷ (if slot_of kind == slot_of IndexKind.Jis0208 then 0x121 else 0) ∷ [])
 
 unfoldable tables : IndexLists
-tables = record { flats = map list_of (range_with_len 0 kind_count); rows = Some ((0, 0x80) ∷ []) }
+tables = record { flats = list_of; rows = Some ((0, 0x80) ∷ []) }
 
 -- each single-byte encoding reads and writes its own index by 80, ISO-8859-8-I that of ISO-8859-8
 reads_own_index : map (λ (r : Encoding × ℕ). pieces_of tables r.0 (0x80 ∷ [])) own_index

@@ -1,7 +1,9 @@
 -- Worked rows of `specs/Marks.antt`.
-use Rattle.std.specs.Prelude.{◌≡◌, None, Some, [], ◌∷◌, ◌++◌, refl, replicate}
+use Rattle.std.specs.Prelude.{◌≡◌, None, [], ◌∷◌, ◌++◌, refl, replicate}
 use Rattle.encoding_mem.specs.Piece.{well_formed, malformed}
 use Rattle.encoding_tables.specs.IndexLists.{IndexLists}
+use Rattle.encoding_tables.specs.examples.IndexLists.{alone}
+use Rattle.encoding_tables.specs.declared.index_kind.IndexKind.{IndexKind}
 use Rattle.encoding_front.specs.declared.encoding.Encoding.{Encoding}
 use Rattle.encoding_front.specs.declared.mark.Mark.TheVariants.{Sniff, Remove, Keep}
 use Rattle.encoding_front.specs.Marks.{source_of, marked_pieces, marked_text}
@@ -62,7 +64,7 @@ empty_input t = refl
 
 -- an index of windows-1252 with U+00BB at 59 and U+00EF at 111: EF BB is no mark
 unfoldable windows_1252 : IndexLists
-windows_1252 = record { flats = replicate 19 None ++ (Some (replicate 59 0 ++ (0xBB ∷ (replicate 51 0 ++ (0xEF ∷ replicate 16 0)))) ∷ []); rows = None }
+windows_1252 = record { flats = alone IndexKind.Windows1252 (replicate 59 0 ++ (0xBB ∷ (replicate 51 0 ++ (0xEF ∷ replicate 16 0)))); rows = None }
 
 prefix_of_a_mark : marked_pieces windows_1252 Sniff Encoding.Windows1252 (0xEF ∷ 0xBB ∷ []) ≡ well_formed 1 (0xEF ∷ []) ∷ well_formed 1 (0xBB ∷ []) ∷ []
 unfolding windows_1252 pieces_in
@@ -71,7 +73,7 @@ prefix_of_a_mark = refl
 -- an index of windows-1257 with U+201A at 2, U+00A4 at 36, U+00AC at 44, U+00BB at 59, U+00E6 at 63, U+0106 at 67,
 -- U+0101 at 98 and U+013C at 111: the mark of UTF-8 is text if only an own mark is removed
 unfoldable windows_1257 : IndexLists
-windows_1257 = record { flats = replicate 24 None ++ (Some (0 ∷ 0 ∷ 0x201A ∷ (replicate 33 0 ++ (0xA4 ∷ (replicate 7 0 ++ (0xAC ∷ (replicate 14 0 ++ (0xBB ∷ (replicate 3 0 ++ (0xE6 ∷ (replicate 3 0 ++ (0x106 ∷ (replicate 30 0 ++ (0x101 ∷ (replicate 12 0 ++ (0x13C ∷ replicate 16 0))))))))))))))) ∷ []); rows = None }
+windows_1257 = record { flats = alone IndexKind.Windows1257 (0 ∷ 0 ∷ 0x201A ∷ (replicate 33 0 ++ (0xA4 ∷ (replicate 7 0 ++ (0xAC ∷ (replicate 14 0 ++ (0xBB ∷ (replicate 3 0 ++ (0xE6 ∷ (replicate 3 0 ++ (0x106 ∷ (replicate 30 0 ++ (0x101 ∷ (replicate 12 0 ++ (0x13C ∷ replicate 16 0))))))))))))))); rows = None }
 
 mark_as_text : marked_text windows_1257 Remove Encoding.Windows1257 (0xEF ∷ 0xBB ∷ 0xBF ∷ 0xE2 ∷ 0x82 ∷ 0xAC ∷ 0xC3 ∷ 0xA4 ∷ [])
     ≡ 0x13C ∷ 0xBB ∷ 0xE6 ∷ 0x101 ∷ 0x201A ∷ 0xAC ∷ 0x106 ∷ 0xA4 ∷ []

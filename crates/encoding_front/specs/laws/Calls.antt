@@ -1,8 +1,8 @@
 -- What callers conclude from calls: of a last call that read all, what it wrote; of an encoder's, how many characters
 -- without bytes are still to be reported.
-use Rattle.std.proofs.Common.{◌≡◌, ◌≢◌, ℕ, ◌<◌, ◌↔◌, ◌⊎◌, inl, inr, Bool, true, false, IsTrue, List, [], ◌++◌, drop, refl, sym, ◌∙◌, ap, subst, ◌+◌, arith}
+use Rattle.std.proofs.Common.{◌≡◌, ℕ, ◌<◌, ◌↔◌, inl, inr, Bool, true, IsTrue, List, [], ◌++◌, drop, refl, sym, ◌∙◌, ap, subst, ◌+◌, arith}
 use Rattle.std.proofs.lemmas.List.{append-nil}
-use Rattle.encoding_mem.specs.Piece.{Piece, text, scalars, malformed_count, AreWellFormed}
+use Rattle.encoding_mem.specs.Piece.{Piece, text, malformed_count, AreWellFormed}
 use Rattle.encoding_mem.specs.laws.Losses.{lost_count-append}
 use Rattle.encoding_mem.specs.laws.Piece.{well_formed_text}
 use Rattle.encoding_mem.specs.laws.ReadBack.{none_lost}

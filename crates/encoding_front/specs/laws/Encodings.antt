@@ -1,8 +1,8 @@
 -- What holds of every encoding.
-use Rattle.std.proofs.Common.{◌≡◌, ℕ, false, List, refl, subst, ap, ◌∙◌}
+use Rattle.std.proofs.Common.{◌≡◌, ℕ, List, refl, subst, ap, ◌∙◌}
 use Rattle.encoding_mem.specs.Agreement.{ReadsBackOrBreaks, ReadsByStep}
 use Rattle.encoding_mem.specs.Piece.{ArePieces}
-use Rattle.encoding_mem.specs.laws.Pieces.{pieces_by-are_pieces, pieces_in-are_pieces}
+use Rattle.encoding_mem.specs.laws.Pieces.{pieces_by-are_pieces}
 use Rattle.encoding_mem.specs.ReadBack.{ReadsBackExactly}
 use Rattle.encoding_mem.specs.Stateless.{HasOneSet}
 use Rattle.encoding_mem.specs.Steps.{StepLaw, in_any_set}
@@ -17,8 +17,7 @@ use Rattle.encoding_mem.specs.laws.Utf8.{cuts_utf8}
 use Rattle.encoding_tables.specs.IndexLists.{IndexLists, AreAcceptedTables, index_entries, range_rows}
 use Rattle.encoding_tables.specs.laws.SingleByteReadBack.{single_byte_by_step}
 use Rattle.encoding_tables.specs.laws.SingleByteTables.{entries_scalars, tables_are_pieces, tables_exact}
-use Rattle.encoding_tables.specs.Replacement.{first_piece_replacement, after_replacement}
-use Rattle.encoding_tables.specs.laws.Replacement.{cuts_replacement}
+use Rattle.encoding_tables.specs.laws.Replacement.{replacement_are_pieces}
 use Rattle.encoding_tables.specs.laws.UserDefined.{cuts_user_defined, user_defined_by_step, user_defined_exact, first_piece_user_defined}
 use Rattle.encoding_tables.specs.Utf16.{first_piece_utf16}
 use Rattle.encoding_tables.specs.laws.Utf16.{cuts_utf16}
@@ -54,7 +53,7 @@ are_pieces_in t (CodecKind.Gb18030 extended) taken x = gb18030_are_pieces t take
 are_pieces_in t CodecKind.Iso2022Jp taken x = iso_2022_jp_tables_are_pieces t taken x
 are_pieces_in t CodecKind.UserDefined taken x = pieces_by-are_pieces first_piece_user_defined cuts_user_defined x
 are_pieces_in t (CodecKind.Utf16 big_endian) taken x = pieces_by-are_pieces (first_piece_utf16 big_endian) (cuts_utf16 big_endian) x
-are_pieces_in t CodecKind.Replacement taken x = pieces_in-are_pieces first_piece_replacement after_replacement cuts_replacement false x
+are_pieces_in t CodecKind.Replacement taken x = replacement_are_pieces x
 
 pub are_pieces_of : (t : IndexLists) (e : Encoding) → AreAcceptedTables t → (x : List ℕ) → ArePieces (pieces_of t e x)
 are_pieces_of t e taken x = are_pieces_in t (codec_kind_of e) taken x

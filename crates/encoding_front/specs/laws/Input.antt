@@ -12,14 +12,13 @@ use Rattle.encoding_mem.specs.declared.reference.Reference.TheVariants.{Decimal}
 use Rattle.encoding_mem.specs.Coding.{output}
 use Rattle.encoding_mem.specs.Piece.{Piece, well_formed, malformed, text, piece_text, sizes, ArePieces}
 use Rattle.encoding_mem.specs.laws.Piece.{sizes-append, ArePieces-append}
-use Rattle.encoding_mem.specs.laws.Pieces.{pieces_by-whole, pieces_in-whole}
+use Rattle.encoding_mem.specs.laws.Pieces.{pieces_by-whole}
 use Rattle.encoding_mem.specs.Utf8.{first_piece_utf8}
 use Rattle.encoding_mem.specs.laws.Utf8.{cuts_utf8}
 use Rattle.std.proofs.lemmas.Bool.{and_parts}
 use Rattle.std.specs.Option.{unwrap_or}
 use Rattle.encoding_tables.specs.IndexLists.{IndexLists, AreAcceptedTables, index_entries, range_rows}
-use Rattle.encoding_tables.specs.Replacement.{first_piece_replacement, after_replacement}
-use Rattle.encoding_tables.specs.laws.Replacement.{cuts_replacement}
+use Rattle.encoding_tables.specs.laws.Replacement.{replacement_whole}
 use Rattle.encoding_tables.specs.laws.SingleByte.{cuts_single_byte, first_piece_single_byte}
 use Rattle.encoding_tables.specs.laws.SingleByteTables.{entries_scalars}
 use Rattle.encoding_tables.specs.laws.UserDefined.{cuts_user_defined, first_piece_user_defined}
@@ -72,7 +71,7 @@ whole_in t (CodecKind.Gb18030 extended) taken x =
 whole_in t CodecKind.Iso2022Jp taken x = iso_2022_jp_whole (index_entries t IndexKind.Jis0208) (entries_scalars t IndexKind.Jis0208 taken) ascii_mode x
 whole_in t CodecKind.UserDefined taken x = pieces_by-whole first_piece_user_defined cuts_user_defined x
 whole_in t (CodecKind.Utf16 big_endian) taken x = pieces_by-whole (first_piece_utf16 big_endian) (cuts_utf16 big_endian) x
-whole_in t CodecKind.Replacement taken x = pieces_in-whole first_piece_replacement after_replacement cuts_replacement false x
+whole_in t CodecKind.Replacement taken x = replacement_whole x
 
 pub whole_of : (t : IndexLists) (e : Encoding) → AreAcceptedTables t → (x : List ℕ) → sizes (pieces_of t e x) ≡ length x
 whole_of t e taken x = whole_in t (codec_kind_of e) taken x

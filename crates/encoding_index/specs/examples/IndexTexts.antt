@@ -7,6 +7,7 @@ use Rattle.encoding_index.specs.declared.fault.IndexFaultKind.{IndexFaultKind}
 use Rattle.encoding_index.specs.declared.fault.IndexFaultKind.TheVariants.{Row, Order, Pointer, Memory}
 use Rattle.encoding_index.specs.Loads.{pointers_of, load_fault}
 use Rattle.encoding_tables.specs.IndexLists.{IndexLists}
+use Rattle.encoding_tables.specs.examples.IndexLists.{alone, no_flats}
 use Rattle.encoding_index.specs.declared.fault.LoadFault.{LoadFault}
 use Rattle.encoding_tables.specs.declared.index_kind.IndexKind.TheVariants.{Ibm866, Big5, EucKr, Gb18030, Gb18030Ranges, Jis0208, Jis0212, Iso2022JpKatakana}
 use Rattle.encoding_tables.specs.declared.table_fault.TableFault.TheVariants.{Entry, Reserved, Present, Ranges}
@@ -124,10 +125,10 @@ sizes = refl
 
 -- what a load returns first: the fault of the text, then that of the tables
 unfoldable empty_tables : IndexLists
-empty_tables = record { flats = []; rows = None }
+empty_tables = record { flats = no_flats; rows = None }
 
 unfoldable with_ibm866 : IndexLists
-with_ibm866 = record { flats = Some (replicate 128 0) ∷ []; rows = Some [] }
+with_ibm866 = record { flats = alone Ibm866 (replicate 128 0); rows = Some [] }
 
 ascii_entry : load_fault empty_tables Ibm866 (codes "0\t0x0041") ≡ Some (LoadFault.Table (Entry 0))
 unfolding load_fault is_skipped row_in row_fault empty_tables

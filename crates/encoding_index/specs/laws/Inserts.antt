@@ -2,7 +2,7 @@
 use Rattle.std.specs.Prelude.{◌≡◌, ℕ, is_some, if◌then◌else◌, List, Option, Some}
 use Rattle.std.specs.Bool.{MatchBool}
 use Rattle.encoding_tables.specs.Kinds.{index_size, is_ranges}
-use Rattle.encoding_tables.specs.IndexLists.{IndexLists, flat_of, has}
+use Rattle.encoding_tables.specs.IndexLists.{IndexLists, has}
 use Rattle.encoding_tables.specs.PackedRows.{flat_list}
 use Rattle.encoding_tables.specs.TableFaults.{flat_fault, range_fault}
 use Rattle.encoding_tables.specs.declared.index_kind.IndexKind.{IndexKind}
@@ -15,4 +15,4 @@ rows_fault tables kind rows =
 
 -- the tables have what the rows stand for
 abbrev pub HaveRows : IndexLists → IndexKind → List (ℕ × ℕ) → Type 0
-HaveRows tables kind rows = MatchBool (is_ranges kind) (tables.rows ≡ Some rows) (flat_of tables kind ≡ Some (flat_list (index_size kind) rows))
+HaveRows tables kind rows = MatchBool (is_ranges kind) (tables.rows ≡ Some rows) (tables.flats kind ≡ Some (flat_list (index_size kind) rows))

@@ -1,11 +1,20 @@
 -- Worked rows of `specs/IndexLists.antt`.
-use Rattle.std.specs.Prelude.{◌≡◌, true, false, [], ◌∷◌, ◌++◌, None, Some, replicate, refl}
+use Rattle.std.specs.Prelude.{◌≡◌, ℕ, true, false, List, [], ◌∷◌, ◌==◌, if◌then◌else◌, Option, None, Some, refl}
+use Rattle.encoding_tables.specs.declared.index_kind.IndexKind.{IndexKind}
 use Rattle.encoding_tables.specs.declared.index_kind.IndexKind.TheVariants.{Ibm866, Big5, Gb18030Ranges, Jis0208}
 use Rattle.encoding_tables.specs.IndexLists.{IndexLists, has, index_entries, range_rows}
+use Rattle.encoding_tables.specs.calls.Slots.{slot_of}
 
--- IBM866, which is the first kind, and the ranges; the list is a short one for examples
+-- lists for examples: none, or of one kind alone
+abbrev pub no_flats : IndexKind → Option (List ℕ)
+no_flats kind = None
+
+abbrev pub alone : IndexKind → List ℕ → IndexKind → Option (List ℕ)
+alone kind flat other = if slot_of other == slot_of kind then Some flat else None
+
+-- IBM866 and the ranges; the list is a short one for examples
 abbrev two_indexes : IndexLists
-two_indexes = record { flats = Some (0x410 ∷ []) ∷ replicate 33 None; rows = Some ((0, 0x80) ∷ []) }
+two_indexes = record { flats = alone Ibm866 (0x410 ∷ []); rows = Some ((0, 0x80) ∷ []) }
 
 ibm866_is_there : has two_indexes Ibm866 ≡ true
 ibm866_is_there = refl
@@ -19,12 +28,14 @@ ranges_are_there = refl
 entries_of_ibm866 : index_entries two_indexes Ibm866 ≡ 0x410 ∷ []
 entries_of_ibm866 = refl
 
+no_entries_of_jis0208 : index_entries two_indexes Jis0208 ≡ []
+no_entries_of_jis0208 = refl
+
 rows_of_ranges : range_rows two_indexes ≡ (0, 0x80) ∷ []
 rows_of_ranges = refl
 
--- JIS X 0208 is the kind after 31 others
-jis0208_alone : index_entries (record { flats = replicate 31 None ++ (Some (0x3000 ∷ []) ∷ replicate 2 None); rows = None }) Jis0208 ≡ 0x3000 ∷ []
-jis0208_alone = refl
-
-no_ranges : has (record { flats = replicate 34 None; rows = None }) Gb18030Ranges ≡ false
+no_ranges : has (record { flats = no_flats; rows = None }) Gb18030Ranges ≡ false
 no_ranges = refl
+
+no_rows : range_rows (record { flats = no_flats; rows = None }) ≡ []
+no_rows = refl

@@ -1,9 +1,7 @@
 -- Worked rows of `specs/Kinds.antt`: the indexes of the Encoding Standard, section 5.
 use Rattle.std.specs.Prelude.{◌≡◌, List, [], ◌∷◌, ◌++◌, filter, length, map, replicate, refl}
-use Rattle.std.specs.List.{range_with_len}
 use Rattle.encoding_tables.specs.declared.index_kind.IndexKind.{IndexKind}
-use Rattle.encoding_tables.specs.Kinds.{number, index_size, is_ranges, is_single_byte_kind}
-use Rattle.encoding_tables.specs.laws.Kinds.{all_kinds}
+use Rattle.encoding_tables.specs.Kinds.{index_size, is_big5, is_ranges, is_single_byte_kind}
 -- Written by tools/generate_encodings.py from tools/encodings.toml; do not edit.
 use Rattle.encoding_tables.specs.declared.index_kind.IndexKind.TheVariants.{Ibm866, Iso8859_2, Iso8859_3, Iso8859_4, Iso8859_5, Iso8859_6, Iso8859_7, Iso8859_8, Iso8859_10, Iso8859_13, Iso8859_14, Iso8859_15, Iso8859_16, Koi8R, Koi8U, Macintosh, Windows874, Windows1250, Windows1251, Windows1252, Windows1253, Windows1254, Windows1255, Windows1256, Windows1257, Windows1258, XMacCyrillic, Big5, EucKr, Gb18030, Gb18030Ranges, Jis0208, Jis0212, Iso2022JpKatakana}
 
@@ -54,10 +52,8 @@ ranges = refl
 with_rows : filter is_ranges (single_byte_kinds ++ other_kinds) ≡ Gb18030Ranges ∷ []
 with_rows = refl
 
+of_big5 : filter is_big5 (single_byte_kinds ++ other_kinds) ≡ Big5 ∷ []
+of_big5 = refl
+
 of_single_byte_encodings : filter is_single_byte_kind (single_byte_kinds ++ other_kinds) ≡ single_byte_kinds
 of_single_byte_encodings = refl
-
--- each kind has its number in this order
-places : map number all_kinds ≡ range_with_len 0 (length all_kinds)
-unfolding all_kinds
-places = refl

@@ -1,5 +1,5 @@
 -- Laws of the pieces and the forms of a single-byte encoding.
-use Rattle.std.proofs.Common.{◌≡◌, ℕ, ◌-◌, ◌<◌, Bool, List, [], ◌∷◌, length, refl, arith, lit<, Option, None, Some, inl, inr}
+use Rattle.std.proofs.Common.{◌≡◌, ℕ, ◌-◌, ◌<◌, Bool, List, [], ◌∷◌, length, refl, arith, inl, inr}
 use Rattle.std.specs.Prelude.{slice_index, IfSome}
 use Rattle.std.specs.Char.{IsScalar}
 use Rattle.std.proofs.lemmas.Bool.{cases_lt, cases_eq, lt-ltb, le-ltb, eq-eqb, ne_eqb}
@@ -8,7 +8,7 @@ use Rattle.encoding_mem.specs.Coding.{IsCoding}
 use Rattle.encoding_mem.specs.calls.EncodedLength.{IsRoomFor, encoded_length_single_byte}
 use Rattle.encoding_mem.specs.Piece.{well_formed, piece_of_scalar, Piece}
 use Rattle.encoding_mem.specs.laws.Pieces.{CutsEach}
-use Rattle.encoding_mem.specs.calls.DecoderRule.{TellsFirstPiece, IsBasic}
+use Rattle.encoding_mem.specs.calls.DecoderRule.{TellsFirstPiece}
 use Rattle.encoding_mem.specs.declared.form.Form.TheVariants.{Mapped}
 use Rattle.encoding_tables.specs.EachByte.{form_by_byte, first_piece_by_byte}
 use Rattle.encoding_tables.specs.laws.EachByte.{AreScalars, first_piece_of_byte, cuts_by_byte, first_piece_by_first, laws_by_byte, fits_by_byte, pieces_by_byte-cons}

@@ -4,7 +4,7 @@ use Rattle.std.specs.Prelude.{IfSome}
 use Rattle.std.specs.Option.{unwrap_or}
 use Rattle.encoding_mem.specs.Piece.{ArePieces}
 use Rattle.encoding_mem.specs.ReadBack.{ReadsBackExactly}
-use Rattle.encoding_tables.specs.IndexLists.{IndexLists, flat_of, index_entries, AreAcceptedTables}
+use Rattle.encoding_tables.specs.IndexLists.{IndexLists, index_entries, AreAcceptedTables}
 use Rattle.encoding_tables.specs.Lookups.{AreEntries}
 use Rattle.encoding_tables.specs.TableFaults.{flat_fault}
 use Rattle.encoding_tables.specs.laws.TableFaults.{is_index, entries_are_scalars}
@@ -18,7 +18,7 @@ scalars_of kind None h = λ p mapped. absurd (mapped refl)
 scalars_of kind (Some flat) h = entries_are_scalars kind flat (is_index kind flat h)
 
 pub entries_scalars : (t : IndexLists) (kind : IndexKind) → AreAcceptedTables t → AreEntries (index_entries t kind)
-entries_scalars t kind h = scalars_of kind (flat_of t kind) (h.0 kind)
+entries_scalars t kind h = scalars_of kind (t.flats kind) (h.0 kind)
 
 -- its pieces are pieces
 pub tables_are_pieces : (t : IndexLists) (kind : IndexKind) → AreAcceptedTables t → (x : List ℕ) → ArePieces (pieces_single_byte (index_entries t kind) x)

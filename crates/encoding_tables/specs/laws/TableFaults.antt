@@ -4,20 +4,19 @@ use Rattle.std.specs.Prelude.{not, ◌||◌, ◌&&◌, ◌==◌, slice_range, mi
 use Rattle.std.specs.Char.{InScalarRange, IsScalar}
 use Rattle.std.specs.List.{position, position_or_len}
 use Rattle.std.specs.Option.{option_map, option_or}
-use Rattle.std.proofs.lemmas.Bool.{cases_lt, cases_eq, cases_Bool, lt-ltb, le-ltb, ltb-true, ltb-false, eq-eqb, ne_eqb, eqb-true, and_parts, or_cases, not-true, not-false}
+use Rattle.std.proofs.lemmas.Bool.{cases_lt, cases_eq, lt-ltb, le-ltb, ltb-true, ltb-false, eq-eqb, ne_eqb, eqb-true, and_parts, or_cases, not-true, not-false}
 use Rattle.std.proofs.lemmas.Bool.Decides.{nat_tests}
 use Rattle.std.proofs.lemmas.List.{get_or_past}
 use Rattle.std.proofs.lemmas.List.Edits.{get_or-between}
 use Rattle.std.proofs.lemmas.List.Sums.{fails_before_first, position_or_len_is}
-use Rattle.encoding_tables.specs.Kinds.{number, index_size, is_single_byte_kind}
+use Rattle.encoding_tables.specs.Kinds.{index_size, is_big5, is_single_byte_kind}
 use Rattle.encoding_tables.specs.Lookups.{AreEntries}
 use Rattle.encoding_tables.specs.laws.SingleByte.{AreBasic}
-use Rattle.encoding_tables.specs.TableFaults.{flat_fault, is_entry_of, is_same_kind, first_bad_entry, first_reserved, reserved_fault}
+use Rattle.encoding_tables.specs.TableFaults.{flat_fault, is_entry_of, first_bad_entry, first_reserved, reserved_fault}
 use Rattle.encoding_tables.specs.Accepted.{IsEntry, IsIndex, AcceptanceIsExact}
 use Rattle.encoding_tables.specs.declared.index_kind.IndexKind.{IndexKind}
 use Rattle.encoding_tables.specs.declared.index_kind.IndexKind.TheVariants.{Big5, Jis0208}
 use Rattle.encoding_tables.specs.declared.table_fault.TableFault.TheVariants.{Size, Entry, Reserved}
-use Rattle.encoding_tables.specs.laws.Kinds.{number-same}
 use Rattle.encoding_tables.specs.laws.OptionCases.{option_or_none, if_none, if_some_none, map_none}
 
 -- a test that passes nowhere
@@ -39,8 +38,12 @@ in_range v h = grind (arith, nat_tests)
 is_scalar : (v : ℕ) → InScalarRange v → IsScalar v
 is_scalar v h = grind (arith, nat_tests)
 
+big5_is : (kind : IndexKind) → is_big5 kind ≡ true → kind ≡ Big5
+big5_is Big5 e = refl
+big5_is _ e = cc
+
 is_entry : (kind : IndexKind) (v : ℕ) → is_entry_of kind v ≡ true → v ≢ 0 → IsEntry kind v
-is_entry kind v e mapped = elim (or_cases (v == 0 || not (nat_lt v 0x80) && nat_lt v 0xD800 || not (nat_lt v 0xE000) && nat_lt v 0x10000) (is_same_kind kind Big5 && not (nat_lt v 0x20000) && nat_lt v 0x30000) e) [
+is_entry kind v e mapped = elim (or_cases (v == 0 || not (nat_lt v 0x80) && nat_lt v 0xD800 || not (nat_lt v 0xE000) && nat_lt v 0x10000) (is_big5 kind && not (nat_lt v 0x20000) && nat_lt v 0x30000) e) [
   | inl basic ↦ elim (or_cases (v == 0 || not (nat_lt v 0x80) && nat_lt v 0xD800) (not (nat_lt v 0xE000) && nat_lt v 0x10000) basic) [
     | inl low ↦ elim (or_cases (v == 0) (not (nat_lt v 0x80) && nat_lt v 0xD800) low) [
       | inl nil ↦ absurd (mapped (eqb-true v 0 nil))
@@ -56,14 +59,14 @@ is_entry kind v e mapped = elim (or_cases (v == 0 || not (nat_lt v 0x80) && nat_
         record { scalar = is_scalar v (inr (from, omega arith)); high = omega arith; plane = inl below }
   ]
   | inr far ↦
-      let parts = and_parts (is_same_kind kind Big5 && not (nat_lt v 0x20000)) (nat_lt v 0x30000) far in
-      let both = and_parts (is_same_kind kind Big5) (not (nat_lt v 0x20000)) parts.0 in
+      let parts = and_parts (is_big5 kind && not (nat_lt v 0x20000)) (nat_lt v 0x30000) far in
+      let both = and_parts (is_big5 kind) (not (nat_lt v 0x20000)) parts.0 in
       let from : 0x20000 ≤ v = ltb-false v 0x20000 (not-true (nat_lt v 0x20000) both.1) in
       let below : v < 0x30000 = ltb-true v 0x30000 parts.1 in
       record {
         scalar = is_scalar v (inr (omega arith, omega arith));
         high = omega arith;
-        plane = inr (number-same kind Big5 (eqb-true (number kind) (number Big5) both.0), from, below);
+        plane = inr (big5_is kind both.0, from, below);
       }
 ]
 
@@ -141,6 +144,10 @@ is_index kind flat taken =
     reserved : kind ≡ Jis0208 → reserved_fault kind flat ≡ None → (p : ℕ) → 8836 ≤ p → p < 10716 → get_or flat p 0 ≡ 0
     reserved is none = free_of flat (map_none Reserved (first_reserved flat) (rw is at none))
 
+reserved_none : (kind : IndexKind) (flat : List ℕ) → (kind ≡ Jis0208 → first_reserved flat ≡ None) → reserved_fault kind flat ≡ None
+reserved_none Jis0208 flat none = ap (option_map Reserved) (none refl)
+reserved_none _ flat none = refl
+
 no_fault_of : (kind : IndexKind) (flat : List ℕ) → IsIndex kind flat → flat_fault false kind flat ≡ None
 no_fault_of kind flat h =
     rw (eq-eqb (length flat) (index_size kind) h.size, position_none (λ v. not (is_entry_of kind v)) flat fits) none
@@ -152,10 +159,7 @@ no_fault_of kind flat h =
     ]
 
     none : reserved_fault kind flat ≡ None
-    none = elim (cases_Bool (is_same_kind kind Jis0208)) [
-      | inl is ↦ rw (is, none_reserved flat (h.reserved (number-same kind Jis0208 (eqb-true (number kind) (number Jis0208) is)))) refl
-      | inr other ↦ rw other refl
-    ]
+    none = reserved_none kind flat (λ is. none_reserved flat (h.reserved is))
 
 pub acceptance_is_exact : AcceptanceIsExact
 acceptance_is_exact kind flat = (is_index kind flat, no_fault_of kind flat)

@@ -10,6 +10,8 @@ use Rattle.encoding_mem.specs.Utf8.{pieces_utf8}
 use Rattle.encoding_mem.specs.Utf8Coding.{utf8_coding}
 use Rattle.encoding_tables.specs.SingleByte.{pieces_single_byte, single_byte_coding}
 use Rattle.encoding_tables.specs.IndexLists.{IndexLists}
+use Rattle.encoding_tables.specs.examples.IndexLists.{alone, no_flats}
+use Rattle.encoding_tables.specs.declared.index_kind.IndexKind.{IndexKind}
 use Rattle.encoding_front.specs.Encodings.{coding_of}
 use Rattle.encoding_front.specs.declared.encoding.Encoding.{Encoding}
 use Rattle.recode_log.specs.declared.line.LogLine.TheVariants.{Bad, Lost}
@@ -73,22 +75,22 @@ Gives j input written lines = (output_of j input ≡ written) × (log_of j input
 -- No index; of jis0208 U+30CF at 422; of Big5 U+5341 at 5287 and 5512; of EUC-KR U+AC00 at 9026; of gb18030 U+4E04 at 1
 -- and ranges that give U+10000 to 189000; of windows-1252 U+00BB at 59 and U+00EF at 111.
 unfoldable no_tables : IndexLists
-no_tables = record { flats = []; rows = None }
+no_tables = record { flats = no_flats; rows = None }
 
 unfoldable ha : IndexLists
-ha = record { flats = replicate 31 None ++ (Some (replicate 422 0 ++ (0x30CF ∷ [])) ∷ []); rows = None }
+ha = record { flats = alone IndexKind.Jis0208 (replicate 422 0 ++ (0x30CF ∷ [])); rows = None }
 
 unfoldable ten : IndexLists
-ten = record { flats = replicate 27 None ++ (Some (replicate 5287 0 ++ (0x5341 ∷ (replicate 224 0 ++ (0x5341 ∷ [])))) ∷ []); rows = None }
+ten = record { flats = alone IndexKind.Big5 (replicate 5287 0 ++ (0x5341 ∷ (replicate 224 0 ++ (0x5341 ∷ [])))); rows = None }
 
 unfoldable korean : IndexLists
-korean = record { flats = replicate 28 None ++ (Some (replicate 9026 0 ++ (0xAC00 ∷ [])) ∷ []); rows = None }
+korean = record { flats = alone IndexKind.EucKr (replicate 9026 0 ++ (0xAC00 ∷ [])); rows = None }
 
 unfoldable chinese : IndexLists
-chinese = record { flats = replicate 29 None ++ (Some (0 ∷ 0x4E04 ∷ []) ∷ []); rows = Some ((189000, 0x10000) ∷ []) }
+chinese = record { flats = alone IndexKind.Gb18030 (0 ∷ 0x4E04 ∷ []); rows = Some ((189000, 0x10000) ∷ []) }
 
 unfoldable windows_1252 : IndexLists
-windows_1252 = record { flats = replicate 19 None ++ (Some (replicate 59 0 ++ (0xBB ∷ (replicate 51 0 ++ (0xEF ∷ replicate 16 0)))) ∷ []); rows = None }
+windows_1252 = record { flats = alone IndexKind.Windows1252 (replicate 59 0 ++ (0xBB ∷ (replicate 51 0 ++ (0xEF ∷ replicate 16 0)))); rows = None }
 
 -- UTF-8 to UTF-8: a surrogate is three malformed sequences of one byte
 surrogate : (j : Job) → Gives (job j no_tables Encoding.Utf8 Encoding.Utf8 Keep) (0x61 ∷ 0xED ∷ 0xA0 ∷ 0x80 ∷ 0x5A ∷ []) (0x61 ∷ 0xEF ∷ 0xBF ∷ 0xBD ∷ 0xEF ∷ 0xBF ∷ 0xBD ∷ 0xEF ∷ 0xBF ∷ 0xBD ∷ 0x5A ∷ []) (codes "bad 1 1\nbad 2 1\nbad 3 1\n")
@@ -299,7 +301,7 @@ unfolding pieces_in chinese
 unfaithful_private_use j faithful = faithful.target.0
 
 unfoldable with_private_use : IndexLists
-with_private_use = record { flats = replicate 29 None ++ (Some (replicate 23775 0 ++ (0xE81E ∷ [])) ∷ []); rows = Some [] }
+with_private_use = record { flats = alone IndexKind.Gb18030 (replicate 23775 0 ++ (0xE81E ∷ [])); rows = Some [] }
 
 faithful_private_use : (j : Job) → Faithful (job j with_private_use Encoding.Utf8 Encoding.Gb18030 Sniff) (0xEE ∷ 0xA0 ∷ 0x9E ∷ [])
 unfolding pieces_in with_private_use

@@ -4,6 +4,7 @@ use Rattle.std.specs.Char.{encode_utf8}
 use Rattle.encoding_mem.specs.Piece.{malformed, well_formed}
 use Rattle.encoding_mem.specs.Pieces.{pieces_in}
 use Rattle.encoding_codecs.specs.Iso2022Jp.{pieces_in_mode}
+use Rattle.encoding_tables.specs.examples.IndexLists.{no_flats}
 use Rattle.encoding_front.specs.declared.encoding.Encoding.{Encoding}
 use Rattle.encoding_front.specs.declared.encoding.Encoding.TheVariants.{Iso2022Jp, ShiftJis, Utf16Le, XUserDefined}
 use Rattle.recode_places.specs.Fates.{Target, fate_of, fate_read_back, read_alone}
@@ -11,7 +12,7 @@ use Rattle.recode_places.specs.declared.fates.Fate.TheVariants.{Folded, Kept, Lo
 
 -- an encoding without indexes
 abbrev in_encoding : Encoding → Target
-in_encoding e = record { tables = record { flats = []; rows = None }; encoding = e }
+in_encoding e = record { tables = record { flats = no_flats; rows = None }; encoding = e }
 
 -- in Shift_JIS `a` is kept, the yen sign is written as a backslash, and U+65E5 is lost without an index
 of_shift_jis : map (fate_of (in_encoding ShiftJis)) (0x61 ∷ 0xA5 ∷ 0x65E5 ∷ []) ≡ Kept ∷ Folded (Some 0x5C) ∷ Lost ∷ []

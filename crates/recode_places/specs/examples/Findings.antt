@@ -2,6 +2,7 @@
 use Rattle.std.specs.Prelude.{◌≡◌, Bool, false, true, None, Some, [], ◌∷◌, refl}
 use Rattle.encoding_mem.specs.Piece.{malformed, well_formed}
 use Rattle.encoding_mem.specs.Pieces.{pieces_in}
+use Rattle.encoding_tables.specs.examples.IndexLists.{no_flats}
 use Rattle.encoding_front.specs.declared.encoding.Encoding.TheVariants.{ShiftJis}
 use Rattle.recode_places.specs.Fates.{fate_of}
 use Rattle.recode_places.specs.Findings.{Asked, found_in, found_in_text}
@@ -9,7 +10,7 @@ use Rattle.recode_places.specs.declared.entry.Finding.TheVariants.{Folded, Lost,
 
 -- no log, and Shift_JIS without its index
 abbrev asking : (folds : Bool) → Asked
-asking folds = record { has_log = false; target = Some (record { tables = record { flats = []; rows = None }; encoding = ShiftJis }); folds = folds }
+asking folds = record { has_log = false; target = Some (record { tables = record { flats = no_flats; rows = None }; encoding = ShiftJis }); folds = folds }
 
 -- of `a`, the yen sign and U+65E5, which has no bytes: the first has index 7
 of_folds : found_in_text (asking true) 7 (0x61 ∷ 0xA5 ∷ 0x65E5 ∷ []) ≡ (8, Folded 0xA5 (Some 0x5C)) ∷ (9, Lost 0x65E5) ∷ []
