@@ -1,8 +1,7 @@
 -- From steps to runs.
-use Rattle.std.proofs.Common.{◌≡◌, ℕ, ◌+◌, ◌*◌, ◌≤◌, ◌-◌, ◌↔◌, true, IsTrue, List, [], ◌∷◌, ◌++◌, length, sym, ◌∙◌, ap, subst, arith, append-nil, min}
-use Rattle.encoding_mem.specs.Piece.{Piece, well_formed, malformed, AreWellFormed, malformed_count}
+use Rattle.std.proofs.Common.{◌≡◌, ℕ, ◌+◌, ◌*◌, ◌≤◌, ◌-◌, ◌↔◌, true, IsTrue, List, [], ◌++◌, length, sym, ◌∙◌, ap, subst, arith, append-nil, min}
+use Rattle.encoding_mem.specs.Piece.{AreWellFormed, malformed_count}
 use Rattle.encoding_mem.specs.Coding.{AllMapped, lost_count}
-use Rattle.encoding_mem.specs.declared.form.EscapeState.TheVariants.{Ascii}
 use Rattle.encoding_front.specs.Encodings.{KeepsCharacters}
 use Rattle.encoding_front.specs.laws.Encodings.{reads_back_exactly}
 use Rattle.encoding_front.specs.laws.Input.{marked_scalars}
@@ -23,16 +22,10 @@ use Rattle.recode.specs.declared.job.Job.{Job}
 use Rattle.recode.specs.declared.job.Policy.{Policy}
 use Rattle.recode.specs.declared.job.Report.{Report}
 use Rattle.recode.proofs.LatencyLemmas.{stands_run, wrote_decided}
-use Rattle.recode.proofs.StepLemmas.{HasStopped, left_as}
-use Rattle.recode.proofs.StopLemmas.{mapped_where_faithful, output_where_mapped, quiet_where_kept, trace_where_spared, whole_within}
+use Rattle.recode.proofs.StepLemmas.{HasStopped}
+use Rattle.recode.proofs.StopLemmas.{bads_of, losts_of, mapped_where_faithful, output_where_mapped, quiet_where_kept, trace_where_spared, whole_within}
 use Rattle.recode.proofs.WorkLemmas.{items_split}
-use Rattle.recode.specs.laws.Items.{output_bytes-append, log_bytes-append, bad_line_count-trace, lost_line_count-trace}
-
--- No malformed sequence.
-pub none_malformed : (ps : List Piece) → malformed_count ps ≡ 0 → AreWellFormed ps
-none_malformed [] h = tt
-none_malformed (well_formed n cs ∷ ps) h = (tt, none_malformed ps h)
-none_malformed (malformed n ∷ ps) h = absurd (omega arith)
+use Rattle.recode.specs.laws.Items.{output_bytes-append, log_bytes-append}
 
 -- nothing was lost if each piece is well-formed and each character has bytes, and only then
 pub faithful_where_kept : (j : Job) (x : List ℕ) → IsValidJob j → KeepsCharacters j.to → AreWellFormed (input_pieces j x) → AllMapped (target_of j) (input_text j x) → Faithful j x
@@ -52,8 +45,8 @@ is_report : (j : Job) (x : List ℕ) (v w : View) (p : Report) → IsNewSession 
     → TakesAtLeast (3 * (w.state.counts.bad - v.state.counts.bad) + 2 * min 1 (length x) + 2) v.state.counts w.state.counts → AreSound w.state.decoder.pending w.state.counts → IsReport j x p
 is_report j x v w p b t same read_is malformed_is lost_is told valid within calls least sound =
     let e = target_of j in
-    let bads : p.bad ≡ malformed_count (input_pieces j x) = omega (arith, t.bad, malformed_is, b.bad, bad_line_count-trace (reference_form j.policy) e Ascii 0 0 (input_pieces j x)) in
-    let losts : p.lost ≡ lost_count e (input_text j x) = omega (arith, t.lost, lost_is, b.lost, lost_line_count-trace (reference_form j.policy) e Ascii 0 0 (input_pieces j x)) in
+    let bads : p.bad ≡ malformed_count (input_pieces j x) = omega (arith, t.bad, malformed_is, b.bad, bads_of j x) in
+    let losts : p.lost ≡ lost_count e (input_text j x) = omega (arith, t.lost, lost_is, b.lost, losts_of j x) in
     let read : p.read ≡ length x = omega (arith, t.read, read_is, b.read) in
     let most : p.calls ≤ 37 * p.read + 9 = omega (arith, t.calls, t.read, calls, b.calls, b.index, b.read, b.bad, b.lost, read_is, malformed_is, lost_is, sound.index, sound.bad, sound.lost, ap length (b.owes_trace x), items_split (whole_trace j x), whole_within j x valid) in
     record {
@@ -81,7 +74,7 @@ completes before after j v u p valid b f t =
       converted = record {
         whole = record {
           within = within;
-          unstopped = λ stops. sym (lost_line_count-trace (reference_form j.policy) (target_of j) Ascii 0 0 (input_pieces j x)) ∙ spared stops;
+          unstopped = λ stops. sym (losts_of j x) ∙ spared stops;
           output = wrote.output;
           logged = wrote.lined;
         };
@@ -98,7 +91,8 @@ prefix_lines t u f = (log_bytes f.0, ap log_bytes f.1 ∙ log_bytes-append t f.0
 pub fails : (before after : Devices) (j : Job) (v : View) (f : Fault) → IsNewSession v j → HasStopped before after j.limit v.state f → Fails before after j f
 fails before after j v f b s =
     let left : (r : List ℕ) → (s.read.ended ≡ true → r ≡ []) → IsLeft j.policy f s.pays.taken (whole_trace j (s.read.input ++ r)) =
-    λ r h. subst (IsLeft j.policy f s.pays.taken) (b.owes_trace (s.read.input ++ r)) (left_as v.state.policy j.policy f s.pays.taken (to_write v.state (s.read.input ++ r)) b.policy (s.pays.left r h)) in
+    λ r h. subst (λ (p : Policy). IsLeft p f s.pays.taken (whole_trace j (s.read.input ++ r))) b.policy
+    (subst (IsLeft v.state.policy f s.pays.taken) (b.owes_trace (s.read.input ++ r)) (s.pays.left r h)) in
     record {
       read = s.read;
       within = omega (arith, s.within, b.read);

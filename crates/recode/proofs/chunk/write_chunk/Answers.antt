@@ -5,15 +5,25 @@ use Rattle.recode.specs.Converter.{found_items}
 use Rattle.recode.specs.Policy.{reference_form}
 use Rattle.recode.specs.WrittenItems.{IsSpared}
 use Rattle.recode.specs.calls.EngineView.{standing}
-use Rattle.recode.specs.calls.Writers.{HandsOn}
+use Rattle.recode.specs.calls.Writers.{HandsOn, TellWhatTaken}
 use Rattle.recode.specs.declared.converter.ConverterResult.TheVariants.{Found}
 use Rattle.recode.specs.declared.engine.Engine.{Engine}
 use Rattle.recode.specs.declared.job.Policy.{Policy}
 use Rattle.recode.specs.laws.Items.{spared_append}
-use Rattle.recode.proofs.BufferLemmas.{lent_on, lent_start}
-use Rattle.recode.proofs.HandsLemmas.{hands_fault, hands_held, hands_ready, hands_then, holding_more, told_then}
+use Rattle.recode.proofs.WriterLemmas.{hands_fault, hands_held, hands_ready, hands_then, holding_more, lent_on, lent_start, told_then}
 use Rattle.recode.proofs.ShellLemmas.{between_none, found_some, holds_none, ok_of, pumps_bytes, pumps_done, pumps_held, pumps_more, pumps_start, pumps_stuck, pumps_under, ready_start, smaller_by, sound_start, spared_only}
+use Rattle.recode.proofs.chunk.write_chunk.Given.{Over}
+use Rattle.recode.proofs.chunk.write_chunk.Goals.{After-convert-result}
 use Rattle.recode.proofs.chunk.write_chunk.Goals as goal
+
+-- what a call of the engine wrote is held, and what was told until then
+held : (g : Over) (c : After-convert-result g) → HandsOn {T = Unit {0}} g.W.Write.contents g.L.Write.contents c.make_room.new.self
+    (holding_more c.make_room.new.self c.convert-result.new.dst c.convert-result.result.2) (map Byte (take c.convert-result.result.2 c.convert-result.new.dst)) (Ok tt)
+held g c = hands_held _ _ (hands_ready (hands_ready c.requires.writers c.calls.invariant.pumps.hands) c.in_ok-make_room.ensures.hands) (search rules) c.convert-result.ensures.wrote.room
+
+told : (g : Over) (c : After-convert-result g) → TellWhatTaken g.W.Write.contents g.L.Write.contents c.args.writers.now
+    (holding_more c.make_room.new.self c.convert-result.new.dst c.convert-result.result.2)
+told g c = told_then _ _ _ (told_then _ _ _ c.calls.invariant.pumps.hands.told c.in_ok-make_room.ensures.hands.told) (held g c).told
 
 pub calls-init : goal.calls-init
 calls-init g c =
@@ -26,15 +36,15 @@ calls-init g c =
     record {
       pumps = pumps_start r.writers (sound_start c0 r.none empty r.ready.sound);
       ready = ready_start (standing view parts Policy.Decimal start c.args.pivot.now) c.args.chunk.now c.is_empty-last.result r.none empty r.limit
-          (record { open_ = r.ready.open_; sound = record { index = r.ready.sound.index; bad = r.ready.sound.bad; lost = r.ready.sound.lost }; tells = r.ready.tells });
+          (record { open_ = r.ready.open_; sound = omega (arith, r.ready.sound.index, r.ready.sound.bad, r.ready.sound.lost); tells = r.ready.tells });
       holds = holds_none c.args.pivot.now;
       lent = lent_start _ _ r.lent;
     }
 
 pub returns-in_err-make_room-clause-err : goal.returns-in_err-make_room-clause-err
 returns-in_err-make_room-clause-err g c =
-    let left = hands_fault [] c.from_residual.ensures.1 c.in_err-make_room.ensures.hands in
-    rw (sym c.is_empty-last.ensures) (pumps_stuck c.calls.invariant.pumps left c.requires.none (between_none c.args.pivot.now) c.requires.held)
+    rw (sym c.is_empty-last.ensures)
+    (pumps_stuck c.calls.invariant.pumps (hands_fault [] c.from_residual.ensures.1 c.in_err-make_room.ensures.hands) c.requires.none (between_none c.args.pivot.now) c.requires.held)
 
 pub returns-in_err-make_room-clause-told : goal.returns-in_err-make_room-clause-told
 returns-in_err-make_room-clause-told g c = told_then _ _ _ c.calls.invariant.pumps.hands.told c.in_err-make_room.ensures.hands.told
@@ -46,8 +56,7 @@ returns-in-InputEmpty-clause-chunk g c =
     let k = c.convert-result in
     let p = c.args.writers.now.policy in
     let ends = rw c.in-InputEmpty.is at (k.ensures.ends p) in
-    let held = hands_held k.new.dst k.result.2 (hands_ready (hands_ready c.requires.writers i.pumps.hands) room) (search rules) k.ensures.wrote.room in
-    let all = rw ends.0 at (pumps_bytes (take k.result.2 k.new.dst) (pumps_held i.pumps room) held (rw c.in-InputEmpty.is at (k.ensures.law p))) in
+    let all = rw ends.0 at (pumps_bytes (take k.result.2 k.new.dst) (pumps_held i.pumps room) (held g (goal.at.returns-in-InputEmpty-clause-chunk g c).After-convert-result) (rw c.in-InputEmpty.is at (k.ensures.law p))) in
     rw (sym c.is_empty-last.ensures, c.deliver_held.ensures.hands.failures.same.policy, room.failures.same.policy, i.pumps.hands.failures.same.policy)
     (pumps_done c.requires.none (between_none c.args.pivot.now) ends.1 ends.2 refl c.requires.held ends.3 all c.deliver_held.ensures.hands c.deliver_held.ensures.none)
 
@@ -56,20 +65,14 @@ returns-in-InputEmpty-clause-none g c = ok_of c.deliver_held.result (rw c.in-Inp
 
 pub returns-in-InputEmpty-clause-err : goal.returns-in-InputEmpty-clause-err
 returns-in-InputEmpty-clause-err g c =
-    let i = c.calls.invariant in
-    let room = c.in_ok-make_room.ensures.hands in
     let k = c.convert-result in
-    let held = hands_held k.new.dst k.result.2 (hands_ready (hands_ready c.requires.writers i.pumps.hands) room) (search rules) k.ensures.wrote.room in
-    let all = pumps_bytes (take k.result.2 k.new.dst) (pumps_held i.pumps room) held (rw c.in-InputEmpty.is at (k.ensures.law c.args.writers.now.policy)) in
+    let room = pumps_held c.calls.invariant.pumps c.in_ok-make_room.ensures.hands in
+    let law = rw c.in-InputEmpty.is at (k.ensures.law c.args.writers.now.policy) in
+    let all = pumps_bytes (take k.result.2 k.new.dst) room (held g (goal.at.returns-in-InputEmpty-clause-err g c).After-convert-result) law in
     rw (sym c.is_empty-last.ensures) (pumps_stuck all c.deliver_held.ensures.hands c.requires.none (between_none c.args.pivot.now) c.requires.held)
 
 pub returns-in-InputEmpty-clause-told : goal.returns-in-InputEmpty-clause-told
-returns-in-InputEmpty-clause-told g c =
-    let i = c.calls.invariant in
-    let room = c.in_ok-make_room.ensures.hands in
-    let k = c.convert-result in
-    let held = hands_held k.new.dst k.result.2 (hands_ready (hands_ready c.requires.writers i.pumps.hands) room) (search rules) k.ensures.wrote.room in
-    told_then _ _ _ (told_then _ _ _ (told_then _ _ _ i.pumps.hands.told room.told) held.told) c.deliver_held.ensures.hands.told
+returns-in-InputEmpty-clause-told g c = told_then _ _ _ (told g (goal.at.returns-in-InputEmpty-clause-told g c).After-convert-result) c.deliver_held.ensures.hands.told
 
 pub returns-in-InputEmpty-clause-target : goal.returns-in-InputEmpty-clause-target
 returns-in-InputEmpty-clause-target g c = (c.convert-result.ensures.law c.args.writers.now.policy).target ∙ c.calls.invariant.pumps.turns.target
@@ -89,9 +92,8 @@ calls-preserved-in-OutputFull g c =
     let i = c.calls.invariant in
     let room = c.in_ok-make_room.ensures.hands in
     let k = c.convert-result in
-    let held = hands_held k.new.dst k.result.2 (hands_ready (hands_ready c.requires.writers i.pumps.hands) room) (search rules) k.ensures.wrote.room in
     record {
-      pumps = rw (take_rest c.calls.rest.now k.result.1) (pumps_bytes (take k.result.2 k.new.dst) (pumps_held i.pumps room) held (rw c.in-OutputFull.is at (k.ensures.law c.args.writers.now.policy)));
+      pumps = rw (take_rest c.calls.rest.now k.result.1) (pumps_bytes (take k.result.2 k.new.dst) (pumps_held i.pumps room) (held g (goal.at.calls-preserved-in-OutputFull g c).After-convert-result) (rw c.in-OutputFull.is at (k.ensures.law c.args.writers.now.policy)));
       ready = rw (take_rest c.calls.rest.now k.result.1) (rw c.in-OutputFull.is at (k.ensures.ends Policy.Decimal)).1;
       holds = k.ensures.holds;
       lent = lent_on i.lent k.ensures.lent;
@@ -112,14 +114,13 @@ calls-preserved g c =
     let k = c.convert-result in
     let p = c.args.writers.now.policy in
     let bytes = take k.result.2 k.new.dst in
-    let held = hands_held k.new.dst k.result.2 (hands_ready (hands_ready c.requires.writers i.pumps.hands) room) (search rules) k.ensures.wrote.room in
     let policy : c.make_room.new.self.policy ≡ p = room.failures.same.policy ∙ i.pumps.hands.failures.same.policy in
     let f = c.in_ok-take_found-in-Found.ensures in
     let found = found_items (reference_form p) (Found c.in-Found.line) in
     let taken = subst (λ (q : Policy). HandsOn {T = Unit {0}} g.W.Write.contents g.L.Write.contents (holding_more c.make_room.new.self k.new.dst k.result.2) c.take_found.new.self (found_items (reference_form q) (Found c.in-Found.line)) (Ok tt)) policy f.hands in
     let spared = spared_append p (map Byte bytes) found (spared_only p bytes) (subst (λ (q : Policy). IsSpared q (found_items (reference_form q) (Found c.in-Found.line))) policy f.spared) in
     record {
-      pumps = rw (take_rest c.calls.rest.now k.result.1) (pumps_more (pumps_held i.pumps room) (hands_then (spared_only _ bytes) held taken) spared (rw c.in-Found.is at (k.ensures.law p)));
+      pumps = rw (take_rest c.calls.rest.now k.result.1) (pumps_more (pumps_held i.pumps room) (hands_then (spared_only _ bytes) (held g (goal.at.calls-preserved g c).After-convert-result) taken) spared (rw c.in-Found.is at (k.ensures.law p)));
       ready = rw (take_rest c.calls.rest.now k.result.1) (rw c.in-Found.is at (k.ensures.ends Policy.Decimal)).1;
       holds = k.ensures.holds;
       lent = lent_on i.lent k.ensures.lent;
@@ -132,11 +133,10 @@ returns-in_err-take_found-in-Found-clause-err g c =
     let k = c.convert-result in
     let p = c.args.writers.now.policy in
     let bytes = take k.result.2 k.new.dst in
-    let held = hands_held k.new.dst k.result.2 (hands_ready (hands_ready c.requires.writers i.pumps.hands) room) (search rules) k.ensures.wrote.room in
     let policy : c.make_room.new.self.policy ≡ p = room.failures.same.policy ∙ i.pumps.hands.failures.same.policy in
     let e = c.in_err-take_found-in-Found in
     let taken = subst (λ (q : Policy). HandsOn {T = Unit {0}} g.W.Write.contents g.L.Write.contents (holding_more c.make_room.new.self k.new.dst k.result.2) c.take_found.new.self (found_items (reference_form q) (Found c.in-Found.line)) (Err e.field-0.0)) policy e.ensures.hands in
-    let passed = hands_fault [] c.from_residual-in_err-take_found-in-Found.ensures.1 (hands_then (spared_only _ bytes) held taken) in
+    let passed = hands_fault [] c.from_residual-in_err-take_found-in-Found.ensures.1 (hands_then (spared_only _ bytes) (held g (goal.at.returns-in_err-take_found-in-Found-clause-err g c).After-convert-result) taken) in
     rw (sym c.is_empty-last.ensures) (pumps_under (pumps_held i.pumps room) passed (rw c.in-Found.is at (k.ensures.law p)) c.requires.none (between_none c.args.pivot.now) c.requires.held)
 
 pub returns-in_err-take_found-in-Found-clause-target : goal.returns-in_err-take_found-in-Found-clause-target
@@ -144,8 +144,4 @@ returns-in_err-take_found-in-Found-clause-target g c = (c.convert-result.ensures
 
 pub returns-in_err-take_found-in-Found-clause-told : goal.returns-in_err-take_found-in-Found-clause-told
 returns-in_err-take_found-in-Found-clause-told g c =
-    let i = c.calls.invariant in
-    let room = c.in_ok-make_room.ensures.hands in
-    let k = c.convert-result in
-    let held = hands_held k.new.dst k.result.2 (hands_ready (hands_ready c.requires.writers i.pumps.hands) room) (search rules) k.ensures.wrote.room in
-    told_then _ _ _ (told_then _ _ _ (told_then _ _ _ i.pumps.hands.told room.told) held.told) c.in_err-take_found-in-Found.ensures.hands.told
+    told_then _ _ _ (told g (goal.at.returns-in_err-take_found-in-Found-clause-told g c).After-convert-result) c.in_err-take_found-in-Found.ensures.hands.told
