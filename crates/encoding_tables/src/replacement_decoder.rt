@@ -2,16 +2,14 @@
 //! decoder").
 
 ghost use Rattle.std.proofs.Common.{refl};
-ghost use Rattle.std.specs.Prelude.{false};
 ghost use Rattle.encoding_mem.specs.laws.Pieces.{pieces_in-nil, pieces_in-whole};
 ghost use Rattle.encoding_mem.specs.laws.Pieces.{pieces_in-are_pieces};
 ghost use Rattle.encoding_mem.specs.calls.Decoding.{IsFreshDecoder};
 ghost use Rattle.encoding_mem.specs.calls.DecodedLength.{decoded_length_replacement};
 ghost use Rattle.encoding_mem.specs.laws.Shows.{decided_in};
 ghost use Rattle.encoding_tables.specs.Replacement.{pieces_replacement};
-ghost use Rattle.encoding_tables.specs.laws.Replacement.{after_replacement};
 ghost use Rattle.encoding_tables.specs.laws.Replacement.{first_piece_replacement};
-ghost use Rattle.encoding_tables.specs.laws.Replacement.{replacement_left};
+ghost use Rattle.encoding_tables.specs.laws.Replacement.{after_replacement, replacement_left};
 ghost use Rattle.encoding_tables.specs.laws.Replacement.{cuts_replacement, replacement_needs};
 ghost use Rattle.encoding_tables.specs.laws.Replacement.{replacement_covers, decided_by_one};
 

@@ -1,58 +1,49 @@
 -- What the calls of an engine are, as turns.
-use Rattle.std.proofs.Common.{◌^◌, IsSome, true≢false, ◌≡◌, ℕ, ◌+◌, ◌-◌, ◌*◌, ◌≤◌, ◌<◌, Bool, true, false, List, [], ◌++◌, map, length, drop, take, Option, None, Some, refl, sym, ◌∙◌, ap, subst, arith, append_assoc, length-append, length-drop}
+use Rattle.std.proofs.Common.{◌^◌, IsSome, ◌≡◌, ℕ, ◌+◌, ◌-◌, ◌*◌, ◌≤◌, ◌<◌, Bool, true, false, List, [], ◌++◌, map, length, drop, take, Option, None, Some, refl, sym, ◌∙◌, ap, subst, arith, append_assoc, length-append, length-drop, inl, inr, append-nil}
 use Rattle.std.proofs.lemmas.Bool.{false≢true}
 use Rattle.std.specs.Str.{all_scalars, chars}
 use Rattle.std.specs.Char.Utf16.{utf16_lossy_chars}
-use Rattle.encoding_front.specs.calls.Stream.{finishes}
+use Rattle.encoding_front.specs.calls.Stream.{finishes, DecoderView}
 use Rattle.encoding_front.specs.declared.encoding.Encoding.{Encoding}
 use Rattle.encoding_mem.specs.Piece.{sizes}
 use Rattle.encoding_mem.specs.Items.{Byte, Item}
 use Rattle.encoding_mem.specs.calls.Decoding.{DecoderState}
 use Rattle.encoding_mem.specs.declared.decoder_result.DecoderResult.{DecoderResult}
 use Rattle.encoding_mem.specs.declared.decoder_result.DecoderResult.TheVariants.{InputEmpty, Malformed, OutputFull}
-use Rattle.recode.specs.State.{State}
 use Rattle.recode.specs.Step.{IsNearlyDecided}
-use Rattle.recode.specs.Work.{IsCounted}
+use Rattle.recode.specs.Work.{IsCounted, ended_count}
 use Rattle.recode.specs.calls.CodecCalls.{DecodeCallEndsWith}
-use Rattle.recode.specs.calls.EngineView.{HoldsBetween, chars_between, engine_target, standing}
+use Rattle.recode.specs.calls.EngineView.{HoldsBetween, chars_between, engine_target, standing, engine_state}
 use Rattle.recode.specs.calls.Buffers.{is_wide}
 use Rattle.recode.specs.calls.PivotText.{Holds, HoldsText, IsCutInto, IsWholeText, element_count, is_in_units, pivot_chars}
 use Rattle.recode.specs.declared.codec_calls.PivotText.{PivotText}
 use Rattle.recode.specs.declared.codec_calls.PivotText.TheVariants as InText
 use Rattle.std.proofs.lemmas.List.{drop-drop, drop-take, drop_at, length-take-le, map-append}
 use borrow.Rule.Slice.PartMut.{post_of, put_mid}
-use Rattle.encoding_mem.specs.calls.EncoderRule.{WritesBytes}
+use Rattle.encoding_mem.specs.calls.EncoderRule.{WritesBytes, EncoderParts}
 use Rattle.encoding_mem.proofs.DestinationLemmas.{drop_into, take_into}
 use Rattle.recode.specs.calls.Turns.{AreCountedSoundly, CanGoOn, EncodesOnce, EncodesTurn, IsOpenFor, Standing, TakesTurns, is_last_text, reported}
-use Rattle.recode.specs.calls.Verdict.{CanTell}
+use Rattle.recode.specs.calls.Verdict.{CanTell, IsToldAtEnd}
 use Rattle.recode.specs.declared.job.Pivot.{Pivot}
 use Rattle.recode.specs.declared.job.Pivot.TheVariants.{Utf8, Utf16}
-use Rattle.recode.proofs.DecoderCallLemmas.{IsDecoded, end_nothing, none_owed}
-use Rattle.recode.proofs.LatencyLemmas.{settled_of}
+use Rattle.recode.proofs.CodecCallLemmas.{IsDecoded, none_owed}
 use Rattle.recode.proofs.PivotLemmas.{IsForm, spelled, text_of, utf16, utf8}
 use Rattle.recode.proofs.TurnLemmas.{after_encoder, decode_turn, decoded_state, encode_turn, standing_is, target_of_state, turns_more, waiting_size}
-use Rattle.encoding_front.specs.calls.Stream.{DecoderView}
-use Rattle.encoding_mem.specs.calls.EncoderRule.{EncoderParts}
-use Rattle.encoding_mem.specs.Coding.{Coding}
-use Rattle.recode.specs.Work.{ended_count}
-use Rattle.recode.specs.calls.EngineView.{engine_state}
+use Rattle.encoding_mem.specs.Coding.{Coding, IsCoding, reference_bytes}
 use Rattle.recode.specs.calls.Text.{IsEncoded}
 use Rattle.recode.specs.calls.VerdictView.{verdict_view}
 use Rattle.recode.specs.declared.engine.Engine.{Engine}
 use Rattle.recode.specs.declared.job.Policy.{Policy}
-use Rattle.recode.proofs.VerdictLemmas.{next_tells, verdict_told}
-use Rattle.encoding_mem.specs.Coding.{IsCoding}
+use Rattle.recode.proofs.VerdictLemmas.{verdict_told}
 use Rattle.encoding_mem.specs.declared.form.EscapeState.TheVariants.{Ascii}
 use Rattle.recode.specs.Policy.{reference_form}
 use Rattle.recode.specs.calls.Chunk.{IsDoneWith}
-use Rattle.recode.specs.calls.Verdict.{IsToldAtEnd}
 use Rattle.recode.specs.laws.Items.{bad_line_count-append, bad_line_count-bytes, lost_line_count-append, lost_line_count-bytes}
-use Rattle.encoding_mem.specs.Coding.{reference_bytes}
 use Rattle.encoding_mem.specs.calls.EncoderCalls.{reported_item}
 use Rattle.encoding_mem.specs.declared.encoder_result.EncoderResult.{EncoderResult}
 use Rattle.encoding_mem.specs.declared.encoder_result.EncoderResult.TheVariants.{Unmappable}
 use Rattle.encoding_mem.specs.declared.reference.Reference.{Reference}
-use Rattle.recode.specs.WrittenItems.{AreCounted, bad_line_count, lost_line_count}
+use Rattle.recode.specs.WrittenItems.{AreCounted, lost_line_count}
 use Rattle.recode.specs.declared.counts.Counts.{Counts}
 
 -- ---- a pivot
@@ -77,16 +68,13 @@ holds_between (Utf16 units) n h =
 finishes_is : (last : Bool) (answer : DecoderResult) → finishes last answer ≡ is_last_text (Some answer) last
 finishes_is true InputEmpty = refl
 finishes_is false InputEmpty = refl
-finishes_is true OutputFull = refl
-finishes_is false OutputFull = refl
-finishes_is true (Malformed a b) = refl
-finishes_is false (Malformed a b) = refl
+finishes_is _ _ = refl
 
 pub open_after : (before after : DecoderState) (src : List ℕ) (last : Bool) (read written : ℕ) (t : List ℕ) (answer : DecoderResult) (c : Standing)
     → IsDecoded before after src last read answer t → DecodeCallEndsWith after (drop read src) last written answer → c.state.decoder ≡ after → c.state.finished ≡ finishes last answer → IsOpenFor (Some answer) c (drop read src) last
 open_after before after src last read written t InputEmpty c k ends d fin =
-    let nothing : last ≡ true → (c.state.decoder.pending ≡ 0) × (c.state.decoder.pieces [] ≡ []) = λ end. rw d (end_nothing last ends.1 end) in
-    (ends.0, fin ∙ finishes_is last InputEmpty, subst IsNearlyDecided (sym d) (settled_of after last ends.1), nothing)
+    let nothing : last ≡ true → (c.state.decoder.pending ≡ 0) × (c.state.decoder.pieces [] ≡ []) = λ end. rw d (elim ends.1 [ inl h ↦ h | inr h ↦ absurd (false≢true (sym h.0 ∙ end)) ]) in
+    (ends.0, fin ∙ finishes_is last InputEmpty, rw d (elim ends.1 [ inl h ↦ inl h | inr h ↦ inr h.1 ]), nothing)
 open_after before after src last read written t OutputFull c k ends d fin = fin ∙ finishes_is last OutputFull
 open_after before after src last read written t (Malformed a b) c k ends d fin =
     let size = k.malformed a b refl in
@@ -104,9 +92,6 @@ decode_turn_from c none empty sound d finished source src last read calls answer
     let is = standing_is c none empty in
     subst (λ (z : Standing). TakesTurns z (record { state = decoded_state c.state d finished source read calls; answer = Some answer; text = t }) last src (drop read src) [] 0 0) (sym is)
     (decode_turn c.state d finished source src last read calls answer t (subst AreCountedSoundly is sound) k some one same_source)
-
-pub tells_next : (c : Standing) (t : List ℕ) → c.text ≡ [] → CanTell c.state.verdict c.state.coding c.state.set c.text → CanTell c.state.verdict c.state.coding c.state.set t
-tells_next c t empty h = next_tells c.state.coding c.state.verdict c.state.set t (subst (λ u. CanTell c.state.verdict c.state.coding c.state.set u) empty h)
 
 -- ---- the text that is left in a pivot
 
@@ -141,21 +126,14 @@ left_in_pivot (Utf8 bytes) from to (InText.Utf8 x) (InText.Utf8 read) (InText.Ut
 left_in_pivot (Utf16 units) from to (InText.Utf16 x) (InText.Utf16 read) (InText.Utf16 rest) h same form count whole cut =
     let k = left_between utf16 units.now from to (utf16_lossy_chars read.now) rest.now h.order h.within h.whole (sym same ∙ cut.parts) cut.rest_text.whole in
     (k.0, ap utf16_lossy_chars k.1, record { order = omega (arith, k.0); within = h.within; scalars = rw (sym k.1) at cut.rest_text.scalars; whole = rw (sym k.1) at cut.rest_text.whole })
-left_in_pivot (Utf8 bytes) from to (InText.Utf16 x) read rest h same form count whole cut = absurd (true≢false form)
-left_in_pivot (Utf16 units) from to (InText.Utf8 x) read rest h same form count whole cut = absurd (true≢false (sym form))
-left_in_pivot (Utf8 bytes) from to (InText.Utf8 x) (InText.Utf16 read) rest h same form count whole cut = absurd (true≢false cut.read_form)
-left_in_pivot (Utf8 bytes) from to (InText.Utf8 x) (InText.Utf8 read) (InText.Utf16 rest) h same form count whole cut = absurd (true≢false cut.rest_form)
-left_in_pivot (Utf16 units) from to (InText.Utf16 x) (InText.Utf8 read) rest h same form count whole cut = absurd (true≢false (sym cut.read_form))
-left_in_pivot (Utf16 units) from to (InText.Utf16 x) (InText.Utf16 read) (InText.Utf8 rest) h same form count whole cut = absurd (true≢false (sym cut.rest_form))
+left_in_pivot p from to text read rest h same form count whole cut = absurd (cc (form, cut.read_form, cut.rest_form))
 
 -- ---- a call of the encoder
 
 -- bytes are no lines
 pub items_of_bytes : (ref : Reference) (bytes : List ℕ) (c c' : Counts) (n : ℕ) (outcome : EncoderResult) → reported_item ref n outcome ≡ [] → c'.bad ≡ c.bad → c'.lost ≡ c.lost → AreCounted c c' (map Byte bytes ++ reported_item ref n outcome)
-items_of_bytes ref bytes c c' n outcome none bad lost = record {
-  bad = omega (arith, bad, bad_line_count-append (map Byte bytes) (reported_item ref n outcome), bad_line_count-bytes bytes, ap bad_line_count none);
-  lost = omega (arith, lost, lost_line_count-append (map Byte bytes) (reported_item ref n outcome), lost_line_count-bytes bytes, ap lost_line_count none);
-}
+items_of_bytes ref bytes c c' n outcome none bad lost =
+    rw (none, append-nil (map Byte bytes)) (omega (arith, bad_line_count-bytes bytes, lost_line_count-bytes bytes))
 
 -- then one of a lost character
 pub items_of_lost : (ref : Reference) (bytes : List ℕ) (c c' : Counts) (n m : ℕ) → c'.bad ≡ c.bad → c'.lost ≡ c.lost + 1 → AreCounted c c' (map Byte bytes ++ reported_item ref n (Unmappable m))
@@ -184,10 +162,8 @@ pub record IsAtEnd (a : Option DecoderResult) (c : Standing) (src : List ℕ) (i
   pub read : src ≡ []
 
 pub end_open : (a : Option DecoderResult) (c : Standing) (src : List ℕ) (last : Bool) → is_last_text a last ≡ true → IsOpenFor a c src last → IsAtEnd a c src last
-end_open None c src last e h = absurd (false≢true e)
-end_open (Some OutputFull) c src last e h = absurd (false≢true e)
-end_open (Some (Malformed a b)) c src last e h = absurd (false≢true e)
 end_open (Some InputEmpty) c src last e h = record { answer = refl; pending = (h.3 e).0; none = (h.3 e).1; last = e; read = h.0 }
+end_open _ c src last e h = absurd (false≢true e)
 
 -- one call of the encoder is a turn
 pub encode_turn_in : (c c' : Standing) (ended last : Bool) (src : List ℕ) (items : List Item) (done : Bool) → c'.answer ≡ c.answer → c'.state ≡ record c.state { set = c'.state.set; verdict = c'.state.verdict; counts = c'.state.counts } → AreCountedSoundly c → IsOpenFor c.answer c src last
@@ -207,23 +183,9 @@ open_still (Some InputEmpty) c c' src last some d f h = (h.0, f ∙ h.1, subst I
 open_still (Some OutputFull) c c' src last some d f h = f ∙ h
 open_still (Some (Malformed a b)) c c' src last some d f h = (f ∙ h.0, h.1, h.2, ap (λ (s : DecoderState). s.pending) d ∙ h.3)
 
--- the next text is the last if all is read and nothing comes
-pub done_with : (s : State) (last : Bool) (need : ℕ) → IsCoding need s.coding → IsOpenFor (Some InputEmpty) (record { state = s; answer = Some InputEmpty; text = [] }) [] last
-    → AreCountedSoundly (record { state = s; answer = Some InputEmpty; text = [] }) → (last ≡ true → s.set ≡ Ascii) → (last ≡ false → CanTell s.verdict s.coding s.set []) → (last ≡ true → IsToldAtEnd s.verdict) → IsDoneWith s last
-done_with s last need law open_ sound closed tells told = record {
-  settled = open_.2;
-  ready = λ on. record { open_ = open_.1 ∙ on; sound = record { index = omega (arith, sound.index); bad = omega (arith, sound.bad); lost = sound.lost }; tells = tells on };
-  end = λ end. none_owed (reference_form s.policy) s.decoder s.coding s.set s.counts law (closed end) (open_.3 end).1;
-  told = λ end. verdict_told (reference_form s.policy) s.coding need law s.verdict s.set (s.decoder.pieces []) (open_.3 end).1 (closed end) (told end);
-}
-
 -- the text that waits is within what was read
 pub text_fits : (c : Standing) → AreCountedSoundly c → c.state.counts.index + length c.text ≤ c.state.counts.read
 text_fits c h = omega (arith, h.index, waiting_size c.text (reported c.answer))
-
--- a character was passed if one was lost
-pub some_passed : (x x' : Counts) (items : List Item) → AreCounted x x' items → 1 ≤ lost_line_count items → x'.lost ≤ x'.index → 1 ≤ x'.index
-some_passed x x' items h some few = omega (arith, h.lost, some, few)
 
 pub lost_some : (ref : Reference) (bytes : List ℕ) (n m : ℕ) → 1 ≤ lost_line_count (map Byte bytes ++ reported_item ref n (Unmappable m))
 lost_some ref bytes n m = omega (arith, lost_line_count-append (map Byte bytes) (reported_item ref n (Unmappable m)))
@@ -231,9 +193,18 @@ lost_some ref bytes n m = omega (arith, lost_line_count-append (map Byte bytes) 
 pub offset_fits : (c : Standing) (a b : ℕ) → c.answer ≡ Some (Malformed a b) → c.state.decoder.pending ≡ b → AreCountedSoundly c → b + a ≤ c.state.counts.read
 offset_fits c a b is pending sound = omega (arith, sound.index, waiting_size c.text (reported c.answer), ap (λ x. sizes (reported x)) is, pending)
 
+-- the next text is the last if all is read and nothing comes
 pub done_in : (c : Standing) (src : List ℕ) (last : Bool) (need : ℕ) → IsCoding need c.state.coding → c.answer ≡ Some InputEmpty → c.text ≡ [] → IsOpenFor (Some InputEmpty) c src last → AreCountedSoundly c
     → (last ≡ true → c.state.set ≡ Ascii) → (last ≡ false → CanTell c.state.verdict c.state.coding c.state.set []) → (last ≡ true → IsToldAtEnd c.state.verdict) → IsDoneWith c.state last
-done_in c src last need law is empty open_ sound closed tells told = done_with c.state last need law (refl, open_.1, open_.2, open_.3) (subst AreCountedSoundly (standing_is c is empty) sound) closed tells told
+done_in c src last need law is empty open_ sound closed tells told =
+    let s = c.state in
+    let sound' = subst AreCountedSoundly (standing_is c is empty) sound in
+    record {
+      settled = open_.2;
+      ready = λ on. record { open_ = open_.1 ∙ on; sound = omega (arith, sound'.index, sound'.bad, sound'.lost); tells = tells on };
+      end = λ end. none_owed (reference_form s.policy) s.decoder s.coding s.set s.counts law (closed end) (open_.3 end).1;
+      told = λ end. verdict_told (reference_form s.policy) s.coding need law s.verdict s.set (s.decoder.pieces []) (open_.3 end).1 (closed end) (told end);
+    }
 
 -- ---- a turn
 
@@ -271,10 +242,6 @@ wrote_into old xs ys w k n size long p q = record {
   room = omega (arith, p.room, q.room, length-append (take w xs) (ys ++ post_of w k xs), length-append ys (post_of w k xs), length-take-le w xs p.room);
   behind = drop_into w k n xs ys p.room size q.room q.behind ∙ sym (drop-drop n w xs) ∙ ap (drop n) p.behind ∙ drop-drop n w old;
 }
-
--- a turn after others
-pub turn_after : (c0 c1 c2 : Standing) (last : Bool) (src : List ℕ) (read taken : ℕ) (a b : List Item) (m l : ℕ) → TakesTurns c0 c1 last src (drop read src) a 0 0 → TakesTurns c1 c2 last (drop read src) (drop taken (drop read src)) b m l → TakesTurns c0 c2 last src (drop (read + taken) src) (a ++ b) m l
-turn_after c0 c1 c2 last src read taken a b m l p q = subst (λ z. TakesTurns c0 c2 last src z (a ++ b) m l) (drop-drop taken read src) (turns_more m l (omega arith) (omega arith) p q)
 
 -- the bytes that are held last
 pub last_is : (buffer room : List ℕ) (n m : ℕ) → n ≤ length buffer → m ≤ length room → take m (drop ((n + m) - m) (put_mid n (length buffer - n) buffer room)) ≡ take m room

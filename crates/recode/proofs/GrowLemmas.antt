@@ -1,10 +1,8 @@
 -- What calls of devices passed, in a row.
-use Rattle.std.proofs.Common.{◌≡◌, List, [], ◌∷◌, ◌++◌, ℕ, true, length, arith, refl, sym, ap, ◌∙◌, append_assoc, append-nil}
+use Rattle.std.proofs.Common.{◌≡◌, List, [], ◌∷◌, ◌++◌, ℕ, refl, sym, ap, ◌∙◌, append_assoc, append-nil}
 use Rattle.std.specs.List.{concat}
 use Rattle.std.proofs.lemmas.List.Folds.{concat-append}
-use Rattle.std.proofs.lemmas.Bool.{eqb-true}
 use Rattle.recode.specs.Devices.{Gave, GaveToEnd, Grew}
-use Rattle.recode.specs.calls.Writers.{is_end}
 
 pub Grew-nil : (a : List ℕ) → Grew a a []
 Grew-nil a = sym (append-nil a)
@@ -12,17 +10,11 @@ Grew-nil a = sym (append-nil a)
 pub Grew-trans : (a b c s t : List ℕ) → Grew a b s → Grew b c t → Grew a c (s ++ t)
 Grew-trans a b c s t p q = q ∙ ap (λ l. l ++ t) p ∙ append_assoc a s t
 
-pub Grew-kept : (a b c s : List ℕ) → Grew a b s → c ≡ b → Grew a c s
-Grew-kept a b c s p q = q ∙ p
-
 pub Gave-nil : (a : List (List ℕ)) → Gave a a []
 Gave-nil a = ([], sym (append-nil a), refl)
 
 pub Gave-trans : (a b c : List (List ℕ)) (s t : List ℕ) → Gave a b s → Gave b c t → Gave a c (s ++ t)
 Gave-trans a b c s t p q = (p.0 ++ q.0, q.1 ∙ ap (λ l. l ++ q.0) p.1 ∙ append_assoc a p.0 q.0, concat-append p.0 q.0 ∙ ap (λ l. l ++ concat q.0) p.2 ∙ ap (λ l. s ++ l) q.2)
-
-pub Gave-kept : (a b : List (List ℕ)) → b ≡ a → Gave a b []
-Gave-kept a b same = ([], same ∙ sym (append-nil a), refl)
 
 -- one call more
 pub Gave-one : (a b : List (List ℕ)) (s : List ℕ) → b ≡ a ++ (s ∷ []) → Gave a b s
@@ -42,8 +34,3 @@ GaveToEnd-after a b c s t p q = (
 -- all of it is what was given
 pub GaveToEnd-is : (a b : List (List ℕ)) (s : List ℕ) → GaveToEnd a b s → Gave a b s
 GaveToEnd-is a b s p = (p.0 ++ ([] ∷ []), p.1, concat-append p.0 ([] ∷ []) ∙ append-nil (concat p.0) ∙ p.2)
-
--- what is the end has no bytes
-pub none_where_end : (chunk : List ℕ) → is_end chunk ≡ true → chunk ≡ []
-none_where_end [] h = refl
-none_where_end (b ∷ bs) h = absurd (omega (arith, eqb-true (length (b ∷ bs)) 0 h))

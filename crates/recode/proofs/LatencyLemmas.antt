@@ -1,13 +1,13 @@
 -- What was taken while the input goes on, and what that says of the output and the log.
 use Rattle.std.proofs.Common.{◌≡◌, ◌⊎◌, ℕ, suc, ◌+◌, ◌-◌, ◌≤◌, ◌<◌, Bool, true, false, List, [], ◌∷◌, ◌++◌, length, Some, refl, sym, ◌∙◌, ap, subst, arith, append_assoc, append-nil, length-append, add-zero, inl, inr}
 use Rattle.std.specs.List.{flat_map}
-use Rattle.recode.proofs.GrowLemmas.{Gave-nil, Gave-trans, Grew-kept, Grew-nil, Grew-trans}
+use Rattle.recode.proofs.GrowLemmas.{Gave-nil, Gave-trans, Grew-nil, Grew-trans}
 use Rattle.std.proofs.lemmas.Bool.{false≢true}
 use Rattle.std.proofs.lemmas.Grind.{flat_map-append}
 use Rattle.std.proofs.lemmas.List.{append_cancel_right}
 use Rattle.encoding_mem.specs.declared.reference.Reference.{Reference}
 use Rattle.encoding_mem.specs.Piece.{ArePieces, Piece, well_formed, malformed, sizes, text, head_piece}
-use Rattle.encoding_mem.specs.calls.Decoding.{DecoderState, Waits}
+use Rattle.encoding_mem.specs.calls.Decoding.{DecoderState}
 use Rattle.encoding_mem.specs.Coding.{Coding, last_set, open_from, whole_from}
 use Rattle.encoding_mem.specs.Items.{Item, trace_from}
 use Rattle.encoding_mem.specs.declared.form.EscapeState.{EscapeState}
@@ -34,9 +34,6 @@ use Rattle.recode.specs.declared.job.Policy.{Policy}
 use Rattle.recode.specs.laws.Items.{log_bytes-append, tagged-append, output_bytes-append}
 use Rattle.recode.proofs.VerdictLemmas.{both_ways}
 use Rattle.recode.proofs.TraceLemmas.{log_bytes-trace, output_bytes-trace, whole_from-append}
-
-pub advances_start : (d : List ℕ → List Piece) (e : Coding) (s : EscapeState) (c : Counts) → Advances d d e s s c c
-advances_start d e s c = record { taken = []; rest = λ r. refl; set = refl; index = sym (add-zero c.index) }
 
 pub advances_more : (d d1 d2 : List ℕ → List Piece) (e : Coding) (s s1 s2 : EscapeState) (c c1 c2 : Counts) → Advances d d1 e s s1 c c1 → Advances d1 d2 e s1 s2 c1 c2 → Advances d d2 e s s2 c c2
 advances_more d d1 d2 e s s1 s2 c c1 c2 p q =
@@ -209,9 +206,6 @@ fixed t t1 j s x ps k y = (s.decoder.pieces y, k.pieces y)
 pub decided : (t t1 : Devices) (j : Job) (s : State) (x : List ℕ) (ps : List Piece) → HasReached t t1 j s x ps → IsDecided (input_pieces j) x ps
 decided t t1 j s x ps k y bytes = fixed t t1 j s x ps k y
 
-begins_with : (d : List Piece) (p : Piece) (more : List Piece) → d ≡ p ∷ more → head_piece d ≡ Some p
-begins_with d p more e = ap head_piece e
-
 same_start : (a : List Piece) (p q : Piece) (c d : List Piece) → a ++ (p ∷ c) ≡ a ++ (q ∷ d) → p ≡ q
 same_start [] p q c d e = cc
 same_start (o ∷ a) p q c d e =
@@ -232,7 +226,7 @@ none_more d a qs settled h =
               | inl f ↦ f
               | inr n ↦
                   let one : m.0 ≡ n.0 = same_start a m.0 n.0 m.1 n.1 (sym m.2 ∙ n.2) in
-                  absurd (waits.undecided.differs (begins_with (d.pieces []) m.0 (m.1 ++ h0.0) m.3 ∙ ap Some one ∙ sym (begins_with (d.pieces y) n.0 (n.1 ++ h1.0) n.3)))
+                  absurd (waits.undecided.differs (ap head_piece m.3 ∙ ap Some one ∙ sym (ap head_piece n.3)))
             ]
       ]
     ]
@@ -250,14 +244,9 @@ soon t t1 j s x y ps qs more k settled is early =
           let over : sizes qs ≡ sizes ps + sizes (m.0 ∷ m.1) = ap sizes m.2 ∙ sizes-append ps (m.0 ∷ m.1) in
           elim settled [
             | inl none ↦ absurd (omega (arith, none.0, k.passed, over, early))
-            | inr waits ↦ absurd (omega (arith, waits.soon y m.0 (begins_with (s.decoder.pieces y) m.0 (m.1 ++ more) m.3), k.passed, over, early))
+            | inr waits ↦ absurd (omega (arith, waits.soon y m.0 (ap head_piece m.3), k.passed, over, early))
           ]
     ]
-
--- A call that read all leaves what is pending nearly decided.
-pub settled_of : (d : DecoderState) (last : Bool) → ((d.pending ≡ 0) × (d.pieces [] ≡ [])) ⊎ ((last ≡ false) × Waits d.pieces d.pending) → IsNearlyDecided d
-settled_of d last (inl h) = inl h
-settled_of d last (inr h) = inr h.1
 
 -- A session that has read nothing has nothing pending.
 no_pieces : (ps : List Piece) → ArePieces ps → sizes ps ≡ 0 → ps ≡ []
@@ -304,6 +293,6 @@ wrote_decided a b after j s x ps k settled kept = record {
   decided = decided a b j s x ps k;
   longest = λ qs h. longest a b j s x ps qs k settled h;
   soon = λ y qs more is early. soon a b j s x y ps qs more k settled is early;
-  output = Grew-kept a.written.output b.written.output after.output _ k.output kept.output;
-  logged = Grew-kept a.written.log b.written.log after.log _ k.logged kept.log;
+  output = kept.output ∙ k.output;
+  logged = kept.log ∙ k.logged;
 }

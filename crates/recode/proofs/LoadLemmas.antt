@@ -1,11 +1,11 @@
 -- What is there after an index is loaded.
-use Rattle.std.proofs.Common.{◌≡◌, ◌≢◌, ◌⊎◌, ◌∙◌, ℕ, List, [], ◌∷◌, ap, refl, sym, arith, Option, None, Some, Bool, true, false, inl, inr, is_some, ◌++◌}
+use Rattle.std.proofs.Common.{◌≡◌, ◌≢◌, ◌⊎◌, ◌∙◌, ℕ, List, [], ◌∷◌, ap, refl, sym, arith, Option, None, Some, Bool, true, false, inl, inr, is_some, ◌++◌, drop, take}
 use Rattle.std.specs.Prelude.{if◌then◌else◌, IfSome, MatchOption, Result, Ok, Err, option_map}
 use Rattle.std.specs.Option.{option_or}
 use Rattle.std.specs.Bool.{MatchBool}
 use Rattle.std.proofs.lemmas.Bool.{cases_eq, false_from_ne_true}
-use Rattle.std.proofs.Common.{◌<◌, drop, drop-cons, get_or, length, suc, take}
 use Rattle.std.proofs.lemmas.List.{take-append-drop}
+use Rattle.std.proofs.lemmas.Option.{IfSome_then}
 use Rattle.std.proofs.lemmas.List.Elements.{Contains-append_left, Contains-append_right}
 use Rattle.encoding_tables.specs.IndexLists.{IndexLists, has}
 use Rattle.encoding_tables.specs.Kinds.{is_ranges, index_size}
@@ -36,16 +36,15 @@ ranges_are_one : (k : IndexKind) → is_ranges k ≡ true → k ≡ Gb18030Range
 ranges_are_one Gb18030Ranges h = refl
 ranges_are_one _ h = cc
 
-not_ranges : (k kind : IndexKind) → k ≢ kind → is_ranges k ≡ true → is_ranges kind ≡ false
-not_ranges k kind apart is = false_from_ne_true (is_ranges kind) (λ yes. apart (ranges_are_one k is ∙ sym (ranges_are_one kind yes)))
-
 -- the index of another kind stays as it is
 stays_by : (b c : Bool) {rows rows' : Option (List (ℕ × ℕ))} {flat flat' : Option (List ℕ)} → (b ≡ true → c ≡ false) → (c ≡ false → rows' ≡ rows) → flat' ≡ flat → MatchBool b (rows' ≡ rows) (flat' ≡ flat)
 stays_by true c one same flat = same (one refl)
 stays_by false c one same flat = flat
 
 stays : (old new : IndexLists) (kind k : IndexKind) → k ≢ kind → KeepsOtherKinds old new kind → MatchBool (is_ranges k) (new.rows ≡ old.rows) (new.flats k ≡ old.flats k)
-stays old new kind k apart keeps = stays_by (is_ranges k) (is_ranges kind) (not_ranges k kind apart) keeps.1 (keeps.0 k apart)
+stays old new kind k apart keeps =
+    let not_ranges = λ (is : is_ranges k ≡ true). false_from_ne_true (is_ranges kind) (λ yes. apart (ranges_are_one k is ∙ sym (ranges_are_one kind yes))) in
+    stays_by (is_ranges k) (is_ranges kind) not_ranges keeps.1 (keeps.0 k apart)
 
 there_still : (b : Bool) (rows rows' : Option (List (ℕ × ℕ))) (flat flat' : Option (List ℕ)) → MatchBool b (rows' ≡ rows) (flat' ≡ flat) → (if b then is_some rows' else is_some flat') ≡ (if b then is_some rows else is_some flat)
 there_still true rows rows' flat flat' same = ap is_some same
@@ -87,17 +86,12 @@ unfolding load_fault
 load_met_no_fault old kind text result value Y ok h =
     no_fault (text_fault kind text) (table_fault old kind text) (ended (load_fault old kind text) result value Y ok h)
 
-map_told : (told : Option (List ℕ)) (P Q : List ℕ → Type 0) → ((text : List ℕ) → P text → Q text) → IfSome told P → IfSome told Q
-map_told None P Q f h = tt
-map_told (Some text) P Q f h = f text h
-
 other_of_file : (old new : IndexLists) (kind k : IndexKind) (told : Option (List ℕ)) → k ≢ kind → KeepsOtherKinds old new kind
     → (has old k ≡ true → IfSome told (IsOfText old k)) → has new k ≡ true → IfSome told (IsOfText new k)
 other_of_file old new kind k told apart keeps was now =
     let same = stays old new kind k apart keeps in
-    map_told told (IsOfText old k) (IsOfText new k)
+    IfSome_then told (was (sym (there_still (is_ranges k) _ _ _ _ same) ∙ now))
     (λ text of_old. record { faultless = of_old.faultless; loads = loaded_still (is_ranges k) _ _ _ _ (text_rows text) (text_list (index_size k) text) same of_old.loads })
-    (was (sym (there_still (is_ranges k) _ _ _ _ same) ∙ now))
 
 pub load_adds : (holds holds' : FileTexts) (dir : List ℕ) (old new : IndexLists) (kind : IndexKind) (text : List ℕ)
     → ((d f : List ℕ) → holds' d f ≡ holds d f) → IfSome (holds dir (file_name_of kind)) (λ t. text ≡ t) → text_fault kind text ≡ None → Loads new kind text
@@ -106,7 +100,7 @@ load_adds holds holds' dir old new kind text same told faultless loads keeps = r
   same = same;
   added = λ was k now. elim (same_or_apart k kind) [
     | inl this ↦ rw this
-        (map_told (holds dir (file_name_of kind)) (λ t. text ≡ t) (IsOfText new kind) (λ t is. rw (← is) record { faultless = faultless; loads = loads }) told)
+        (IfSome_then (holds dir (file_name_of kind)) told (λ t is. rw (← is) record { faultless = faultless; loads = loads }))
     | inr apart ↦ other_of_file old new kind k (holds dir (file_name_of k)) apart keeps (was k) now
   ];
 }
@@ -149,7 +143,3 @@ adds_first old new n kinds h k now = elim (h k now) [
   | inl was ↦ inl was
   | inr this ↦ inr (rw (← take-append-drop n kinds) (Contains-append_left (take n kinds) (drop n kinds) k this))
 ]
-
--- one of the kinds, and those before it and after it
-pub around : (kinds : List IndexKind) (i : ℕ) (d : IndexKind) → i < length kinds → kinds ≡ take i kinds ++ get_or kinds i d ∷ drop (suc i) kinds
-around kinds i d h = sym (take-append-drop i kinds) ∙ ap (λ rest. take i kinds ++ rest) (drop-cons kinds i d h)

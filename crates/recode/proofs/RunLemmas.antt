@@ -1,16 +1,13 @@
 -- From steps to runs.
-use Rattle.std.proofs.Common.{◌≡◌, ℕ, ◌+◌, ◌*◌, ◌≤◌, ◌-◌, ◌↔◌, true, IsTrue, List, [], ◌∷◌, ◌++◌, length, sym, ◌∙◌, ap, subst, arith, append-nil, min}
-use Rattle.encoding_mem.specs.Piece.{Piece, well_formed, malformed, AreWellFormed, malformed_count}
-use Rattle.encoding_mem.specs.Coding.{AllMapped, lost_count}
-use Rattle.encoding_mem.specs.declared.form.EscapeState.TheVariants.{Ascii}
+use Rattle.std.proofs.Common.{◌≡◌, ℕ, ◌+◌, ◌*◌, ◌≤◌, ◌-◌, ◌↔◌, true, IsTrue, List, [], ◌++◌, length, sym, ◌∙◌, ap, subst, arith, append-nil, min}
+use Rattle.encoding_mem.specs.Piece.{AreWellFormed}
+use Rattle.encoding_mem.specs.Coding.{AllMapped}
 use Rattle.encoding_front.specs.Encodings.{KeepsCharacters}
 use Rattle.encoding_front.specs.laws.Encodings.{reads_back_exactly}
 use Rattle.encoding_front.specs.laws.Input.{marked_scalars}
 use Rattle.encoding_mem.specs.ReadBack.{ReadsAs}
-use Rattle.recode.specs.TaggedByte.{TaggedByte, Wrote, IsPrefix, tagged, output_bytes, log_bytes}
+use Rattle.recode.specs.TaggedByte.{Wrote, tagged}
 use Rattle.recode.specs.WrittenItems.{IsLeft, IsSpared, bad_line_count, lost_line_count}
-use Rattle.recode.specs.State.{WillBeFaithful, to_write}
-use Rattle.recode.specs.calls.TraceToWrite.{AreSound}
 use Rattle.recode.specs.Work.{ReportsFewCalls}
 use Rattle.recode.specs.Job.{IsValidJob, Faithful, input_pieces, output_pieces, input_text, target_of, log_of, output_of, trace, whole_trace}
 use Rattle.recode.specs.Latency.{WroteDecided}
@@ -18,22 +15,14 @@ use Rattle.recode.specs.Policy.{reference_form}
 use Rattle.recode.specs.Session.{View, IsNewSession, Tells, Completes, Fails}
 use Rattle.recode.specs.Step.{Finishes}
 use Rattle.recode.specs.Devices.{Devices}
-use Rattle.recode.specs.declared.counts.Counts.{Counts}
 use Rattle.recode.specs.declared.job.Fault.{Fault}
 use Rattle.recode.specs.declared.job.Job.{Job}
 use Rattle.recode.specs.declared.job.Policy.{Policy}
 use Rattle.recode.specs.declared.job.Report.{Report}
 use Rattle.recode.proofs.LatencyLemmas.{stands_run, wrote_decided}
-use Rattle.recode.proofs.StepLemmas.{HasStopped, left_as}
-use Rattle.recode.proofs.StopLemmas.{mapped_where_faithful, output_where_mapped, quiet_where_kept, trace_where_spared, whole_within}
+use Rattle.recode.proofs.StepLemmas.{HasStopped}
+use Rattle.recode.proofs.StopLemmas.{bads_of, losts_of, mapped_where_faithful, output_where_mapped, quiet_where_kept, trace_where_spared, whole_within}
 use Rattle.recode.proofs.WorkLemmas.{items_split}
-use Rattle.recode.specs.laws.Items.{output_bytes-append, log_bytes-append, bad_line_count-trace, lost_line_count-trace}
-
--- No malformed sequence.
-pub none_malformed : (ps : List Piece) → malformed_count ps ≡ 0 → AreWellFormed ps
-none_malformed [] h = tt
-none_malformed (well_formed n cs ∷ ps) h = (tt, none_malformed ps h)
-none_malformed (malformed n ∷ ps) h = absurd (omega arith)
 
 -- nothing was lost if each piece is well-formed and each character has bytes, and only then
 pub faithful_where_kept : (j : Job) (x : List ℕ) → IsValidJob j → KeepsCharacters j.to → AreWellFormed (input_pieces j x) → AllMapped (target_of j) (input_text j x) → Faithful j x
@@ -46,28 +35,13 @@ faithful_where_kept j x v keeps h k =
 pub quiet_where_faithful : (j : Job) (x : List ℕ) → IsValidJob j → Faithful j x → log_of j x ≡ []
 quiet_where_faithful j x v f = quiet_where_kept j x f.source (mapped_where_faithful j x v f)
 
-whole_items : (before after : Devices) (j : Job) (v u : View) → IsNewSession v j → (f : Finishes before after j.limit v.state u.state) → f.pays.written_items ≡ whole_trace j f.chunk
-whole_items before after j v u b f = sym (append-nil f.pays.written_items) ∙ sym f.pays.equals ∙ b.owes_trace f.chunk
-
--- The lines of a whole conversion are as many as its malformed sequences and its lost characters.
-record AreLines (j : Job) (x : List ℕ) (before after : Counts) : Type 0 where
-  bad : after.bad ≡ before.bad + malformed_count (input_pieces j x)
-  lost : after.lost ≡ before.lost + lost_count (target_of j) (input_text j x)
-
-lines : (before after : Devices) (j : Job) (v u : View) → IsNewSession v j → (f : Finishes before after j.limit v.state u.state) → AreLines j f.chunk v.state.counts u.state.counts
-lines before after j v u b f =
-    let items = whole_items before after j v u b f in
-    let p = reference_form j.policy in
-    record {
-      bad = f.pays.counted.bad ∙ ap (λ n. v.state.counts.bad + n) (ap bad_line_count items ∙ bad_line_count-trace p (target_of j) Ascii 0 0 (input_pieces j f.chunk));
-      lost = f.pays.counted.lost ∙ ap (λ n. v.state.counts.lost + n) (ap lost_line_count items ∙ lost_line_count-trace p (target_of j) Ascii 0 0 (input_pieces j f.chunk));
-    }
+whole_items : {before after : Devices} {j : Job} {v u : View} → IsNewSession v j → (f : Finishes before after j.limit v.state u.state) → f.pays.written_items ≡ whole_trace j f.chunk
+whole_items b f = sym (append-nil f.pays.written_items) ∙ sym f.pays.equals ∙ b.owes_trace f.chunk
 
 pub completes : (before after : Devices) (j : Job) (v u : View) (p : Report) → IsValidJob j → IsNewSession v j → Finishes before after j.limit v.state u.state → Tells u p → Completes before.reads after.reads before.written after.written j p
 completes before after j v u p valid b f t =
     let x : List ℕ = f.chunk in
-    let items = whole_items before after j v u b f in
-    let counted = lines before after j v u b f in
+    let items = whole_items b f in
     let spared : IsSpared j.policy (whole_trace j x) = subst (IsSpared j.policy) items (subst (λ (q : Policy). IsSpared q f.pays.written_items) b.policy f.pays.spared) in
     let wrote : Wrote before.written after.written (tagged (trace j x)) = subst (λ t. Wrote before.written after.written (tagged t)) (items ∙ sym (trace_where_spared j x spared)) f.pays.wrote in
     record {
@@ -76,14 +50,14 @@ completes before after j v u p valid b f t =
       converted = record {
         whole = record {
           within = omega (arith, f.within, f.counted, b.read);
-          unstopped = λ stops. sym (lost_line_count-trace (reference_form j.policy) (target_of j) Ascii 0 0 (input_pieces j x)) ∙ spared stops;
+          unstopped = λ stops. sym (losts_of j x) ∙ spared stops;
           output = wrote.output;
           logged = wrote.lined;
         };
         report = record {
           read = omega (arith, t.read, f.counted, b.read);
-          bad = omega (arith, t.bad, counted.bad, b.bad);
-          lost = omega (arith, t.lost, counted.lost, b.lost);
+          bad = omega (arith, t.bad, f.pays.counted.bad, ap bad_line_count items, b.bad, bads_of j x);
+          lost = omega (arith, t.lost, f.pays.counted.lost, ap lost_line_count items, b.lost, losts_of j x);
           encoding = t.encoding ∙ sym f.source ∙ b.source x;
           faithful = (λ h. (b.verdict x).0 (f.verdict.1 (sym t.verdict ∙ h)), λ h. t.verdict ∙ f.verdict.0 ((b.verdict x).1 h));
         };
@@ -93,20 +67,17 @@ completes before after j v u p valid b f t =
 -- The bounds on the calls that are reported.
 pub few_calls : (before after : Devices) (j : Job) (v u : View) (p : Report) → IsValidJob j → IsNewSession v j → Finishes before after j.limit v.state u.state → Tells u p → ReportsFewCalls p
 few_calls before after j v u p valid b f t =
+    let items = whole_items b f in
     let x : List ℕ = f.chunk in
-    let within : length x ≤ j.limit = omega (arith, f.within, f.counted, b.read) in
-    let read : p.read ≡ length x = omega (arith, t.read, f.counted, b.read) in
-    let items = whole_items before after j v u b f in
-    let bad = f.pays.counted.bad ∙ ap (λ t. v.state.counts.bad + bad_line_count t) items in
-    let lost = f.pays.counted.lost ∙ ap (λ t. v.state.counts.lost + lost_line_count t) items in
     let most : p.calls ≤ 37 * p.read + 9 =
-    omega (arith, t.calls, t.read, f.calls, b.calls, b.index, b.read, b.bad, b.lost, f.counted, bad, lost, f.sound.index, f.sound.bad, f.sound.lost, ap length (b.owes_trace x), items_split (whole_trace j x), whole_within j x valid) in
-    record { least = omega (arith, read, t.calls, t.bad, t.lost, b.calls, b.bad, b.lost, f.least (omega (arith, most, t.calls, read, within, valid.limit))); most = most }
+    omega (arith, t.calls, t.read, f.calls, b.calls, b.index, b.read, b.bad, b.lost, f.counted, f.pays.counted.bad, f.pays.counted.lost, ap bad_line_count items, ap lost_line_count items, f.sound.index, f.sound.bad, f.sound.lost, ap length (b.owes_trace x), items_split (whole_trace j x), whole_within j x valid) in
+    record { least = omega (arith, t.read, f.counted, b.read, t.calls, t.bad, t.lost, b.calls, b.bad, b.lost, f.least (omega (arith, most, t.calls, t.read, f.counted, f.within, b.read, valid.limit))); most = most }
 
 pub fails : (before after : Devices) (j : Job) (v : View) (f : Fault) → IsNewSession v j → HasStopped before after j.limit v.state f → Fails before after j f
 fails before after j v f b s =
     let left : (r : List ℕ) → (s.read.ended ≡ true → r ≡ []) → IsLeft j.policy f s.pays.taken (whole_trace j (s.read.input ++ r)) =
-    λ r h. subst (IsLeft j.policy f s.pays.taken) (b.owes_trace (s.read.input ++ r)) (left_as v.state.policy j.policy f s.pays.taken (to_write v.state (s.read.input ++ r)) b.policy (s.pays.left r h)) in
+    λ r h. subst (λ (p : Policy). IsLeft p f s.pays.taken (whole_trace j (s.read.input ++ r))) b.policy
+    (subst (IsLeft v.state.policy f s.pays.taken) (b.owes_trace (s.read.input ++ r)) (s.pays.left r h)) in
     record {
       read = s.read;
       within = omega (arith, s.within, b.read);

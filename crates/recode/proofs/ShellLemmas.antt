@@ -1,5 +1,5 @@
--- What the loop that calls the writers makes of the engine's calls.
-use Rattle.std.proofs.Common.{◌≡◌, ℕ, ◌+◌, ◌-◌, ◌≤◌, ◌^◌, Bool, true, List, [], ◌++◌, map, length, length-append, ◌<◌, Option, None, Result, Ok, Err, OnOk, IfErr, refl, sym, ◌∙◌, ap, subst, arith, append-nil, append_assoc}
+-- What the loop that calls the writers makes of the engine's calls, and what the calls of a converter are.
+use Rattle.std.proofs.Common.{◌≡◌, ℕ, ◌+◌, ◌-◌, ◌≤◌, ◌^◌, Bool, true, List, [], ◌++◌, map, length, length-append, ◌<◌, Option, None, Result, Ok, Err, OnOk, IfErr, refl, sym, ◌∙◌, ap, subst, arith, append-nil, append_assoc, false, Some, inl, rules}
 use Rattle.std.proofs.lemmas.Str.{chars-nil}
 use Rattle.std.specs.Str.{all_scalars, encode_utf8_all}
 use Rattle.encoding_mem.proofs.Utf16Lemmas.{no_units}
@@ -8,28 +8,41 @@ use Rattle.encoding_mem.specs.calls.Writing.{encode_utf16_all}
 use Rattle.encoding_mem.specs.declared.reference.Reference.{Reference}
 use Rattle.recode_log.specs.declared.line.LogLine.{LogLine}
 use Rattle.recode_log.specs.declared.line.LogLine.TheVariants.{Bad, Lost}
-use Rattle.recode.specs.Converter.{found_items}
+use Rattle.recode.specs.Converter.{found_items, ConverterView, ConvertsPart, ConverterEndsWith, is_all_converted, owed_after}
 use Rattle.recode.specs.Policy.{reference_form}
 use Rattle.recode.specs.State.{State, to_write}
 use Rattle.recode.specs.TaggedByte.{Wrote, tagged}
 use Rattle.recode.specs.WrittenItems.{IsLeft, IsSpared, WritesPrefixFor}
 use Rattle.recode.specs.calls.Chunk.{CanConvert, ConvertsChunk, IsDoneWith}
-use Rattle.recode.specs.calls.EngineView.{HoldsBetween, chars_between}
+use Rattle.recode.specs.calls.EngineView.{HoldsBetween, chars_between, over_text, standing, pivot_bytes}
 use Rattle.recode.specs.calls.Held.{LeavesPrefixFor, Passes, WritersView, held_items}
 use Rattle.recode.specs.calls.TraceToWrite.{AreSound}
-use Rattle.recode.specs.calls.Turns.{AreCountedSoundly, CanGoOn, Standing, TakesTurns, owed}
+use Rattle.recode.specs.calls.Turns.{AreCountedSoundly, CanGoOn, Standing, TakesTurns, owed, ConvertEndsWith, IsBetweenCalls, IsOpenFor, is_last_text, reported, settled, pieces_of_text, waiting}
 use Rattle.recode.specs.calls.Writers.{AreReady, HandsOnUnder, HoldNothing, written_by, writers_view}
-use Rattle.recode.specs.declared.converter.ConverterResult.TheVariants.{Found}
+use Rattle.recode.specs.declared.converter.ConverterResult.TheVariants.{Found, InputEmpty}
 use Rattle.recode.specs.declared.job.Fault.{Fault}
 use Rattle.recode.specs.declared.job.Pivot.{Pivot}
 use Rattle.recode.specs.declared.job.Pivot.TheVariants.{Utf8, Utf16}
 use Rattle.recode.specs.declared.job.Policy.{Policy}
 use Rattle.recode.specs.declared.writers.Writers.{Writers}
 use Rattle.recode.specs.laws.Items.{lost_line_count-bytes, spared_append, spared_nil}
-use Rattle.recode.proofs.BufferLemmas.{view_none}
-use Rattle.recode.proofs.HandsLemmas.{err_map, hands_start, hands_then}
-use Rattle.recode.proofs.HeldLemmas.{left_for_of}
+use Rattle.recode.proofs.WriterLemmas.{err_map, hands_start, hands_then, left_for_of, view_none}
 use Rattle.recode.proofs.TurnLemmas.{nothing_waits, standing_is, turns_more, turns_start}
+use Rattle.std.proofs.Math.Bool.{and-false, and-true}
+use Rattle.std.proofs.lemmas.Bool.{false_from_ne_true, true_from_ne_false}
+use Rattle.std.proofs.lemmas.List.{nil_from_length}
+use Rattle.recode.proofs.ConvertLemmas.{end_open, none_open}
+use Rattle.std.specs.Prelude.{◌&&◌}
+use Rattle.encoding_mem.specs.Piece.{Piece, sizes}
+use Rattle.encoding_mem.specs.declared.decoder_result.DecoderResult.{DecoderResult}
+use Rattle.encoding_mem.specs.declared.decoder_result.DecoderResult.TheVariants as decoded
+use Rattle.encoding_front.specs.calls.Stream.{DecoderView}
+use Rattle.encoding_mem.specs.calls.EncoderRule.{EncoderParts}
+use Rattle.recode.specs.declared.engine.Engine.{Engine}
+use Rattle.recode.specs.calls.Buffers.{is_wide}
+use Rattle.recode.specs.declared.converter.ConverterResult.{ConverterResult}
+use Rattle.recode.specs.declared.job.Job.{Job}
+use Rattle.recode.specs.calls.Verdict.{CanTell}
 
 -- What was passed so far, and what turns it was.
 pub record Pumps {W L : Type 0} (contents : W → Option (List ℕ)) (logged : L → Option (List ℕ)) (p : Policy) (before after : Writers W L) (c c' : Standing) (last : Bool) (bytes rest : List ℕ) (most least : ℕ) : Type 0 where
@@ -137,14 +150,11 @@ pub ok_of : {T E A : Type 0} (r : Result T E) → A → OnOk r A
 ok_of (Ok x) k = k
 ok_of (Err e) k = tt
 
--- less is owed
-owes_less : (a b : List Item) (items : List Item) → a ≡ items ++ b → 0 < length items → length b < length a
-owes_less a b items is some = omega (arith, ap length is, length-append items b, some)
-
 -- fewer items are owed
 pub smaller_by : {c1 c2 : Standing} {last : Bool} {y z : List ℕ} {items : List Item} {m l : ℕ} → TakesTurns c1 c2 last y z items m l → 0 < length items → length (owed c2 z) < length (owed c1 y)
 smaller_by {c1} {c2} {last} {y} {z} {items} t some =
-    owes_less (owed c1 y) (owed c2 z) items (ap (owed c1) (sym (append-nil y)) ∙ t.owes [] (λ _. refl) ∙ ap (λ x. items ++ owed c2 x) (append-nil z)) some
+    let is : owed c1 y ≡ items ++ owed c2 z = rw (append-nil y, append-nil z) at (t.owes [] (λ _. refl)) in
+    omega (arith, ap length is, length-append items (owed c2 z))
 
 pub between_none : (p : Pivot) → chars_between p 0 0 ≡ []
 between_none (Utf8 bytes) = chars-nil
@@ -168,3 +178,150 @@ ready_start c src last none empty limit h = subst (λ (z : Standing). CanGoOn z 
 pub found_some : (ref : Reference) (bytes : List ℕ) (line : LogLine) → 0 < length (map Byte bytes ++ found_items ref (Found line))
 found_some ref bytes (Bad offset size) = omega (arith, length-append (map Byte bytes) (found_items ref (Found (Bad offset size))))
 found_some ref bytes (Lost index scalar) = omega (arith, length-append (map Byte bytes) (found_items ref (Found (Lost index scalar))))
+
+-- ---- the text that waits, in a pivot and out of it
+
+pub holds_kept : (p : Pivot) (text : List ℕ) (from to : ℕ) → is_wide p ≡ false → text ≡ pivot_bytes p → HoldsBetween p from to → HoldsBetween (over_text text) from to
+holds_kept (Utf8 bytes) text from to form same h = subst (λ t. HoldsBetween (over_text t) from to) (sym same) (record { order = h.order; within = h.within; scalars = h.scalars; whole = h.whole })
+holds_kept (Utf16 units) text from to form same h = absurd (cc)
+
+-- ---- a converter by its standing
+
+-- a converter whose engine stands so
+abbrev pub view_at : Job → Standing → (ended over : Bool) → ConverterView
+view_at j c ended over = record { job = j; state = c.state; waiting = waiting c; ended = ended; over = over }
+
+-- ---- when a call can be made
+
+open_from : (a : Option DecoderResult) (c : Standing) (ended : Bool) (src : List ℕ) (last : Bool) → c.answer ≡ a → IsBetweenCalls c ended → (ended ≡ true → (src ≡ []) × (last ≡ true)) → IsOpenFor a c src last
+open_from None c ended src last is h with_end = (h.none is, h.finished ∙ false_from_ne_true ended (λ e. absurd (cc (sym is ∙ (h.end e).0))))
+open_from (Some decoded.OutputFull) c ended src last is h with_end = h.finished ∙ false_from_ne_true ended (λ e. absurd (cc (sym is ∙ (h.end e).0)))
+open_from (Some (decoded.Malformed a b)) c ended src last is h with_end =
+    let size = h.malformed a b is in
+    (h.finished ∙ false_from_ne_true ended (λ e. absurd (cc (sym is ∙ (h.end e).0))), size.0, size.1, size.2)
+open_from (Some decoded.InputEmpty) c ended src last is h with_end =
+    let end : ended ≡ true = true_from_ne_false ended (λ e. absurd (cc (sym (ap (λ x. is_last_text x true) is) ∙ h.more e))) in
+    let none = nil_from_length (c.state.decoder.pieces []) (h.end end).2 in
+    ((with_end end).0, h.finished ∙ end ∙ sym (with_end end).1, inl ((h.end end).1, none), λ _. ((h.end end).1, none))
+
+pub can_go_on : (c : Standing) (ended : Bool) (src : List ℕ) (last : Bool) → IsBetweenCalls c ended → (ended ≡ true → (src ≡ []) × (last ≡ true)) → c.state.counts.read + length src ≤ 2 ^ 48 → CanGoOn c src last
+can_go_on c ended src last h with_end limit = record {
+  sound = h.sound;
+  limit = limit;
+  tells = h.tells;
+  open_ = open_from c.answer c ended src last refl h with_end;
+}
+
+-- ---- what is left by a call
+
+-- what a settled answer says of the one before
+record IsSettled (a b : Option DecoderResult) (last : Bool) : Type 0 where
+  pub reported : reported b ≡ reported a
+  pub none : b ≡ None → a ≡ None
+  pub malformed : (m n : ℕ) → b ≡ Some (decoded.Malformed m n) → a ≡ Some (decoded.Malformed m n)
+  pub more : is_last_text a last ≡ false → is_last_text b true ≡ false
+  pub end : is_last_text a last ≡ true → b ≡ Some decoded.InputEmpty
+
+settles : (a : Option DecoderResult) (last : Bool) → IsSettled a (settled a last) last
+settles (Some decoded.InputEmpty) true = search rules
+settles (Some (decoded.Malformed a b)) last = search rules
+settles _ _ = search rules
+
+-- an engine after a call
+abbrev pub after_call : Standing → Bool → Standing
+after_call c last = record { state = c.state; answer = settled c.answer last; text = c.text }
+
+pub view_after : (j : Job) (c : Standing) (last e o : Bool) → view_at j (after_call c last) e o ≡ view_at j c e o
+view_after j c last e o = ap (λ (ps : List Piece). record { job = j; state = c.state; waiting = pieces_of_text c.text ++ ps; ended = e; over = o }) (settles c.answer last).reported
+
+-- what a call may go on with
+finished_open : (o : Option DecoderResult) (c : Standing) (x : List ℕ) (last : Bool) → IsOpenFor o c x last → c.state.finished ≡ is_last_text o last
+finished_open (Some decoded.OutputFull) c x last h = h
+finished_open (Some (decoded.Malformed a b)) c x last h = h.0
+finished_open _ c x last h = h.1
+
+pub rests_after : (c : Standing) (x : List ℕ) (last : Bool) → CanGoOn c x last → IsBetweenCalls (after_call c last) (is_last_text c.answer last)
+rests_after c x last h =
+    let k = settles c.answer last in
+    let sound = h.sound in
+    record {
+      sound = record { index = omega (arith, sound.index, ap (λ ps. sizes (pieces_of_text c.text ++ ps)) k.reported); bad = sound.bad; lost = sound.lost };
+      tells = h.tells;
+      finished = finished_open c.answer c x last h.open_;
+      none = λ e. (none_open c x last c.answer (k.none e) h.open_).0;
+      malformed = λ a b e. let o = rw (k.malformed a b e) at h.open_ in (o.1, o.2, o.3);
+      end = λ e. let is = end_open c.answer c x last e h.open_ in (k.end e, is.pending, ap length is.none);
+      more = k.more;
+    }
+
+-- ---- how a call ends
+
+pub ended_with : (c : Standing) (x : List ℕ) (last : Bool) (free : ℕ) (result : ConverterResult) → ConvertEndsWith c x last free result → is_last_text c.answer last ≡ true → (last ≡ true) × (x ≡ [])
+ended_with c x last free InputEmpty h e = absurd (cc (sym e ∙ ap (λ a. is_last_text a last) h.1))
+ended_with c x last free _ h e = let end = end_open c.answer c x last e h.1.open_ in (end.last, end.read)
+
+-- the law of a converter's call, by that of its engine
+pub part_of : (j : Job) (c c' : Standing) (e o e' o' last : Bool) (bytes rest : List ℕ) (items : List Item) (m l free : ℕ) (result : ConverterResult) → TakesTurns c c' last bytes rest items m l → ConvertEndsWith c' rest last free result → e' ≡ is_last_text c'.answer last
+    → ConvertsPart (view_at j c e o) (view_at j (after_call c' last) e' o') last bytes rest items
+part_of j c c' e o e' o' last bytes rest items m l free result t ends is = rw (view_after j c' last e' o') (record {
+  job = refl;
+  owed = t.owes;
+  verdict = t.verdict;
+  source = t.source;
+  counted = t.counted;
+  lines = t.lines;
+  ended = λ end. ended_with c' rest last free result ends (sym is ∙ end);
+})
+
+none_waits : (c : Standing) → c.answer ≡ None → c.text ≡ [] → waiting c ≡ []
+none_waits c none empty = rw (none, empty) refl
+
+none_owed : (s : State) → to_write s [] ≡ [] → owed_after [] s [] ≡ []
+none_owed s h = ap (λ (n : ℕ). trace_from (reference_form s.policy) s.coding s.set (s.counts.read - n) s.counts.index (s.decoder.pieces [])) (omega arith) ∙ h
+
+ends_in : (j : Job) (c : Standing) (x : List ℕ) (last : Bool) (free : ℕ) (result : ConverterResult) → ConvertEndsWith c x last free result → ConverterEndsWith (view_at j c (is_last_text c.answer last) (last && is_all_converted result)) x last free result
+ends_in j c x last free InputEmpty h = record {
+  all = h.0;
+  none = none_waits c h.1 h.2;
+  settled = h.3.settled;
+  over = and-true last;
+  ended = ap (λ a. is_last_text a last) h.1;
+  whole = λ e. record { written = rw (none_waits c h.1 h.2) (none_owed c.state (h.3.end e)); told = rw (none_waits c h.1 h.2) (h.3.told e) };
+}
+ends_in j c x last free _ h = (h.0, and-false last)
+
+pub ends_of : (j : Job) (c : Standing) (x : List ℕ) (last : Bool) (free : ℕ) (result : ConverterResult) (e o : Bool) → ConvertEndsWith c x last free result → e ≡ is_last_text c.answer last → o ≡ (last && is_all_converted result)
+    → ConverterEndsWith (view_at j (after_call c last) e o) x last free result
+ends_of j c x last free result e o h is all =
+    rw (view_after j c last e o, is, all) (ends_in j c x last free result h)
+
+goes_on : (c : Standing) (x : List ℕ) (last : Bool) (free : ℕ) (result : ConverterResult) → c.state.counts.read ≤ 2 ^ 48 → ConvertEndsWith c x last free result → (last && is_all_converted result) ≡ false → CanGoOn c x last
+goes_on c x last free InputEmpty within h open_ = ready_start c x last h.1 h.2 (omega (arith, within, ap length h.0)) (h.3.ready (sym (and-true last) ∙ open_))
+goes_on c x last free _ within h open_ = h.1
+
+-- a converter rests after a call that did not end it
+pub rests_of : (c : Standing) (x : List ℕ) (last : Bool) (free : ℕ) (result : ConverterResult) (e o : Bool) → c.state.counts.read ≤ 2 ^ 48 → ConvertEndsWith c x last free result → e ≡ is_last_text c.answer last → o ≡ (last && is_all_converted result) → o ≡ false
+    → IsBetweenCalls (after_call c last) e
+rests_of c x last free result e o within h is all open_ = rw is (rests_after c x last (goes_on c x last free result within h (sym all ∙ open_)))
+
+-- ---- the standing of an engine over the text that was kept
+pub standing_kept : {D E : Type 0} (view : D → DecoderView) (parts : E → EncoderParts) (p : Policy) (e : Engine D E) (pivot : Pivot) (text : List ℕ) → is_wide pivot ≡ false → text ≡ pivot_bytes pivot
+    → standing view parts p e pivot ≡ standing view parts p e (over_text text)
+standing_kept view parts p e (Utf8 bytes) text form same = ap (λ t. standing view parts p e (over_text t)) (sym same)
+standing_kept view parts p e (Utf16 units) text form same = absurd (cc)
+
+-- an engine of which nothing is read
+pub new_rests : (c : Standing) → c.answer ≡ None → c.text ≡ [] → CanConvert c.state → IsBetweenCalls c false
+new_rests c none empty h = record {
+  sound = sound_start c none empty h.sound;
+  tells = subst (CanTell c.state.verdict c.state.coding c.state.set) (sym empty) h.tells;
+  finished = h.open_;
+  none = λ _. empty;
+  malformed = λ a b e. absurd (cc (sym none ∙ e));
+  end = λ e. absurd (cc);
+  more = λ _. ap (λ a. is_last_text a true) none;
+}
+
+-- no text stands between a place and itself
+pub none_between : (p : Pivot) (from to : ℕ) → from ≡ 0 → to ≡ 0 → (chars_between p from to ≡ []) × HoldsBetween p from to
+none_between p from to is ends = rw (is, ends) (between_none p, holds_none p)

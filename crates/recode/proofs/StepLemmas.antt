@@ -1,20 +1,20 @@
 -- How a step's parts make its clauses. What is left if a conversion failed.
 use Rattle.std.proofs.Common.{Err, Ok, ◌⊎◌, ◌≡◌, ℕ, ◌+◌, ◌≤◌, ◌<◌, add-zero, arith, length-append, append_assoc, List, [], ◌++◌, length, Bool, true, false, refl, sym, ap, ◌∙◌, subst, append-nil, take, inl, inr}
-use Rattle.recode.proofs.GrowLemmas.{Gave-kept, Gave-nil, Gave-trans, GaveToEnd-after, GaveToEnd-is, Grew-kept, Grew-trans}
+use Rattle.recode.proofs.GrowLemmas.{Gave-nil, Gave-trans, GaveToEnd-after, GaveToEnd-is, Grew-trans}
 use Rattle.encoding_mem.specs.Items.{Item}
 use Rattle.recode.specs.State.{State, to_write}
 use Rattle.recode.specs.Devices.{CountsFault, Devices, Failures, Gave, GaveToEnd, Grew, KeepsWritten, Written}
-use Rattle.recode.specs.TaggedByte.{Wrote, tagged, TaggedByte, output_bytes, log_bytes}
+use Rattle.recode.specs.TaggedByte.{Wrote, tagged, TaggedByte, log_bytes}
 use Rattle.recode.specs.Policy.{written_under}
-use Rattle.recode.specs.WrittenItems.{IsLeft, IsSpared, IsStop, WritesPrefixFor}
-use Rattle.recode.specs.Step.{Advances, Finishes, HasRun, IsNearlyDecided, StepsOn, Stops, WasRead}
+use Rattle.recode.specs.WrittenItems.{IsLeft, IsStop, WritesPrefixFor}
+use Rattle.recode.specs.Step.{Finishes, HasRun, IsNearlyDecided, StepsOn, Stops, WasRead}
 use Rattle.recode.specs.Fault.{of_other}
 use Rattle.recode.specs.declared.job.Fault.{Fault}
-use Rattle.recode.specs.declared.job.Fault.TheVariants.{Read, Write, Log, TooLong, Unmappable}
-use Rattle.recode.proofs.LatencyLemmas.{advances_more, advances_start}
+use Rattle.recode.specs.declared.job.Fault.TheVariants.{Read, Write, Log, TooLong}
+use Rattle.recode.proofs.LatencyLemmas.{advances_more}
 use Rattle.recode.proofs.VerdictLemmas.{both_ways}
 use Rattle.recode.specs.laws.Items.{tagged-append, AreCounted-trans, spared_append}
-use Rattle.recode.proofs.TraceLemmas.{Wrote-nil, Wrote-trans, WritesItemsFor-start, left_behind}
+use Rattle.recode.proofs.TraceLemmas.{WritesItemsFor-start, Wrote-nil, Wrote-trans, left_behind}
 use Rattle.recode_log.specs.Counted.{IsTold}
 use Rattle.recode.specs.Conversion.{Breaks, CountsFlushes, IsFlushCause, RisesBy, message_of}
 use Rattle.recode.specs.Job.{trace}
@@ -32,7 +32,7 @@ keeps_all w = record { output = refl; log = refl }
 pub stops_unread : (a b : List (List ℕ)) (w : Written) (n m : Failures) (limit : ℕ) (s : State) → b ≡ a → s.counts.read ≤ limit
     → Stops (record { reads = a; written = w; failures = n }) (record { reads = b; written = w; failures = m }) limit s Read
 stops_unread a b w n m limit s p within = record {
-  read = record { input = []; refused = []; ended = false; given = Gave-kept a b p; end = λ h. cc; none = λ h. cc; spared = λ h. refl };
+  read = record { input = []; refused = []; ended = false; given = ([], p ∙ sym (append-nil a), refl); end = λ h. cc; none = λ h. cc; spared = λ h. refl };
   within = omega (arith, within);
   limited = λ is. absurd (cc);
   pays = nothing_under w s.policy Read false (to_write s) (λ t i c is. absurd (cc));
@@ -69,13 +69,6 @@ pub record HasStopped (before after : Devices) (limit : ℕ) (s : State) (fault 
   -- if no writer failed, what was written is what the steps before wrote
   pub latest : (fault ≡ Read) ⊎ (fault ≡ TooLong) → (t : Devices) × (s' : State) × (ran : HasRun before t limit s s') × (ran.chunk ≡ read.input) × KeepsWritten t.written after.written
 
--- under the same policy
-spared_as : (p q : Policy) (items : List Item) → p ≡ q → IsSpared p items → IsSpared q items
-spared_as p q items e h = rw (sym e) h
-
-pub left_as : (p q : Policy) (f : Fault) (taken : List TaggedByte) (to_write : List Item) → p ≡ q → IsLeft p f taken to_write → IsLeft q f taken to_write
-left_as p q f taken to_write e h = subst (λ (k : Policy). IsLeft k f taken to_write) e h
-
 pub goes_on_start : (a : Devices) (limit : ℕ) (s : State) → s.counts.read ≤ limit → IsNearlyDecided s.decoder → HasRun a a limit s s
 goes_on_start a limit s within settled = record {
   chunk = [];
@@ -84,7 +77,7 @@ goes_on_start a limit s within settled = record {
   within = within;
   target = refl;
   policy = refl;
-  advances = advances_start s.decoder.pieces s.coding s.set s.counts;
+  advances = record { taken = []; rest = λ r. refl; set = refl; index = omega arith };
   settled = settled;
   pays = WritesItemsFor-start a.written s.counts s.policy false (to_write s);
   source = λ r. refl;
@@ -92,11 +85,6 @@ goes_on_start a limit s within settled = record {
   calls = λ r. omega arith;
   least = λ under. omega arith;
 }
-
--- the same bytes in two parts
-in_parts : (s s1 : State) (chunk more : List ℕ) → Advances (λ r. s.decoder.pieces (chunk ++ r)) s1.decoder.pieces s.coding s.set s1.set s.counts s1.counts
-    → Advances (λ r. s.decoder.pieces ((chunk ++ more) ++ r)) (λ r. s1.decoder.pieces (more ++ r)) s.coding s.set s1.set s.counts s1.counts
-in_parts s s1 chunk more p = record { taken = p.taken; rest = λ r. ap s.decoder.pieces (append_assoc chunk more r) ∙ p.rest (more ++ r); set = p.set; index = p.index }
 
 pub goes_on_more : (a b c : Devices) (limit : ℕ) (s s1 s2 : State) → HasRun a b limit s s1 → StepsOn b c limit s1 s2 → HasRun a c limit s s2
 goes_on_more a b c limit s s1 s2 p q = record {
@@ -106,14 +94,16 @@ goes_on_more a b c limit s s1 s2 p q = record {
   within = q.within;
   target = q.target ∙ p.target;
   policy = q.policy ∙ p.policy;
-  advances = advances_more _ (λ r. s1.decoder.pieces (q.chunk ++ r)) _ _ _ _ _ _ _ _ (in_parts s s1 p.chunk q.chunk p.advances)
-      (subst (λ e. Advances (λ r. s1.decoder.pieces (q.chunk ++ r)) s2.decoder.pieces e s1.set s2.set s1.counts s2.counts) p.target q.advances);
+  advances =
+      let f = p.advances in
+      let rest = λ (r : List ℕ). ap s.decoder.pieces (append_assoc p.chunk q.chunk r) ∙ f.rest (q.chunk ++ r) in
+      advances_more _ (λ r. s1.decoder.pieces (q.chunk ++ r)) _ _ _ _ _ _ _ _ (record { taken = f.taken; rest = rest; set = f.set; index = f.index }) (rw p.target at q.advances);
   settled = q.settled;
   pays = record {
     written_items = p.pays.written_items ++ q.pays.written_items;
     wrote = subst (Wrote a.written c.written) (sym (tagged-append p.pays.written_items q.pays.written_items)) (Wrote-trans a.written b.written c.written _ _ p.pays.wrote q.pays.wrote);
     counted = AreCounted-trans s.counts s1.counts s2.counts p.pays.written_items q.pays.written_items p.pays.counted q.pays.counted;
-    spared = spared_append s.policy p.pays.written_items q.pays.written_items p.pays.spared (spared_as s1.policy s.policy q.pays.written_items p.policy q.pays.spared);
+    spared = spared_append s.policy p.pays.written_items q.pays.written_items p.pays.spared (rw p.policy at q.pays.spared);
     equals = λ r h. ap (to_write s) (append_assoc p.chunk q.chunk r) ∙ p.pays.equals (q.chunk ++ r) (λ k. cc) ∙ ap (λ t. p.pays.written_items ++ t) (q.pays.equals r h)
         ∙ sym (append_assoc p.pays.written_items q.pays.written_items (to_write s2 r));
   };
@@ -135,7 +125,7 @@ goes_on_finish a b c limit s s1 s2 p q = record {
     written_items = p.pays.written_items ++ q.pays.written_items;
     wrote = subst (Wrote a.written c.written) (sym (tagged-append p.pays.written_items q.pays.written_items)) (Wrote-trans a.written b.written c.written _ _ p.pays.wrote q.pays.wrote);
     counted = AreCounted-trans s.counts s1.counts s2.counts p.pays.written_items q.pays.written_items p.pays.counted q.pays.counted;
-    spared = spared_append s.policy p.pays.written_items q.pays.written_items p.pays.spared (spared_as s1.policy s.policy q.pays.written_items p.policy q.pays.spared);
+    spared = spared_append s.policy p.pays.written_items q.pays.written_items p.pays.spared (rw p.policy at q.pays.spared);
     equals = p.pays.equals q.chunk (λ k. cc) ∙ ap (λ t. p.pays.written_items ++ t) q.pays.equals ∙ sym (append_assoc p.pays.written_items q.pays.written_items []);
   };
   source = p.source q.chunk ∙ q.source;
@@ -164,52 +154,30 @@ goes_on_stop a b c limit s s1 f p q = record {
     taken = tagged p.pays.written_items ++ q.pays.taken;
     wrote = Wrote-trans a.written b.written c.written _ _ p.pays.wrote q.pays.wrote;
     left = λ r h. left_behind s.policy f p.pays.written_items q.pays.taken _ (to_write s1 (q.read.input ++ r)) p.pays.spared
-        (ap (to_write s) (append_assoc p.chunk q.read.input r) ∙ p.pays.equals (q.read.input ++ r) (λ k. cc)) (left_as s1.policy s.policy f _ _ p.policy (q.pays.left r h));
+        (ap (to_write s) (append_assoc p.chunk q.read.input r) ∙ p.pays.equals (q.read.input ++ r) (λ k. cc)) (subst (λ (k : Policy). IsLeft k f q.pays.taken (to_write s1 (q.read.input ++ r))) p.policy (q.pays.left r h));
   };
   latest = λ h. let kept = q.untouched h in (b, s1, p, sym (append-nil p.chunk) ∙ ap (λ x. p.chunk ++ x) (sym kept.0), kept.1);
 }
 
--- with a limit that is the same
-pub steps_within : {before after : Devices} {s s1 : State} (n m : ℕ) → n ≡ m → StepsOn before after n s s1 → StepsOn before after m s s1
-steps_within {before} {after} {s} {s1} n m same h = subst (λ (k : ℕ). StepsOn before after k s s1) same h
-
-pub finishes_within : {before after : Devices} {s s1 : State} (n m : ℕ) → n ≡ m → Finishes before after n s s1 → Finishes before after m s s1
-finishes_within {before} {after} {s} {s1} n m same h = subst (λ (k : ℕ). Finishes before after k s s1) same h
-
-pub stops_within : {before after : Devices} {s : State} {f : Fault} (n m : ℕ) → n ≡ m → Stops before after n s f → Stops before after m s f
-stops_within {before} {after} {s} {f} n m same h = subst (λ (k : ℕ). Stops before after k s f) same h
-
 -- What is left if a conversion failed.
-
-rises : (n k m a : ℕ) → k ≡ n + a → RisesBy 0 k m → RisesBy a n m
-rises n k m a is h = (omega (arith, is, h.0), omega (arith, is, h.1))
-
-rises_now : (n k m : ℕ) → k ≡ n → k < m → RisesBy 0 k m → RisesBy 1 n m
-rises_now n k m is more h = (omega (arith, is, more), omega (arith, is, h.1))
 
 -- counts after a run, and after the flushes
 module _ (n k : Devices) (m : Failures) (r : m.reader ≡ k.failures.reader) (w : RisesBy 0 k.failures.writer m.writer) (l : RisesBy 0 k.failures.log m.log) where
   -- a run's fault is counted
   pub run_counted : (f : Fault) → CountsFault {T = Report} n k (Err f) → CountsFlushes n.failures m f
-  run_counted Read c = record { reader = r ∙ c.reader; writer = rises _ _ _ _ c.writer w; log = rises _ _ _ _ c.log l }
-  run_counted Write c = record { reader = r ∙ c.reader; writer = rises _ _ _ _ c.writer w; log = rises _ _ _ _ c.log l }
-  run_counted Log c = record { reader = r ∙ c.reader; writer = rises _ _ _ _ c.writer w; log = rises _ _ _ _ c.log l }
-  run_counted TooLong c = record { reader = r ∙ c.reader; writer = rises _ _ _ _ c.writer w; log = rises _ _ _ _ c.log l }
-  run_counted (Unmappable i d) c = record { reader = r ∙ c.reader; writer = rises _ _ _ _ c.writer w; log = rises _ _ _ _ c.log l }
+  run_counted f c = omega arith
 
   -- a flush's fault is counted
   pub flush_counted : (p : Report) (f : Fault) → CountsFault n k (Ok p) → IsFlushCause k.failures.writer m.writer k.failures.log m.log f → CountsFlushes n.failures m f
-  flush_counted p Read c h = absurd h
-  flush_counted p Write c h = record { reader = r ∙ c.reader; writer = rises_now _ _ _ (c.writer ∙ add-zero _) h w; log = rises _ _ _ _ c.log l }
-  flush_counted p Log c h = record { reader = r ∙ c.reader; writer = rises _ _ _ _ c.writer w; log = rises_now _ _ _ (c.log ∙ add-zero _) h.1 l }
-  flush_counted p TooLong c h = absurd h
-  flush_counted p (Unmappable i d) c h = absurd h
+  flush_counted p Write c h = omega arith
+  flush_counted p Log c h = omega arith
+  flush_counted p _ c h = absurd h
 
 -- the log with its message, after what was written and flushed
 module _ (before after : Devices) (flushed : Written) (log : List ℕ) (m : Failures) (untold : ℕ) (j : Job) (kept : KeepsWritten after.written flushed) where
   told_log : (taken : List TaggedByte) (message : List ℕ) → Wrote before.written after.written taken → Grew flushed.log log message → Grew before.written.log log (log_bytes taken ++ message)
   told_log taken message wrote told =
-      Grew-trans before.written.log flushed.log log (log_bytes taken) message (Grew-kept before.written.log after.written.log flushed.log (log_bytes taken) wrote.lined kept.log) told
+      Grew-trans before.written.log flushed.log log (log_bytes taken) message (kept.log ∙ wrote.lined) told
 
   -- by a run that failed
   pub run_broke : (f : Fault) → Fails before after j f → (k : ℕ) × IsTold untold m.log (message_of f) k × Grew flushed.log log (take k (message_of f))
@@ -224,7 +192,7 @@ module _ (before after : Devices) (flushed : Written) (log : List ℕ) (m : Fail
     counted = counted;
     told = told.0;
     whole = told.1;
-    output = Grew-kept before.written.output after.written.output flushed.output (output_bytes k.taken) k.wrote.output kept.output;
+    output = kept.output ∙ k.wrote.output;
     logged = told_log k.taken (take told.0 (message_of f)) k.wrote told.2;
     prefix = k.prefix;
     stopped = k.stopped;
@@ -247,7 +215,7 @@ module _ (before after : Devices) (flushed : Written) (log : List ℕ) (m : Fail
         counted = counted;
         told = told.0;
         whole = told.1;
-        output = Grew-kept before.written.output after.written.output flushed.output (output_bytes all) w.output kept.output;
+        output = kept.output ∙ w.output;
         logged = told_log all (take told.0 (message_of g)) (record { output = w.output; lined = w.logged }) told.2;
         prefix = λ r h. ([], ap (λ t. tagged (trace j t)) (ap (λ t. k.input ++ t) (h refl) ∙ append-nil k.input) ∙ sym (append-nil all));
         stopped = λ r h i c is. absurd (rw is at cause);

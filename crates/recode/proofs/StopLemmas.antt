@@ -1,13 +1,14 @@
 -- What a job writes, beside what it writes if nothing stops it: the same if each character has bytes, and less if it
 -- stops at one that has none. What is written up to there never reads back as the text.
+use Rattle.encoding_mem.specs.laws.Piece.{well_formed_count}
 use Rattle.std.proofs.Common.{arith, ◌+◌, ◌*◌, ◌≡◌, ◌≤◌, ◌⊎◌, inl, inr, false, true, ℕ, List, [], ◌∷◌, ◌++◌, map, length, refl, sym, ◌∙◌, ap, subst, append_assoc, append-nil, length-append}
 use Rattle.std.specs.List.{flat_map}
 use Rattle.std.specs.Str.{all_scalars}
 use Rattle.encoding_mem.specs.declared.reference.Reference.{Reference}
 use Rattle.encoding_mem.specs.declared.reference.Reference.TheVariants.{Decimal}
 use Rattle.encoding_mem.specs.Coding.{AllMapped, Coding, IsMapped, mapped_bytes, bytes_from, last_set, lost_count, open_from, output}
-use Rattle.encoding_mem.specs.Items.{Item, Byte, MalformedAt, LostAt, item_bytes, form_items, open_items, trace_from}
-use Rattle.encoding_mem.specs.Piece.{Piece, well_formed, malformed, text, AreWellFormed}
+use Rattle.encoding_mem.specs.Items.{Item, Byte, LostAt, item_bytes, form_items, open_items, trace_from}
+use Rattle.encoding_mem.specs.Piece.{Piece, well_formed, malformed, text, AreWellFormed, malformed_count}
 use Rattle.encoding_mem.specs.ReadBack.{ReadsAs}
 use Rattle.encoding_mem.specs.declared.form.Form.{Form}
 use Rattle.encoding_mem.specs.declared.form.Form.TheVariants.{Mapped, Unmapped}
@@ -15,7 +16,7 @@ use Rattle.encoding_mem.specs.declared.form.EscapeState.{EscapeState}
 use Rattle.encoding_mem.specs.declared.form.EscapeState.TheVariants.{Ascii}
 use Rattle.encoding_mem.specs.laws.Agreement.{open_reads}
 use Rattle.encoding_mem.specs.laws.EncoderCalls.{item_bytes-append, item_bytes-bytes, mapped_open, last_set-append}
-use Rattle.encoding_mem.specs.laws.ReadBack.{none_lost}
+use Rattle.encoding_mem.specs.laws.ReadBack.{none_lost, all_mapped}
 use Rattle.encoding_mem.specs.laws.ReadCalls.{begins_along, broken_never_reads_on, lost_never_reads, reads_on, scalars_parts}
 use Rattle.encoding_front.specs.Encodings.{set_pieces_of}
 use Rattle.encoding_front.specs.calls.CodecBounds.{need_of}
@@ -26,15 +27,28 @@ use Rattle.recode_log.specs.Line.{line_bytes}
 use Rattle.recode.specs.Job.{Faithful, IsValidJob, input_pieces, input_text, log_lines, log_of, output_of, output_pieces, target_of, trace, whole_trace}
 use Rattle.recode.specs.Policy.{reference_form, up_to_loss, written_under}
 use Rattle.recode.specs.TaggedByte.{log_bytes, output_bytes, tagged}
-use Rattle.recode.specs.WrittenItems.{IsSpared}
+use Rattle.recode.specs.WrittenItems.{IsSpared, bad_line_count, lost_line_count}
 use Rattle.recode.specs.declared.job.Job.{Job}
 use Rattle.recode.specs.declared.job.Policy.{Policy}
-use Rattle.recode.specs.laws.Items.{cut_spared, lost_line_count-bytes, output_bytes-append, tagged-append, written_whole, lost_line_count-trace}
-use Rattle.recode.proofs.TraceLemmas.{kept_where_no_lines, log_bytes-trace, no_lines, no_lines_without_bytes, output_bytes-tagged, output_bytes-trace}
+use Rattle.recode.specs.laws.Items.{cut_spared, lost_line_count-bytes, output_bytes-append, tagged-append, written_whole, lost_line_count-trace, bad_line_count-trace}
+use Rattle.recode.proofs.TraceLemmas.{log_bytes-trace, output_bytes-tagged, output_bytes-trace, none_logged, none_counted}
+
+-- The lines of the whole trace.
+pub bads_of : (j : Job) (x : List ℕ) → bad_line_count (whole_trace j x) ≡ malformed_count (input_pieces j x)
+bads_of j x = bad_line_count-trace (reference_form j.policy) (target_of j) Ascii 0 0 (input_pieces j x)
+
+pub losts_of : (j : Job) (x : List ℕ) → lost_line_count (whole_trace j x) ≡ lost_count (target_of j) (input_text j x)
+losts_of j x = lost_line_count-trace (reference_form j.policy) (target_of j) Ascii 0 0 (input_pieces j x)
+
+-- No malformed sequence.
+pub none_malformed : (ps : List Piece) → malformed_count ps ≡ 0 → AreWellFormed ps
+none_malformed [] h = tt
+none_malformed (well_formed n cs ∷ ps) h = (tt, none_malformed ps h)
+none_malformed (malformed n ∷ ps) h = absurd (omega arith)
 
 -- If nothing stops it.
 pub runs_through : (j : Job) (x : List ℕ) → (j.policy ≡ Policy.Stop → lost_count (target_of j) (input_text j x) ≡ 0) → IsSpared j.policy (whole_trace j x)
-runs_through j x h stops = lost_line_count-trace (reference_form j.policy) (target_of j) Ascii 0 0 (input_pieces j x) ∙ h stops
+runs_through j x h stops = losts_of j x ∙ h stops
 
 pub mapped_through : (j : Job) (x : List ℕ) → AllMapped (target_of j) (input_text j x) → IsSpared j.policy (whole_trace j x)
 mapped_through j x h = runs_through j x (λ stops. none_lost (target_of j) (input_text j x) h)
@@ -52,34 +66,31 @@ log_where_spared j x h = ap (λ l. log_bytes (tagged l)) (trace_where_spared j x
 unlogged_cut : (s : List Item) → log_bytes (tagged (up_to_loss s)) ≡ [] → up_to_loss s ≡ s
 unlogged_cut [] h = refl
 unlogged_cut (Byte b ∷ s) h = ap (λ l. Byte b ∷ l) (unlogged_cut s h)
-unlogged_cut (MalformedAt o n ∷ s) h = absurd (cc)
-unlogged_cut (LostAt i c ∷ s) h = absurd (cc)
+unlogged_cut (x ∷ s) h = absurd (cc)
 
 unlogged : (p : Policy) (s : List Item) → log_bytes (tagged (written_under p s)) ≡ [] → written_under p s ≡ s
-unlogged Policy.Decimal s h = refl
-unlogged Policy.Hexadecimal s h = refl
 unlogged Policy.Stop s h = unlogged_cut s h
+unlogged _ s h = refl
 
 pub quiet_where_kept : (j : Job) (x : List ℕ) → AreWellFormed (input_pieces j x) → AllMapped (target_of j) (input_text j x) → log_of j x ≡ []
-quiet_where_kept j x h k = log_where_spared j x (mapped_through j x k) ∙ ap (flat_map line_bytes) (no_lines (target_of j) 0 0 (input_pieces j x) h k)
+quiet_where_kept j x h k =
+    ap (λ l. log_bytes (tagged l)) (trace_where_spared j x (mapped_through j x k))
+    ∙ none_logged (whole_trace j x) (bads_of j x ∙ well_formed_count (input_pieces j x) h) (losts_of j x ∙ none_lost (target_of j) (input_text j x) k)
 
 pub kept_where_quiet : (j : Job) (x : List ℕ) → log_of j x ≡ [] → AreWellFormed (input_pieces j x) × AllMapped (target_of j) (input_text j x)
 kept_where_quiet j x h =
-    kept_where_no_lines (target_of j) 0 0 (input_pieces j x)
-    (no_lines_without_bytes _
-    (sym (log_bytes-trace (reference_form j.policy) (target_of j) Ascii 0 0 (input_pieces j x)) ∙ ap (λ l. log_bytes (tagged l)) (sym (unlogged j.policy (whole_trace j x) h)) ∙ h))
+    let none = none_counted (whole_trace j x) (ap (λ l. log_bytes (tagged l)) (sym (unlogged j.policy (whole_trace j x) h)) ∙ h) in
+    (none_malformed (input_pieces j x) (sym (bads_of j x) ∙ none.0), all_mapped (target_of j) (input_text j x) (sym (losts_of j x) ∙ none.1))
 
 -- A stop writes a prefix.
 cut_prefix : (s : List Item) → (rest : List Item) × (s ≡ up_to_loss s ++ rest)
 cut_prefix [] = ([], refl)
-cut_prefix (Byte b ∷ s) = let k = cut_prefix s in (k.0, ap (λ l. Byte b ∷ l) k.1)
-cut_prefix (MalformedAt o n ∷ s) = let k = cut_prefix s in (k.0, ap (λ l. MalformedAt o n ∷ l) k.1)
 cut_prefix (LostAt i c ∷ s) = (s, refl)
+cut_prefix (x ∷ s) = let k = cut_prefix s in (k.0, ap (λ l. x ∷ l) k.1)
 
 written_prefix : (p : Policy) (s : List Item) → (rest : List Item) × (s ≡ written_under p s ++ rest)
-written_prefix Policy.Decimal s = ([], sym (append-nil s))
-written_prefix Policy.Hexadecimal s = ([], sym (append-nil s))
 written_prefix Policy.Stop s = cut_prefix s
+written_prefix _ s = ([], sym (append-nil s))
 
 pub whole_within : (j : Job) (x : List ℕ) → IsValidJob j → length (output_bytes (tagged (whole_trace j x))) ≤ 13 * length x + 3
 whole_within j x v =
@@ -221,8 +232,7 @@ module _ (j : Job) (x : List ℕ) (v : IsValidJob j) where
     | inl all ↦ all
     | inr k ↦ absurd (cut_never_reads k.0 k.1 k.2 k.3 k.4 k.5 (subst (λ y. ReadsAs (output_pieces j) y (input_text j x)) (output_at_loss j x k.0 k.1 k.2 k.3 stops k.4 k.5 k.6) (record { well_formed = f.target; same = f.same })))
   ]
-  mapped_under Policy.Decimal is f = mapped_where_read (subst (λ y. ReadsAs (output_pieces j) y (input_text j x)) (output_where_spared j x (λ stops. absurd (cc (sym is ∙ stops)))) (record { well_formed = f.target; same = f.same }))
-  mapped_under Policy.Hexadecimal is f = mapped_where_read (subst (λ y. ReadsAs (output_pieces j) y (input_text j x)) (output_where_spared j x (λ stops. absurd (cc (sym is ∙ stops)))) (record { well_formed = f.target; same = f.same }))
+  mapped_under _ is f = mapped_where_read (subst (λ y. ReadsAs (output_pieces j) y (input_text j x)) (output_where_spared j x (λ stops. absurd (cc (sym is ∙ stops)))) (record { well_formed = f.target; same = f.same }))
 
   pub mapped_where_faithful : Faithful j x → AllMapped (target_of j) (input_text j x)
   mapped_where_faithful f = mapped_under j.policy refl f

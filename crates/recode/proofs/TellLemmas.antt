@@ -1,11 +1,10 @@
 -- What the devices of a conversion tell after calls in a row, and which call was the last.
-use Rattle.std.proofs.Common.{◌≡◌, ◌⊎◌, ◌<◌, ℕ, List, [], ◌∷◌, ◌++◌, Option, Some, None, Result, Ok, Err, true, false, OnErr, IfErr, IsErrAnd, inl, inr, sym, ap, subst, ◌∙◌, append_assoc, append-nil, length, take, arith}
+use Rattle.std.proofs.Common.{◌≡◌, ◌⊎◌, ◌<◌, ℕ, List, [], ◌∷◌, ◌++◌, Option, Some, None, Result, Ok, Err, OnErr, IfErr, inl, inr, sym, ap, subst, ◌∙◌, append_assoc, append-nil, length, take, arith}
 use Rattle.std.specs.Io.KnownBytes.{Appends, Consumes, IsAtEnd}
 use Rattle.std.specs.List.{concat}
 use Rattle.std.proofs.lemmas.List.{append_cancel_left, same_from_push}
-use Rattle.recode_log.specs.Call.{Call, CallsOnce, EndsInFailedWrite, Failed, Flush, FlushesOnce, Passed, passed_by}
+use Rattle.recode_log.specs.Call.{Call, CallsOnce, Failed, Flush, Passed, passed_by}
 use Rattle.recode_log.specs.laws.Calls.{passed_failed, passed_one}
-use Rattle.recode.specs.Conversion.{EndsInFlush}
 use Rattle.recode.specs.Devices.{Devices, Gave, GaveToEnd, Grew, IsOf}
 use Rattle.recode.specs.Fault.{EndsAtFault, EndsAtWriterFault, of_other}
 use Rattle.recode.specs.Step.{IsReadInto, StepCalls}
@@ -13,7 +12,7 @@ use Rattle.recode_log.specs.Told.{TellsReads, TellsTaken}
 use Rattle.recode_log.specs.laws.Told.{NoneYet, reads_none, reads_after, reads_then, taken_none, taken_then}
 use Rattle.recode.specs.Told.{Told, TellWhatPassed}
 use Rattle.recode.specs.declared.job.Fault.{Fault}
-use Rattle.recode.specs.declared.job.Fault.TheVariants.{Read, Write, Log, TooLong, Unmappable}
+use Rattle.recode.specs.declared.job.Fault.TheVariants.{Read}
 use Rattle.recode.proofs.GrowLemmas.{GaveToEnd-is}
 
 -- so a writer that tells holds what was taken
@@ -89,46 +88,18 @@ tells_more d e f t u v h same still k l = record {
   log = taken_then d.written.log e.written.log f.written.log t.log u.log v.log h.log l;
 }
 
--- a flush
-pub flushed_last : {T E : Type 0} (before after : List Call) (r : Result T E) → FlushesOnce before after r → EndsInFlush after
-flushed_last before after (Ok x) once = record { earlier = before; failed = false; ends = once }
-flushed_last before after (Err e) once = record { earlier = before; failed = true; ends = once }
-
 -- ---- the last call
 
 -- a fault of a writer is one of a device
 pub last_of_writers : {T : Type 0} (r : Result T Fault) (reader writer log : List Call) → of_other r ≡ 0 → IfErr r (EndsAtWriterFault writer log) → IfErr r (EndsAtFault reader writer log)
-last_of_writers (Ok x) reader writer log none h = tt
 last_of_writers (Err Read) reader writer log none h = absurd (omega (arith, none))
-last_of_writers (Err Write) reader writer log none h = h
-last_of_writers (Err Log) reader writer log none h = h
-last_of_writers (Err TooLong) reader writer log none h = tt
-last_of_writers (Err (Unmappable index scalar)) reader writer log none h = tt
+last_of_writers _ reader writer log none h = h
 
 -- a call of a writer or of the log failed
-pub last_write : {T : Type 0} (r : Result T Fault) (writer log : List Call) → IfErr r (λ (f : Fault). f ≡ Write) → OnErr r (EndsInFailedWrite writer) → IfErr r (EndsAtWriterFault writer log)
-last_write (Ok x) writer log is h = tt
-last_write (Err f) writer log is h = subst (EndsAtWriterFault writer log) (sym is) h
-
-pub last_log : {T : Type 0} (r : Result T Fault) (writer log : List Call) → IfErr r (λ (f : Fault). f ≡ Log) → OnErr r (EndsInFailedWrite log) → IfErr r (EndsAtWriterFault writer log)
-last_log (Ok x) writer log is h = tt
-last_log (Err f) writer log is h = subst (EndsAtWriterFault writer log) (sym is) h
-
--- or the fault is one that a result hands on
-pub last_each : {T : Type 0} (r : Result T Fault) (e g : Fault) (writer log : List Call) → IsErrAnd r (λ (x : Fault). x ≡ e) → e ≡ g → EndsAtWriterFault writer log g → IfErr r (EndsAtWriterFault writer log)
-last_each (Ok x) e g writer log same is h = tt
-last_each (Err f) e g writer log same is h = subst (EndsAtWriterFault writer log) (sym (same ∙ is)) h
-
-pub last_handed : {T : Type 0} (r : Result T Fault) (e : Fault) (reader writer log : List Call) → IsErrAnd r (λ (x : Fault). x ≡ e) → of_other {T = Unit {0}} (Err e) ≡ 0 → EndsAtWriterFault writer log e
-    → IfErr r (EndsAtFault reader writer log)
-last_handed (Ok x) e reader writer log same none h = absurd same
-last_handed (Err f) e reader writer log same none h =
-    subst (λ (g : Fault). EndsAtFault reader writer log g) (sym same) (last_of_writers {T = Unit {0}} (Err e) reader writer log none h)
-
--- which did not go well
-pub none_well : {T : Type 0} (r : Result T Fault) (x : T) (e : Fault) → IsErrAnd r (λ (y : Fault). y ≡ e) → r ≡ Ok x → ⊥
-none_well (Ok y) x e failed is = absurd failed
-none_well (Err f) x e failed is = cc
+pub last_failed : {T : Type 0} (g : Fault) (r : Result T Fault) (writer log : List Call)
+    → IfErr r (λ (f : Fault). f ≡ g) → OnErr r (EndsAtWriterFault writer log g) → IfErr r (EndsAtWriterFault writer log)
+last_failed g (Ok x) writer log is h = tt
+last_failed g (Err f) writer log is h = rw is h
 
 -- the calls of a step
 pub step_calls : {T E : Type 0} (reader reader' writer log : List Call) (r : Result ℕ E) (buf : List ℕ) (room : ℕ) (answer : Result T Fault) → CallsOnce reader reader' r buf → length buf ≡ room

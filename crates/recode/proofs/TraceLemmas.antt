@@ -1,5 +1,5 @@
 -- How what was written and what is still to be written compose. What the trace of a whole input is made of. If
--- the log is empty.
+-- the log is empty, and if a stop cut it short.
 use Rattle.std.proofs.Common.{arith, ◌<◌, ◌+◌, Result, Ok, Err, IfErr, IsErrAnd, Bool, true, ◌≡◌, ℕ, List, [], ◌∷◌, ◌++◌, map, take, drop, refl, ap, sym, ◌∙◌, subst, append_assoc, take-append-drop, length}
 use Rattle.std.proofs.lemmas.List.{map-append}
 use Rattle.recode.proofs.GrowLemmas.{Grew-nil, Grew-trans}
@@ -9,23 +9,24 @@ use Rattle.recode_log.specs.Line.{line_bytes}
 use Rattle.recode.specs.laws.Items.{output_bytes-append, log_bytes-append, output_bytes-bytes, log_bytes-bytes, output_bytes-lines, log_bytes-lines, tagged-append, lost_line_count-append, written_spared, spared_nil, spared_bytes}
 use Rattle.recode.specs.Devices.{Grew, Written}
 use Rattle.recode.specs.TaggedByte.{TaggedByte, Line, output_bytes, log_bytes, Wrote, tagged}
-use Rattle.recode.specs.Policy.{up_to_loss, written_under}
-use Rattle.recode.specs.WrittenItems.{WritesPrefix, WritesItemsFor, WritesPrefixFor, IsLeft, IsSpared, IsStop, lost_line_count}
+use Rattle.recode.specs.Policy.{up_to_loss, written_under, reference_form}
+use Rattle.recode.specs.WrittenItems.{WritesPrefix, WritesItemsFor, WritesPrefixFor, IsLeft, IsSpared, bad_line_count, lost_line_count, StopsAtLoss}
 use Rattle.recode.specs.declared.job.Fault.{Fault}
 use Rattle.recode.specs.declared.job.Fault.TheVariants.{Write, Log}
 use Rattle.recode.specs.declared.job.Policy.{Policy}
-use Rattle.encoding_mem.specs.Coding.{Coding, open_from, whole_from, last_set, reference_bytes, AllMapped, IsMapped}
+use Rattle.encoding_mem.specs.Coding.{Coding, open_from, whole_from, last_set, reference_bytes}
 use Rattle.encoding_mem.specs.declared.form.EscapeState.{EscapeState}
 use Rattle.encoding_mem.specs.declared.form.EscapeState.TheVariants.{Ascii}
 use Rattle.recode.specs.declared.counts.Counts.{Counts}
 use Rattle.std.specs.List.{flat_map}
-use Rattle.encoding_mem.specs.Piece.{Piece, well_formed, malformed, text, AreWellFormed}
-use Rattle.encoding_mem.specs.laws.EncoderCalls.{item_bytes-append, item_bytes-bytes, item_bytes-open_items, all_mapped-append, last_set-append, open_from-append}
+use Rattle.encoding_mem.specs.Piece.{Piece, well_formed, malformed, text}
+use Rattle.encoding_mem.specs.laws.EncoderCalls.{item_bytes-append, item_bytes-bytes, item_bytes-open_items, last_set-append, open_from-append}
 use Rattle.encoding_mem.specs.declared.form.Form.{Form}
 use Rattle.encoding_mem.specs.declared.form.Form.TheVariants.{Mapped, Unmapped}
 use Rattle.recode_log.specs.declared.line.LogLine.{LogLine}
-use Rattle.recode.specs.Job.{form_lines, lost_log_lines, log_lines}
+use Rattle.recode.specs.Job.{form_lines, lost_log_lines, log_lines, input_pieces, input_text, log_of, target_of, trace, lines_up_to_loss, whole_trace}
 use Rattle.recode_log.specs.declared.line.LogLine.TheVariants.{Bad, Lost}
+use Rattle.recode.specs.declared.job.Job.{Job}
 
 pub Wrote-nil : (w : Written) → Wrote w w []
 Wrote-nil w = record { output = Grew-nil w.output; lined = Grew-nil w.log }
@@ -37,63 +38,45 @@ Wrote-trans w w' w'' s t p q = record {
 }
 
 pub wrote_bytes : (w w' l : List ℕ) (bs : List ℕ) → Grew w w' bs → Wrote (record { output = w; log = l }) (record { output = w'; log = l }) (tagged (map Byte bs))
-wrote_bytes w w' l bs p = record {
-  output = subst (Grew w w') (sym (output_bytes-bytes bs)) p;
-  lined = subst (Grew l l) (sym (log_bytes-bytes bs)) (Grew-nil l);
-}
+wrote_bytes w w' l bs p = record { output = rw (output_bytes-bytes bs) p; lined = rw (log_bytes-bytes bs) (Grew-nil l) }
 
 pub wrote_line : (w l l' : List ℕ) (bs : List ℕ) → Grew l l' bs → Wrote (record { output = w; log = l }) (record { output = w; log = l' }) (map Line bs)
-wrote_line w l l' bs p = record {
-  output = subst (Grew w w) (sym (output_bytes-lines bs)) (Grew-nil w);
-  lined = subst (Grew l l') (sym (log_bytes-lines bs)) p;
-}
+wrote_line w l l' bs p = record { output = rw (output_bytes-lines bs) (Grew-nil w); lined = rw (log_bytes-lines bs) p }
 
 -- what is written of a front is a prefix of what is written of the whole, and is that if it stops
 cut_front : (s t : List Item) → (rest : List Item) × (up_to_loss (s ++ t) ≡ up_to_loss s ++ rest)
 cut_front [] t = (up_to_loss t, refl)
-cut_front (Byte b ∷ s) t = let k = cut_front s t in (k.0, ap (λ l. Byte b ∷ l) k.1)
-cut_front (MalformedAt o n ∷ s) t = let k = cut_front s t in (k.0, ap (λ l. MalformedAt o n ∷ l) k.1)
 cut_front (LostAt i c ∷ s) t = ([], refl)
+cut_front (x ∷ s) t = let k = cut_front s t in (k.0, ap (λ l. x ∷ l) k.1)
 
 written_front : (p : Policy) (s t : List Item) → (rest : List Item) × (written_under p (s ++ t) ≡ written_under p s ++ rest)
-written_front Policy.Decimal s t = (t, refl)
-written_front Policy.Hexadecimal s t = (t, refl)
 written_front Policy.Stop s t = cut_front s t
+written_front _ s t = (t, refl)
 
 cut_once : (s t : List Item) → 0 < lost_line_count (up_to_loss s) → up_to_loss (s ++ t) ≡ up_to_loss s
 cut_once [] t h = absurd (omega (arith, h))
-cut_once (Byte b ∷ s) t h = ap (λ l. Byte b ∷ l) (cut_once s t h)
-cut_once (MalformedAt o n ∷ s) t h = ap (λ l. MalformedAt o n ∷ l) (cut_once s t h)
 cut_once (LostAt i c ∷ s) t h = refl
+cut_once (x ∷ s) t h = ap (λ l. x ∷ l) (cut_once s t h)
 
 written_once : (p : Policy) (s t : List Item) → p ≡ Policy.Stop → 0 < lost_line_count (written_under p s) → written_under p (s ++ t) ≡ written_under p s
-written_once Policy.Decimal s t is h = absurd (cc)
-written_once Policy.Hexadecimal s t is h = absurd (cc)
 written_once Policy.Stop s t is h = cut_once s t h
+written_once _ s t is h = absurd (cc)
 
 -- What a fault leaves, after what was written, and of more.
-stop_behind : (p : Policy) (f : Fault) (s : List Item) (taken : List TaggedByte) (written : List Item) → IsSpared p s → IsStop p f taken written → IsStop p f (tagged s ++ taken) (s ++ written)
-stop_behind p f s taken written h stop i c is =
-    let k = stop i c is in
-    record {
-      policy = k.policy;
-      items = s ++ k.items;
-      first = omega (arith, lost_line_count-append s k.items, h k.policy, k.first);
-      last = ap (λ l. s ++ l) k.last ∙ sym (append_assoc s k.items (LostAt i c ∷ []));
-      whole = ap (λ l. tagged s ++ l) k.whole ∙ sym (tagged-append s written);
-    }
-
-stop_front : (p : Policy) (f : Fault) (taken : List TaggedByte) (total rest : List Item) → IsStop p f taken (written_under p total) → IsStop p f taken (written_under p (total ++ rest))
-stop_front p f taken total rest stop i c is =
-    let k = stop i c is in
-    rw (written_once p total rest k.policy (omega (arith, ap lost_line_count k.last, lost_line_count-append k.items (LostAt i c ∷ [])))) k
-
 pub left_behind : (p : Policy) (f : Fault) (s : List Item) (taken : List TaggedByte) (a b : List Item) → IsSpared p s → a ≡ s ++ b → IsLeft p f taken b → IsLeft p f (tagged s ++ taken) a
 left_behind p f s taken a b h e k =
     let is : written_under p a ≡ s ++ written_under p b = ap (written_under p) e ∙ written_spared p s b h in
     record {
       prefix = (k.prefix.0, ap tagged is ∙ tagged-append s (written_under p b) ∙ ap (λ l. tagged s ++ l) k.prefix.1 ∙ sym (append_assoc (tagged s) taken k.prefix.0));
-      stopped = rw is (stop_behind p f s taken (written_under p b) h k.stopped);
+      stopped = λ i c lost.
+          let stop = k.stopped i c lost in
+          rw is (record {
+            policy = stop.policy;
+            items = s ++ stop.items;
+            first = omega (arith, lost_line_count-append s stop.items, h stop.policy, stop.first);
+            last = ap (λ l. s ++ l) stop.last ∙ sym (append_assoc s stop.items (LostAt i c ∷ []));
+            whole = ap (λ l. tagged s ++ l) stop.whole ∙ sym (tagged-append s (written_under p b));
+          });
     }
 
 left_front : (p : Policy) (f : Fault) (taken : List TaggedByte) (total rest a : List Item) → a ≡ total ++ rest → IsLeft p f taken total → IsLeft p f taken a
@@ -102,7 +85,9 @@ left_front p f taken total rest a e k =
     let is : written_under p a ≡ written_under p (total ++ rest) = ap (written_under p) e in
     record {
       prefix = (k.prefix.0 ++ tagged more.0, ap tagged (is ∙ more.1) ∙ tagged-append (written_under p total) more.0 ∙ ap (λ l. l ++ tagged more.0) k.prefix.1 ∙ append_assoc taken k.prefix.0 (tagged more.0));
-      stopped = rw is (stop_front p f taken total rest k.stopped);
+      stopped = λ i c lost.
+          let stop = k.stopped i c lost in
+          rw (is, written_once p total rest stop.policy (omega (arith, ap lost_line_count stop.last, lost_line_count-append stop.items (LostAt i c ∷ [])))) stop;
     }
 
 -- n of the bytes
@@ -122,11 +107,9 @@ under_bytes w w' l p f bs n a b writer h e =
 
 -- the first is written under each policy
 pub written_first : (p : Policy) (item : Item) (b : List Item) → (rest : List Item) × (written_under p (item ∷ b) ≡ item ∷ rest)
-written_first Policy.Decimal item b = (b, refl)
-written_first Policy.Hexadecimal item b = (b, refl)
-written_first Policy.Stop (Byte x) b = (up_to_loss b, refl)
-written_first Policy.Stop (MalformedAt o n) b = (up_to_loss b, refl)
 written_first Policy.Stop (LostAt i c) b = ([], refl)
+written_first Policy.Stop item b = (up_to_loss b, refl)
+written_first _ item b = (b, refl)
 
 -- lines of which n bytes were taken
 pub under_lines : (w l l' : List ℕ) (p : Policy) (f : Fault) (lines : List ℕ) (n : ℕ) (items a more : List Item) → f ≡ Log → tagged items ≡ map Line lines → written_under p a ≡ items ++ more → Grew l l' (take n lines)
@@ -236,48 +219,79 @@ log_bytes-trace ref e s offset i ps = log_bytes-noted (trace_from ref e s offset
 
 -- If the log is empty.
 
--- A text has no line of the log exactly when each scalar has bytes.
-mapped_lines : (i : ℕ) (f : Form) → IsMapped f → form_lines i f ≡ []
-mapped_lines i (Mapped bs) h = refl
-mapped_lines i (Unmapped c) h = absurd h
+-- There is no line of the log exactly when no malformed sequence and no lost character was counted.
+pub none_logged : (s : List Item) → bad_line_count s ≡ 0 → lost_line_count s ≡ 0 → log_bytes (tagged s) ≡ []
+none_logged [] bad lost = refl
+none_logged (Byte b ∷ s) bad lost = none_logged s bad lost
+none_logged (x ∷ s) bad lost = absurd (omega (arith, bad, lost))
 
-mapped_where_none : (i : ℕ) (f : Form) (ls : List LogLine) → form_lines i f ++ ls ≡ [] → IsMapped f × (ls ≡ [])
-mapped_where_none i (Mapped bs) ls h = (tt, h)
-mapped_where_none i (Unmapped c) ls h = absurd (cc)
+pub none_counted : (s : List Item) → log_bytes (tagged s) ≡ [] → (bad_line_count s ≡ 0) × (lost_line_count s ≡ 0)
+none_counted [] h = (refl, refl)
+none_counted (Byte b ∷ s) h = none_counted s h
+none_counted (x ∷ s) h = absurd (cc)
 
-no_line_lost : (e : Coding) (i : ℕ) (t : List ℕ) → AllMapped e t → lost_log_lines e i t ≡ []
-no_line_lost e i [] h = refl
-no_line_lost e i (c ∷ t) h = ap (λ ls. ls ++ lost_log_lines e (i + 1) t) (mapped_lines i (e.form c) h.0) ∙ no_line_lost e (i + 1) t h.1
+-- If a stop cut it short.
 
-mapped_where_no_line : (e : Coding) (i : ℕ) (t : List ℕ) (ls : List LogLine) → lost_log_lines e i t ++ ls ≡ [] → AllMapped e t × (ls ≡ [])
-mapped_where_no_line e i [] ls h = (tt, h)
-mapped_where_no_line e i (c ∷ t) ls h =
-    let one = mapped_where_none i (e.form c) (lost_log_lines e (i + 1) t ++ ls) (sym (append_assoc (form_lines i (e.form c)) (lost_log_lines e (i + 1) t) ls) ∙ h) in
-    let more = mapped_where_no_line e (i + 1) t ls one.1 in
-    ((one.0, more.0), more.1)
+noted-cut : (s : List Item) → noted (up_to_loss s) ≡ lines_up_to_loss (noted s)
+noted-cut [] = refl
+noted-cut (Byte b ∷ s) = noted-cut s
+noted-cut (MalformedAt offset size ∷ s) = ap (λ l. Bad offset size ∷ l) (noted-cut s)
+noted-cut (LostAt i c ∷ s) = refl
 
-mapped_before : (e : Coding) (a b : List ℕ) → AllMapped e (a ++ b) → AllMapped e a × AllMapped e b
-mapped_before e [] b h = (tt, h)
-mapped_before e (c ∷ a) b h = let more = mapped_before e a b h.1 in ((h.0, more.0), more.1)
+pub log_at_loss : (j : Job) (x : List ℕ) → j.policy ≡ Policy.Stop → log_of j x ≡ flat_map line_bytes (lines_up_to_loss (log_lines (target_of j) 0 0 (input_pieces j x)))
+log_at_loss j x stops =
+    ap (λ (p : Policy). log_bytes (tagged (written_under p (whole_trace j x)))) stops
+    ∙ log_bytes-noted (up_to_loss (whole_trace j x))
+    ∙ ap (flat_map line_bytes) (noted-cut (whole_trace j x) ∙ ap lines_up_to_loss (noted-trace (reference_form j.policy) (target_of j) Ascii 0 0 (input_pieces j x)))
 
--- Pieces have no line of the log exactly when none is malformed and each scalar of their text has bytes.
-pub no_lines : (e : Coding) (offset i : ℕ) (ps : List Piece) → AreWellFormed ps → AllMapped e (text ps) → log_lines e offset i ps ≡ []
-no_lines e offset i [] h k = refl
-no_lines e offset i (well_formed n cs ∷ ps) h k =
-    let parts = mapped_before e cs (text ps) k in
-    ap (λ ls. ls ++ log_lines e (offset + n) (i + length cs) ps) (no_line_lost e i cs parts.0) ∙ no_lines e (offset + n) (i + length cs) ps h.1 parts.1
-no_lines e offset i (malformed n ∷ ps) h k = absurd h.0
+-- the lines of lost characters
+abbrev losses : List LogLine → List LogLine
+losses [] = []
+losses (Bad offset size ∷ t) = losses t
+losses (Lost i c ∷ t) = Lost i c ∷ losses t
 
-pub kept_where_no_lines : (e : Coding) (offset i : ℕ) (ps : List Piece) → log_lines e offset i ps ≡ [] → AreWellFormed ps × AllMapped e (text ps)
-kept_where_no_lines e offset i [] h = (tt, tt)
-kept_where_no_lines e offset i (well_formed n cs ∷ ps) h =
-    let one = mapped_where_no_line e i cs (log_lines e (offset + n) (i + length cs) ps) h in
-    let more = kept_where_no_lines e (offset + n) (i + length cs) ps one.1 in
-    ((tt, more.0), all_mapped-append e cs (text ps) one.0 more.1)
-kept_where_no_lines e offset i (malformed n ∷ ps) h = absurd (cc)
+losses-append : (s t : List LogLine) → losses (s ++ t) ≡ losses s ++ losses t
+losses-append [] t = refl
+losses-append (Bad offset size ∷ s) t = losses-append s t
+losses-append (Lost i c ∷ s) t = ap (λ l. Lost i c ∷ l) (losses-append s t)
 
--- a line has bytes
-pub no_lines_without_bytes : (ls : List LogLine) → flat_map line_bytes ls ≡ [] → ls ≡ []
-no_lines_without_bytes [] h = refl
-no_lines_without_bytes (Bad offset size ∷ ls) h = absurd (cc)
-no_lines_without_bytes (Lost index scalar ∷ ls) h = absurd (cc)
+losses-form : (i : ℕ) (f : Form) → losses (form_lines i f) ≡ form_lines i f
+losses-form i (Mapped bs) = refl
+losses-form i (Unmapped c) = refl
+
+losses-text : (e : Coding) (i : ℕ) (t : List ℕ) → losses (lost_log_lines e i t) ≡ lost_log_lines e i t
+losses-text e i [] = refl
+losses-text e i (c ∷ t) = rw (losses-append (form_lines i (e.form c)) (lost_log_lines e (i + 1) t), losses-form i (e.form c), losses-text e (i + 1) t) refl
+
+lost_in-append : (e : Coding) (i : ℕ) (a b : List ℕ) → lost_log_lines e i (a ++ b) ≡ lost_log_lines e i a ++ lost_log_lines e (i + length a) b
+lost_in-append e i [] b = ap (λ (n : ℕ). lost_log_lines e n b) (omega arith)
+lost_in-append e i (c ∷ a) b =
+    let at : i + length (c ∷ a) ≡ i + 1 + length a = omega arith in
+    rw (at, lost_in-append e (i + 1) a b) (sym (append_assoc (form_lines i (e.form c)) (lost_log_lines e (i + 1) a) (lost_log_lines e (i + 1 + length a) b)))
+
+losses-lines : (e : Coding) (offset i : ℕ) (ps : List Piece) → losses (log_lines e offset i ps) ≡ lost_log_lines e i (text ps)
+losses-lines e offset i [] = refl
+losses-lines e offset i (well_formed n cs ∷ ps) =
+    rw (losses-append (lost_log_lines e i cs) (log_lines e (offset + n) (i + length cs) ps), losses-text e i cs, losses-lines e (offset + n) (i + length cs) ps) (sym (lost_in-append e i cs (text ps)))
+losses-lines e offset i (malformed n ∷ ps) =
+    losses-append (lost_log_lines e i (0xFFFD ∷ [])) (log_lines e (offset + n) (i + 1) ps)
+    ∙ rw (losses-text e i (0xFFFD ∷ []), losses-lines e (offset + n) (i + 1) ps) (sym (lost_in-append e i (0xFFFD ∷ []) (text ps)))
+
+first_is_left : (s : List Item) → take 1 (losses (noted s)) ≡ losses (noted (up_to_loss s))
+first_is_left [] = refl
+first_is_left (LostAt i c ∷ s) = refl
+first_is_left (x ∷ s) = first_is_left s
+
+one_loss : (s : List Item) (i c : ℕ) → lost_line_count s ≡ 0 → losses (noted (s ++ (LostAt i c ∷ []))) ≡ Lost i c ∷ []
+one_loss [] i c h = refl
+one_loss (LostAt index scalar ∷ s) i c h = absurd (omega (arith, h))
+one_loss (x ∷ s) i c h = one_loss s i c h
+
+pub first_lost : (j : Job) (x : List ℕ) (i c : ℕ) (taken : List TaggedByte) → StopsAtLoss j.policy i c taken (trace j x) → take 1 (lost_log_lines (target_of j) 0 (input_text j x)) ≡ Lost i c ∷ []
+first_lost j x i c taken k =
+    let all : List Item = whole_trace j x in
+    let cut : up_to_loss all ≡ k.items ++ (LostAt i c ∷ []) = ap (λ (p : Policy). written_under p all) (sym k.policy) ∙ k.last in
+    ap (take 1) (sym (ap losses (noted-trace (reference_form j.policy) (target_of j) Ascii 0 0 (input_pieces j x)) ∙ losses-lines (target_of j) 0 0 (input_pieces j x)))
+    ∙ first_is_left all
+    ∙ ap (λ s. losses (noted s)) cut
+    ∙ one_loss k.items i c k.first

@@ -1,14 +1,13 @@
 -- How turns of an engine add up, and what each is.
-use Rattle.std.proofs.Common.{◌≡◌, ◌↔◌, inl, inr, ℕ, ◌+◌, ◌-◌, ◌*◌, ◌<◌, ◌≤◌, Bool, true, false, IsTrue, List, [], ◌∷◌, ◌++◌, length, drop, Option, None, Some, refl, sym, ◌∙◌, ap, subst, arith, append_assoc, append-nil, length-append, length-drop}
-use Rattle.std.proofs.lemmas.Bool.{false≢true}
+use Rattle.std.proofs.Common.{◌≡◌, ◌↔◌, ℕ, ◌+◌, ◌-◌, ◌*◌, ◌<◌, ◌≤◌, Bool, true, false, IsTrue, List, [], ◌∷◌, ◌++◌, length, drop, Option, None, Some, refl, sym, ◌∙◌, ap, subst, arith, append_assoc, append-nil, length-append, length-drop}
+use Rattle.std.proofs.lemmas.Bool.{false≢true, false_from_ne_true}
 use Rattle.encoding_front.specs.declared.encoding.Encoding.{Encoding}
 use Rattle.encoding_mem.specs.Coding.{Coding, last_set}
 use Rattle.encoding_mem.specs.Items.{Item, MalformedAt, open_items, trace_from, whole_items}
 use Rattle.encoding_mem.specs.Piece.{AreWellFormed, Piece, malformed_count, scalars, sizes, text}
 use Rattle.encoding_mem.specs.calls.Decoding.{DecoderState}
-use Rattle.encoding_mem.specs.calls.ReadCalls.{ReadsWhole}
 use Rattle.encoding_mem.specs.declared.decoder_result.DecoderResult.{DecoderResult}
-use Rattle.encoding_mem.specs.declared.decoder_result.DecoderResult.TheVariants.{InputEmpty, Malformed, OutputFull}
+use Rattle.encoding_mem.specs.declared.decoder_result.DecoderResult.TheVariants.{Malformed, OutputFull}
 use Rattle.encoding_mem.specs.declared.form.EscapeState.{EscapeState}
 use Rattle.encoding_mem.specs.declared.reference.Reference.{Reference}
 use Rattle.encoding_mem.specs.laws.EncoderCalls.{last_set-append}
@@ -19,11 +18,11 @@ use Rattle.recode.specs.State.{State}
 use Rattle.recode.specs.Work.{IsCounted}
 use Rattle.recode.specs.calls.Text.{TargetState, text_items}
 use Rattle.recode.specs.calls.Turns.{AreCountedSoundly, EncodesTurn, Standing, TakesTurns, WillBeKept, due_calls, owed, reported, spare_calls, pieces_of_text, waiting}
-use Rattle.recode.specs.calls.Verdict.{IsFaithfulFor, VerdictIsKept, VerdictView, to_read}
+use Rattle.recode.specs.calls.Verdict.{IsFaithfulFor, VerdictIsKept, VerdictView}
 use Rattle.recode.specs.declared.counts.Counts.{Counts}
-use Rattle.recode.proofs.DecoderCallLemmas.{IsDecoded, trace_well_formed}
+use Rattle.recode.proofs.CodecCallLemmas.{IsDecoded, trace_well_formed}
 use Rattle.recode.specs.laws.Items.{AreCounted-trans}
-use Rattle.recode.proofs.VerdictLemmas.{both_ways, true_or_false}
+use Rattle.recode.proofs.VerdictLemmas.{both_ways}
 
 -- ---- text as pieces
 
@@ -35,16 +34,14 @@ pub text_pieces_scalars : (t : List ℕ) → scalars (pieces_of_text t) ≡ t
 text_pieces_scalars [] = refl
 text_pieces_scalars (c ∷ t) = ap (λ x. c ∷ x) (text_pieces_scalars t)
 
-pub text_pieces_text : (t : List ℕ) → text (pieces_of_text t) ≡ t
-text_pieces_text t = well_formed_text (pieces_of_text t) (text_pieces_fine t) ∙ text_pieces_scalars t
-
 pub text_pieces_size : (t : List ℕ) → sizes (pieces_of_text t) ≡ length t
 text_pieces_size [] = refl
 text_pieces_size (c ∷ t) = omega (arith, text_pieces_size t)
 
 -- what waits
 pub waiting_text : (t : List ℕ) (ps : List Piece) → text (pieces_of_text t ++ ps) ≡ t ++ text ps
-waiting_text t ps = text-append (pieces_of_text t) ps ∙ ap (λ x. x ++ text ps) (text_pieces_text t)
+waiting_text t ps =
+    text-append (pieces_of_text t) ps ∙ ap (λ x. x ++ text ps) (well_formed_text (pieces_of_text t) (text_pieces_fine t) ∙ text_pieces_scalars t)
 
 pub waiting_size : (t : List ℕ) (ps : List Piece) → sizes (pieces_of_text t ++ ps) ≡ length t + sizes ps
 waiting_size t ps = omega (arith, sizes-append (pieces_of_text t) ps, text_pieces_size t)
@@ -82,10 +79,7 @@ front_trace ref e s o i t tail =
     ∙ ap (λ (n : ℕ). open_items ref e s i t ++ trace_from ref e (last_set e s t) (o + n) (i + length t) tail) (text_pieces_size t)
 
 same_faithful : (ref : Reference) (v : VerdictView) (e : Coding) (s : EscapeState) (ps qs : List Piece) → AreWellFormed ps ↔ AreWellFormed qs → text ps ≡ text qs → IsFaithfulFor ref v e s ps ↔ IsFaithfulFor ref v e s qs
-same_faithful ref v e s ps qs fine same = (
-  λ h. (h.0, fine.0 h.1, subst (ReadsWhole ref e (to_read v) s) same h.2),
-  λ h. (h.0, fine.1 h.1, subst (ReadsWhole ref e (to_read v) s) (sym same) h.2),
-)
+same_faithful ref v e s ps qs fine same = rw same (λ h. (h.0, fine.0 h.1, h.2), λ h. (h.0, fine.1 h.1, h.2))
 
 -- ---- turns in a row
 
@@ -95,7 +89,7 @@ turns_start c last bytes sound = record {
   target = refl;
   policy = refl;
   sound = sound;
-  lines = record { bad = omega arith; lost = omega arith };
+  lines = omega arith;
   source = λ r h. refl;
   owes = λ r h. refl;
   verdict = λ r h. (λ x. x, λ x. x);
@@ -143,15 +137,10 @@ abbrev pub nothing_waits : State → Standing
 nothing_waits s = record { state = s; answer = None; text = [] }
 
 -- for the text and what was reported as many calls are set aside, and sure to come, as are spare and due
-spared : (answer : DecoderResult) (t : List ℕ) → (answer ≡ OutputFull → 0 < length t) → spare_calls (Some answer) ≤ 3 * (length t + length (text (reported (Some answer))))
-spared InputEmpty t some = omega arith
-spared OutputFull t some = omega (arith, some refl)
-spared (Malformed a b) t some = omega arith
-
-owing : (answer : DecoderResult) → 3 * malformed_count (reported (Some answer)) ≤ due_calls (Some answer)
-owing InputEmpty = omega arith
-owing OutputFull = omega arith
-owing (Malformed a b) = omega arith
+set_aside : (answer : DecoderResult) (t : List ℕ) → (answer ≡ OutputFull → 0 < length t)
+    → (spare_calls (Some answer) ≤ 3 * (length t + length (text (reported (Some answer))))) × (3 * malformed_count (reported (Some answer)) ≤ due_calls (Some answer))
+set_aside OutputFull t some = omega (arith, some refl)
+set_aside _ t some = omega arith
 
 module _ (s : State) (d : DecoderState) (finished : Bool) (source : List ℕ → Encoding) (src : List ℕ) (last : Bool) (read calls : ℕ) (answer : DecoderResult) (t : List ℕ)
     (sound : AreCountedSoundly (nothing_waits s)) (k : IsDecoded s.decoder d src last read answer t) (some : answer ≡ OutputFull → 0 < length t) (one : IsCounted 1 1 s.counts.calls calls)
@@ -179,18 +168,14 @@ module _ (s : State) (d : DecoderState) (finished : Bool) (source : List ℕ →
     counted = omega (arith, length-drop read src, k.within);
     target = refl;
     policy = refl;
-    sound = record {
-      index = omega (arith, sound.index, k.counted, k.fits, waiting_size t (reported (Some answer)));
-      bad = omega (arith, sound.bad);
-      lost = sound.lost;
-    };
-    lines = record { bad = omega arith; lost = omega arith };
+    sound = omega (arith, k.counted, k.fits, waiting_size t (reported (Some answer)));
+    lines = omega arith;
     source = same_source;
     owes = turn_owes;
     verdict = turn_verdict;
-    calls = λ r h. omega (arith, one.at_most, spared answer t some, waiting_count t (reported (Some answer)), ap length (turn_owes r h));
+    calls = λ r h. omega (arith, one.at_most, (set_aside answer t some).0, waiting_count t (reported (Some answer)), ap length (turn_owes r h));
     grows = λ under. omega (arith, one.at_least under);
-    least_calls = λ under. omega (arith, one.at_least under, owing answer, waiting_bad t (reported (Some answer)));
+    least_calls = λ under. omega (arith, one.at_least under, (set_aside answer t some).1, waiting_bad t (reported (Some answer)));
     advances = λ on. record {
       taken = k.front ++ reported (Some answer);
       rest_is = λ r. k.rest r (λ last_one. absurd (false≢true (sym on ∙ last_one))) ∙ sym (append_assoc k.front (reported (Some answer)) (d.pieces (drop read src ++ r)));
@@ -209,13 +194,10 @@ front_faithful : (ref : Reference) (e : Coding) (last : Bool) (v v' : VerdictVie
 front_faithful ref e last v v' s s' t rest tail keeps ends =
     let both = keeps ref (text tail) ends in
     let fine = waiting_fine t tail in
-    let fine' = waiting_fine rest tail in (
-      λ h.
-          let on = both.0 (h.0, subst (ReadsWhole ref e (to_read v) s) (waiting_text t tail) h.2) in
-          (on.0, fine'.1 (fine.0 h.1), subst (ReadsWhole ref e (to_read v') s') (sym (waiting_text rest tail)) on.1),
-      λ h.
-          let on = both.1 (h.0, subst (ReadsWhole ref e (to_read v') s') (waiting_text rest tail) h.2) in
-          (on.0, fine.1 (fine'.0 h.1), subst (ReadsWhole ref e (to_read v) s) (sym (waiting_text t tail)) on.1),
+    let fine' = waiting_fine rest tail in
+    rw (waiting_text t tail, waiting_text rest tail) (
+      λ h. let on = both.0 (h.0, h.2) in (on.0, fine'.1 (fine.0 h.1), on.1),
+      λ h. let on = both.1 (h.0, h.2) in (on.0, fine.1 (fine'.0 h.1), on.1),
     )
 
 -- what is owed for a text that waits, and what comes after it
@@ -256,19 +238,12 @@ module _ (c : Standing) (set : EscapeState) (v : VerdictView) (x : Counts) (rest
       rw (append_assoc (pieces_of_text c.text) (reported c.answer) (c.state.decoder.pieces (src ++ r)), append_assoc (pieces_of_text rest) (reported c.answer) (c.state.decoder.pieces (src ++ r)))
       (front_faithful ref c.state.coding ended c.state.verdict v c.state.set set c.text rest tail e.verdict (λ end. ap text (tail_is end r h)))
 
-  not_ended : last ≡ false → ended ≡ false
-  not_ended on = elim (true_or_false ended) [ inl end ↦ absurd (false≢true (sym on ∙ ends end)) | inr not ↦ not ]
-
   pub encode_turn : TakesTurns c (after_encoder c set v x rest) last src src items (2 * n) n
   encode_turn = record {
     counted = omega (arith, e.read);
     target = refl;
     policy = refl;
-    sound = record {
-      index = omega (arith, sound.index, waiting_size c.text (reported c.answer), waiting_size rest (reported c.answer), e.read, e.index);
-      bad = omega (arith, sound.bad, e.bad, e.index);
-      lost = e.lost;
-    };
+    sound = omega (arith, e.bad, e.lost, waiting_size c.text (reported c.answer), waiting_size rest (reported c.answer), e.read, e.index);
     lines = e.lines;
     source = λ r h. refl;
     owes = encode_owes;
@@ -279,7 +254,7 @@ module _ (c : Standing) (set : EscapeState) (v : VerdictView) (x : Counts) (rest
     advances = λ on. record {
       taken = [];
       rest_is = λ r. refl;
-      set = rw (waiting_text rest (reported c.answer), waiting_text c.text (reported c.answer), last_set-append c.state.coding set rest (text (reported c.answer)), last_set-append c.state.coding c.state.set c.text (text (reported c.answer)), e.set (not_ended on)) refl;
+      set = rw (waiting_text rest (reported c.answer), waiting_text c.text (reported c.answer), last_set-append c.state.coding set rest (text (reported c.answer)), last_set-append c.state.coding c.state.set c.text (text (reported c.answer)), e.set (false_from_ne_true ended (λ end. false≢true (sym on ∙ ends end)))) refl;
       index = omega (arith, e.index, waiting_count c.text (reported c.answer), waiting_count rest (reported c.answer));
     };
   }

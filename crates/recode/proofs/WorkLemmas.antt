@@ -1,6 +1,6 @@
 -- How the calls of codecs add up.
 use Rattle.std.proofs.Common.{◌≡◌, ℕ, ◌+◌, ◌-◌, ◌^◌, ◌≤◌, ◌<◌, List, [], ◌∷◌, length, arith, refl, ap}
-use Rattle.encoding_mem.specs.Items.{Item, Byte, item_bytes, MalformedAt, LostAt}
+use Rattle.encoding_mem.specs.Items.{Item, Byte, item_bytes}
 use Rattle.recode.specs.TaggedByte.{output_bytes, tagged}
 use Rattle.recode.specs.Work.{IsCounted}
 use Rattle.recode.specs.WrittenItems.{bad_line_count, lost_line_count}
@@ -17,8 +17,7 @@ counted_more calls calls1 calls2 left most up few one = record {
 split : (t : List Item) → length t ≡ length (item_bytes t) + bad_line_count t + lost_line_count t
 split [] = refl
 split (Byte b ∷ t) = omega (arith, split t)
-split (MalformedAt offset size ∷ t) = omega (arith, split t)
-split (LostAt index scalar ∷ t) = omega (arith, split t)
+split (x ∷ t) = omega (arith, split t)
 
 pub items_split : (t : List Item) → length t ≡ length (output_bytes (tagged t)) + bad_line_count t + lost_line_count t
 items_split t = omega (arith, split t, ap length (output_bytes-tagged t))

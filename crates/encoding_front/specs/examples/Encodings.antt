@@ -193,7 +193,6 @@ unfolding pieces_in
 reads_user_defined = refl
 
 reads_replacement : pieces_of tables Replacement (0x41 ∷ 0x42 ∷ []) ≡ malformed 1 ∷ well_formed 1 [] ∷ []
-unfolding pieces_in
 reads_replacement = refl
 
 -- what is written for the same scalar values; jis0212 is never written, nor what stands below 5024 in Big5

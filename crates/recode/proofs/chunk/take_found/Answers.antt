@@ -1,4 +1,4 @@
-use Rattle.recode.proofs.HandsLemmas.{hands_under}
+use Rattle.recode.proofs.WriterLemmas.{hands_under}
 use Rattle.recode.proofs.chunk.take_found.Goals as goal
 
 pub returns-in-Bad-clause-hands : goal.returns-in-Bad-clause-hands

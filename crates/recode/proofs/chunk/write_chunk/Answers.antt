@@ -4,14 +4,25 @@ use Rattle.encoding_mem.specs.Items.{Byte}
 use Rattle.recode.specs.Converter.{found_items}
 use Rattle.recode.specs.Policy.{reference_form}
 use Rattle.recode.specs.calls.EngineView.{standing}
+use Rattle.recode.specs.calls.Writers.{HandsOnUnder, TellWhatTaken}
 use Rattle.recode.specs.declared.converter.ConverterResult.TheVariants.{Found}
 use Rattle.recode.specs.declared.engine.Engine.{Engine}
 use Rattle.recode.specs.declared.job.Policy.{Policy}
 use Rattle.recode.specs.laws.Items.{spared_append}
-use Rattle.recode.proofs.BufferLemmas.{lent_on, lent_start}
-use Rattle.recode.proofs.HandsLemmas.{hands_fault, hands_held, hands_ready, hands_then, hands_under, told_then}
+use Rattle.recode.proofs.WriterLemmas.{hands_fault, hands_held, hands_ready, hands_then, hands_under, holding_more, lent_on, lent_start, told_then}
 use Rattle.recode.proofs.ShellLemmas.{between_none, found_some, holds_none, ok_of, pumps_bytes, pumps_done, pumps_held, pumps_more, pumps_start, pumps_stuck, pumps_under, ready_start, smaller_by, sound_start, spared_only}
+use Rattle.recode.proofs.chunk.write_chunk.Given.{Over}
+use Rattle.recode.proofs.chunk.write_chunk.Goals.{After-convert-result}
 use Rattle.recode.proofs.chunk.write_chunk.Goals as goal
+
+-- what a call of the engine wrote is held, and what was told until then
+held : (g : Over) (c : After-convert-result g) → HandsOnUnder {T = Unit {0}} c.args.policy g.W.Write.contents g.L.Write.contents c.make_room.new.self
+    (holding_more c.make_room.new.self c.convert-result.new.dst c.convert-result.result.2) (map Byte (take c.convert-result.result.2 c.convert-result.new.dst)) (Ok tt)
+held g c = hands_held _ _ (hands_ready (hands_ready c.requires.writers.0 c.calls.invariant.pumps.hands) c.in_ok-make_room.ensures.hands) (search rules) c.convert-result.ensures.wrote.room
+
+told : (g : Over) (c : After-convert-result g) → TellWhatTaken g.W.Write.contents g.L.Write.contents c.args.writers.now
+    (holding_more c.make_room.new.self c.convert-result.new.dst c.convert-result.result.2)
+told g c = told_then _ _ _ (told_then _ _ _ c.calls.invariant.pumps.hands.told c.in_ok-make_room.ensures.hands.told) (held g c).told
 
 pub calls-init : goal.calls-init
 calls-init g c =
@@ -24,15 +35,15 @@ calls-init g c =
     record {
       pumps = pumps_start r.writers.0 (sound_start c0 r.none empty r.ready.sound);
       ready = ready_start (standing view parts Policy.Decimal start c.args.pivot.now) c.args.chunk.now c.is_empty-last.result r.none empty r.limit
-          (record { open_ = r.ready.open_; sound = record { index = r.ready.sound.index; bad = r.ready.sound.bad; lost = r.ready.sound.lost }; tells = r.ready.tells });
+          (record { open_ = r.ready.open_; sound = omega (arith, r.ready.sound.index, r.ready.sound.bad, r.ready.sound.lost); tells = r.ready.tells });
       holds = holds_none c.args.pivot.now;
       lent = lent_start _ _ r.lent;
     }
 
 pub returns-in_err-make_room-clause-err : goal.returns-in_err-make_room-clause-err
 returns-in_err-make_room-clause-err g c =
-    let left = hands_fault [] c.from_residual.ensures.1 (hands_under c.in_err-make_room.ensures.hands) in
-    rw (sym c.is_empty-last.ensures) (pumps_stuck c.calls.invariant.pumps left c.requires.none (between_none c.args.pivot.now) c.requires.writers.1)
+    rw (sym c.is_empty-last.ensures)
+    (pumps_stuck c.calls.invariant.pumps (hands_fault [] c.from_residual.ensures.1 (hands_under c.in_err-make_room.ensures.hands)) c.requires.none (between_none c.args.pivot.now) c.requires.writers.1)
 
 pub returns-in_err-make_room-clause-told : goal.returns-in_err-make_room-clause-told
 returns-in_err-make_room-clause-told g c = told_then _ _ _ c.calls.invariant.pumps.hands.told c.in_err-make_room.ensures.hands.told
@@ -44,8 +55,7 @@ returns-in-InputEmpty-clause-chunk g c =
     let k = c.convert-result in
     let p = c.args.policy in
     let ends = rw c.in-InputEmpty.is at (k.ensures.ends p) in
-    let held = hands_held k.new.dst k.result.2 (hands_ready (hands_ready c.requires.writers.0 i.pumps.hands) room) (search rules) k.ensures.wrote.room in
-    let all = rw ends.0 at (pumps_bytes (take k.result.2 k.new.dst) (pumps_held i.pumps room) held (rw c.in-InputEmpty.is at (k.ensures.law p))) in
+    let all = rw ends.0 at (pumps_bytes (take k.result.2 k.new.dst) (pumps_held i.pumps room) (held g (goal.at.returns-in-InputEmpty-clause-chunk g c).After-convert-result) (rw c.in-InputEmpty.is at (k.ensures.law p))) in
     rw (sym c.is_empty-last.ensures)
     (pumps_done c.requires.none (between_none c.args.pivot.now) ends.1 ends.2 refl c.requires.writers.1 ends.3 all (hands_under c.deliver_held.ensures.hands) c.deliver_held.ensures.none)
 
@@ -54,20 +64,14 @@ returns-in-InputEmpty-clause-none g c = ok_of c.deliver_held.result (rw c.in-Inp
 
 pub returns-in-InputEmpty-clause-err : goal.returns-in-InputEmpty-clause-err
 returns-in-InputEmpty-clause-err g c =
-    let i = c.calls.invariant in
-    let room = hands_under c.in_ok-make_room.ensures.hands in
     let k = c.convert-result in
-    let held = hands_held k.new.dst k.result.2 (hands_ready (hands_ready c.requires.writers.0 i.pumps.hands) room) (search rules) k.ensures.wrote.room in
-    let all = pumps_bytes (take k.result.2 k.new.dst) (pumps_held i.pumps room) held (rw c.in-InputEmpty.is at (k.ensures.law c.args.policy)) in
+    let room = pumps_held c.calls.invariant.pumps (hands_under c.in_ok-make_room.ensures.hands) in
+    let law = rw c.in-InputEmpty.is at (k.ensures.law c.args.policy) in
+    let all = pumps_bytes (take k.result.2 k.new.dst) room (held g (goal.at.returns-in-InputEmpty-clause-err g c).After-convert-result) law in
     rw (sym c.is_empty-last.ensures) (pumps_stuck all (hands_under c.deliver_held.ensures.hands) c.requires.none (between_none c.args.pivot.now) c.requires.writers.1)
 
 pub returns-in-InputEmpty-clause-told : goal.returns-in-InputEmpty-clause-told
-returns-in-InputEmpty-clause-told g c =
-    let i = c.calls.invariant in
-    let room = c.in_ok-make_room.ensures.hands in
-    let k = c.convert-result in
-    let held = hands_held {applies = λ p. Unit {0}} k.new.dst k.result.2 (hands_ready (hands_ready c.requires.writers.0 i.pumps.hands) room) (search rules) k.ensures.wrote.room in
-    told_then _ _ _ (told_then _ _ _ (told_then _ _ _ i.pumps.hands.told room.told) held.told) c.deliver_held.ensures.hands.told
+returns-in-InputEmpty-clause-told g c = told_then _ _ _ (told g (goal.at.returns-in-InputEmpty-clause-told g c).After-convert-result) c.deliver_held.ensures.hands.told
 
 pub returns-in-InputEmpty-clause-target : goal.returns-in-InputEmpty-clause-target
 returns-in-InputEmpty-clause-target g c = (c.convert-result.ensures.law c.args.policy).target ∙ c.calls.invariant.pumps.turns.target
@@ -87,9 +91,8 @@ calls-preserved-in-OutputFull g c =
     let i = c.calls.invariant in
     let room = hands_under c.in_ok-make_room.ensures.hands in
     let k = c.convert-result in
-    let held = hands_held k.new.dst k.result.2 (hands_ready (hands_ready c.requires.writers.0 i.pumps.hands) room) (search rules) k.ensures.wrote.room in
     record {
-      pumps = rw (take_rest c.calls.rest.now k.result.1) (pumps_bytes (take k.result.2 k.new.dst) (pumps_held i.pumps room) held (rw c.in-OutputFull.is at (k.ensures.law c.args.policy)));
+      pumps = rw (take_rest c.calls.rest.now k.result.1) (pumps_bytes (take k.result.2 k.new.dst) (pumps_held i.pumps room) (held g (goal.at.calls-preserved-in-OutputFull g c).After-convert-result) (rw c.in-OutputFull.is at (k.ensures.law c.args.policy)));
       ready = rw (take_rest c.calls.rest.now k.result.1) (rw c.in-OutputFull.is at (k.ensures.ends Policy.Decimal)).1;
       holds = k.ensures.holds;
       lent = lent_on i.lent k.ensures.lent;
@@ -110,12 +113,11 @@ calls-preserved g c =
     let k = c.convert-result in
     let p = c.args.policy in
     let bytes = take k.result.2 k.new.dst in
-    let held = hands_held k.new.dst k.result.2 (hands_ready (hands_ready c.requires.writers.0 i.pumps.hands) room) (search rules) k.ensures.wrote.room in
     let f = c.in_ok-take_found-in-Found.ensures in
     let found = found_items (reference_form p) (Found c.in-Found.line) in
     let spared = spared_append p (map Byte bytes) found (spared_only p bytes) f.spared in
     record {
-      pumps = rw (take_rest c.calls.rest.now k.result.1) (pumps_more (pumps_held i.pumps room) (hands_then (λ q is. spared_only q bytes) held f.hands) spared (rw c.in-Found.is at (k.ensures.law p)));
+      pumps = rw (take_rest c.calls.rest.now k.result.1) (pumps_more (pumps_held i.pumps room) (hands_then (λ q is. spared_only q bytes) (held g (goal.at.calls-preserved g c).After-convert-result) f.hands) spared (rw c.in-Found.is at (k.ensures.law p)));
       ready = rw (take_rest c.calls.rest.now k.result.1) (rw c.in-Found.is at (k.ensures.ends Policy.Decimal)).1;
       holds = k.ensures.holds;
       lent = lent_on i.lent k.ensures.lent;
@@ -128,9 +130,8 @@ returns-in_err-take_found-in-Found-clause-err g c =
     let k = c.convert-result in
     let p = c.args.policy in
     let bytes = take k.result.2 k.new.dst in
-    let held = hands_held k.new.dst k.result.2 (hands_ready (hands_ready c.requires.writers.0 i.pumps.hands) room) (search rules) k.ensures.wrote.room in
     let e = c.in_err-take_found-in-Found in
-    let passed = hands_fault [] c.from_residual-in_err-take_found-in-Found.ensures.1 (hands_then (λ q is. spared_only q bytes) held e.ensures.hands) in
+    let passed = hands_fault [] c.from_residual-in_err-take_found-in-Found.ensures.1 (hands_then (λ q is. spared_only q bytes) (held g (goal.at.returns-in_err-take_found-in-Found-clause-err g c).After-convert-result) e.ensures.hands) in
     rw (sym c.is_empty-last.ensures) (pumps_under (pumps_held i.pumps room) passed (rw c.in-Found.is at (k.ensures.law p)) c.requires.none (between_none c.args.pivot.now) c.requires.writers.1)
 
 pub returns-in_err-take_found-in-Found-clause-target : goal.returns-in_err-take_found-in-Found-clause-target
@@ -138,8 +139,4 @@ returns-in_err-take_found-in-Found-clause-target g c = (c.convert-result.ensures
 
 pub returns-in_err-take_found-in-Found-clause-told : goal.returns-in_err-take_found-in-Found-clause-told
 returns-in_err-take_found-in-Found-clause-told g c =
-    let i = c.calls.invariant in
-    let room = c.in_ok-make_room.ensures.hands in
-    let k = c.convert-result in
-    let held = hands_held {applies = λ p. Unit {0}} k.new.dst k.result.2 (hands_ready (hands_ready c.requires.writers.0 i.pumps.hands) room) (search rules) k.ensures.wrote.room in
-    told_then _ _ _ (told_then _ _ _ (told_then _ _ _ i.pumps.hands.told room.told) held.told) c.in_err-take_found-in-Found.ensures.hands.told
+    told_then _ _ _ (told g (goal.at.returns-in_err-take_found-in-Found-clause-told g c).After-convert-result) c.in_err-take_found-in-Found.ensures.hands.told

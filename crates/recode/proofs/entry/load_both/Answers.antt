@@ -1,15 +1,11 @@
-use Rattle.std.proofs.Common.{Result, Ok, Err, OnOk}
 use Rattle.encoding_front.specs.Encodings.{needs_of}
 use Rattle.recode.proofs.LoadLemmas.{adds_more, there_kept}
+use Rattle.recode.proofs.ShellLemmas.{ok_of}
 use Rattle.recode.proofs.entry.load_both.Goals as goal
-
-on_ok : {T E : Type 0} (r : Result T E) (P : Type 0) → P → OnOk r P
-on_ok (Ok x) P p = p
-on_ok (Err e) P p = tt
 
 pub returns-clause-from : goal.returns-clause-from
 returns-clause-from g c =
-    on_ok c.load_indexes-2.result _ (there_kept c.load_indexes.new.tables c.load_indexes-2.new.tables (needs_of c.args.from) c.load_indexes-2.ensures.kept c.in_ok-load_indexes.ensures.there)
+    ok_of c.load_indexes-2.result (there_kept c.load_indexes.new.tables c.load_indexes-2.new.tables (needs_of c.args.from) c.load_indexes-2.ensures.kept c.in_ok-load_indexes.ensures.there)
 
 pub returns-clause-files : goal.returns-clause-files
 returns-clause-files g c =

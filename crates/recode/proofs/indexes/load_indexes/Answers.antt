@@ -1,9 +1,9 @@
-use Rattle.std.proofs.Common.{◌<◌, ◌∙◌, arith, drop, get_or, length, suc, sym, take}
+use Rattle.std.proofs.Common.{◌<◌, ◌∙◌, arith, drop, get_or, length, suc, sym, take, ◌++◌, ap, drop-cons}
 use Rattle.std.proofs.lemmas.Result.{err_from_is_err_and}
 use Rattle.encoding_tables.specs.FileNames.{file_name_of}
-use Rattle.std.proofs.lemmas.List.{take_more}
+use Rattle.std.proofs.lemmas.List.{take_more, take-append-drop}
 use Rattle.encoding_tables.specs.declared.index_kind.IndexKind.{IndexKind}
-use Rattle.recode.proofs.LoadLemmas.{adds_first, adds_more, adds_only_more, around, there_kept, there_more}
+use Rattle.recode.proofs.LoadLemmas.{adds_first, adds_more, adds_only_more, there_kept, there_more}
 use Rattle.recode.proofs.indexes.load_indexes.Goals as goal
 
 pub loop-kind-preserved : goal.loop-kind-preserved
@@ -37,7 +37,8 @@ returns-in_err-load_index-clause-lacking g c =
       before = take c.loop-kind.kind-index kinds;
       kind = kind;
       after = drop (suc c.loop-kind.kind-index) kinds;
-      needed = sym c.needs-kinds.ensures ∙ around kinds c.loop-kind.kind-index IndexKind.Ibm866 within;
+      needed = sym c.needs-kinds.ensures ∙ sym (take-append-drop c.loop-kind.kind-index kinds)
+          ∙ ap (λ rest. take c.loop-kind.kind-index kinds ++ rest) (drop-cons kinds c.loop-kind.kind-index IndexKind.Ibm866 within);
       there = rw err.unchanged c.loop-kind.invariant.there;
       lacking = err.lacking;
       added = rw err.unchanged c.loop-kind.invariant.added;

@@ -1,4 +1,4 @@
-use Rattle.recode.proofs.TwoRunLemmas.{well_where_through, told_where_too_long, well_or_ended}
+use Rattle.recode.proofs.InputLemmas.{told_where_too_long, well_or_ended, well_where_through}
 use Rattle.recode.proofs.laws.answers_without_faults.Goals as goal
 
 pub returns : goal.returns

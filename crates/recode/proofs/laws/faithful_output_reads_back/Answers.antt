@@ -1,4 +1,4 @@
-use Rattle.recode.proofs.OutputLemmas.{runs_read_back}
+use Rattle.recode.proofs.InputLemmas.{runs_read_back}
 use Rattle.recode.proofs.laws.faithful_output_reads_back.Goals as goal
 
 pub returns : goal.returns

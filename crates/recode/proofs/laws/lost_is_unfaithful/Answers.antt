@@ -1,4 +1,4 @@
-use Rattle.recode.proofs.OutputLemmas.{lost_is_unfaithful}
+use Rattle.recode.proofs.InputLemmas.{lost_is_unfaithful}
 use Rattle.recode.proofs.laws.lost_is_unfaithful.Goals as goal
 
 pub returns : goal.returns

@@ -1,4 +1,4 @@
-use Rattle.recode.proofs.OutputLemmas.{valid_back, reads_back, quiet_back}
+use Rattle.recode.proofs.InputLemmas.{quiet_back, reads_back, valid_back}
 use Rattle.recode.proofs.laws.output_reads_back.Goals as goal
 
 pub returns : goal.returns

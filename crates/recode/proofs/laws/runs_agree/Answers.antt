@@ -1,4 +1,4 @@
-use Rattle.recode.proofs.TwoRunLemmas.{same_written, same_reports, same_runs, same_bytes}
+use Rattle.recode.proofs.InputLemmas.{same_bytes, same_reports, same_runs, same_written}
 use Rattle.recode.proofs.laws.runs_agree.Goals as goal
 
 pub returns : goal.returns

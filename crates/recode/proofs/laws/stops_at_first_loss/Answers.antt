@@ -4,7 +4,7 @@ use Rattle.encoding_mem.specs.declared.form.EscapeState.TheVariants.{Ascii}
 use Rattle.encoding_mem.specs.declared.reference.Reference.TheVariants.{Decimal}
 use Rattle.encoding_mem.specs.laws.EncoderCalls.{mapped_open}
 use Rattle.recode.specs.Job.{target_of}
-use Rattle.recode.proofs.LossLemmas.{first_lost, log_at_loss}
+use Rattle.recode.proofs.TraceLemmas.{first_lost, log_at_loss}
 use Rattle.recode.proofs.StopLemmas.{output_at_loss}
 use Rattle.recode.proofs.laws.stops_at_first_loss.Goals as goal
 

@@ -1,4 +1,4 @@
-use Rattle.recode.proofs.OutputLemmas.{no_lost_lines, none_lost_in_utf8}
+use Rattle.recode.proofs.InputLemmas.{no_lost_lines, none_lost_in_utf8}
 use Rattle.recode.proofs.laws.utf8_loses_nothing.Goals as goal
 
 pub returns : goal.returns

@@ -1,4 +1,4 @@
-use Rattle.recode.proofs.InputLemmas.{kept_output, kept_log}
+use Rattle.recode.proofs.InputLemmas.{kept_log, kept_output}
 use Rattle.recode.proofs.laws.utf8_text_is_kept.Goals as goal
 
 pub returns : goal.returns

@@ -1,4 +1,4 @@
-use Rattle.recode.proofs.OutputLemmas.{same_whole, same_run, quiet_whole}
+use Rattle.recode.proofs.InputLemmas.{quiet_whole, same_run, same_whole}
 use Rattle.recode.proofs.laws.whole_texts_are_the_same.Goals as goal
 
 pub returns : goal.returns

@@ -4,9 +4,9 @@ use Rattle.recode.specs.calls.SessionView.{view_of}
 use Rattle.recode.specs.declared.job.Job.{Job}
 use Rattle.recode_log.specs.laws.Told.{none_yet}
 use Rattle.recode.proofs.TellLemmas.{none_yet_on, tells_none, tells_then}
-use Rattle.recode.proofs.BufferLemmas.{kept_enough, kept_on, kept_start}
+use Rattle.recode.proofs.WriterLemmas.{kept_enough, kept_on, kept_start}
 use Rattle.recode.proofs.LatencyLemmas.{new_settled}
-use Rattle.recode.proofs.StepLemmas.{finishes_within, goes_on_start, goes_on_more, goes_on_finish, goes_on_stop, steps_within, stops_within}
+use Rattle.recode.proofs.StepLemmas.{goes_on_start, goes_on_more, goes_on_finish, goes_on_stop}
 use Rattle.recode.proofs.RunLemmas.{completes, fails, few_calls}
 use Rattle.recode.proofs.ToldLemmas.{completes_told, fails_told}
 use Rattle.recode.proofs.session.run.Goals as goal
@@ -34,14 +34,13 @@ step-requires-clause-buffers g c = c.run.invariant.enough
 pub step-requires-clause-counts : goal.step-requires-clause-counts
 step-requires-clause-counts g c =
     let i = c.run.invariant in
-    let r = c.requires.counts in
-    record { reader = omega (arith, i.reader_count, r.reader); writer = omega (arith, i.writer_count, r.writer); log = omega (arith, i.log_count, r.log) }
+    omega (arith, i.reader_count, i.writer_count, i.log_count, c.requires.counts.reader, c.requires.counts.writer, c.requires.counts.log)
 
 pub run-preserved : goal.run-preserved
 run-preserved g c =
     let e = c.in-Ok-More.ensures in
     record {
-      ran = goes_on_more _ _ _ _ _ _ _ c.run.invariant.ran (steps_within _ _ (ap (λ (j : Job). j.limit) c.run.invariant.job) (e.more (ap Ok c.in-Ok-More.field-0-is)));
+      ran = goes_on_more _ _ _ _ _ _ _ c.run.invariant.ran (rw (ap (λ (j : Job). j.limit) c.run.invariant.job) at (e.more (ap Ok c.in-Ok-More.field-0-is)));
       open_ = e.session.phase ∙ ap (λ p. phase_after (Ok p)) c.in-Ok-More.field-0-is;
       job = e.session.job ∙ c.run.invariant.job;
       enough = kept_enough _ _ c.run.invariant.enough e.buffers;
@@ -57,20 +56,20 @@ pub returns-in-Ok-Done-clause-completes : goal.returns-in-Ok-Done-clause-complet
 returns-in-Ok-Done-clause-completes g c =
     let e = c.in-Ok-Done.ensures in
     completes _ _ c.args.job (view_of c.new-session.result) (view_of c.step.new.self) _ c.requires.job c.new-session.ensures
-    (goes_on_finish _ _ _ _ _ _ _ c.run.invariant.ran (finishes_within _ _ (ap (λ (j : Job). j.limit) c.run.invariant.job) (e.done (ap Ok c.in-Ok-Done.field-0-is))))
+    (goes_on_finish _ _ _ _ _ _ _ c.run.invariant.ran (rw (ap (λ (j : Job). j.limit) c.run.invariant.job) at (e.done (ap Ok c.in-Ok-Done.field-0-is))))
     (c.report.ensures _)
 
 pub returns-in-Ok-Done-clause-work : goal.returns-in-Ok-Done-clause-work
 returns-in-Ok-Done-clause-work g c =
     let e = c.in-Ok-Done.ensures in
     few_calls _ _ c.args.job (view_of c.new-session.result) (view_of c.step.new.self) _ c.requires.job c.new-session.ensures
-    (goes_on_finish _ _ _ _ _ _ _ c.run.invariant.ran (finishes_within _ _ (ap (λ (j : Job). j.limit) c.run.invariant.job) (e.done (ap Ok c.in-Ok-Done.field-0-is))))
+    (goes_on_finish _ _ _ _ _ _ _ c.run.invariant.ran (rw (ap (λ (j : Job). j.limit) c.run.invariant.job) at (e.done (ap Ok c.in-Ok-Done.field-0-is))))
     (c.report.ensures _)
 
 pub returns-in-Err-clause-fails : goal.returns-in-Err-clause-fails
 returns-in-Err-clause-fails g c =
     fails _ _ c.args.job (view_of c.new-session.result) _ c.new-session.ensures
-    (goes_on_stop _ _ _ _ _ _ _ c.run.invariant.ran (stops_within _ _ (ap (λ (j : Job). j.limit) c.run.invariant.job) c.in-Err.ensures.fault))
+    (goes_on_stop _ _ _ _ _ _ _ c.run.invariant.ran (rw (ap (λ (j : Job). j.limit) c.run.invariant.job) at c.in-Err.ensures.fault))
 
 pub returns-in-Ok-Done-clause-buffers : goal.returns-in-Ok-Done-clause-buffers
 returns-in-Ok-Done-clause-buffers g c = kept_on _ _ _ c.run.invariant.kept c.in-Ok-Done.ensures.buffers

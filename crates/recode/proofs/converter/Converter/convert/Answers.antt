@@ -7,7 +7,7 @@ use Rattle.recode.specs.Policy.{reference_form}
 use Rattle.recode.specs.calls.EngineView.{over_text, standing}
 use Rattle.recode.specs.calls.Turns.{ConvertEndsWith, TakesTurns, end_count}
 use Rattle.recode.specs.declared.job.Policy.{Policy}
-use Rattle.recode.proofs.ConverterLemmas.{can_go_on, ends_of, holds_kept, part_of, rests_of, standing_kept}
+use Rattle.recode.proofs.ShellLemmas.{can_go_on, ends_of, holds_kept, part_of, rests_of, standing_kept}
 use Rattle.recode.proofs.converter.Converter.convert.Goals as goal
 
 pub convert-result-requires-clause-ready : goal.convert-result-requires-clause-ready

@@ -1,5 +1,5 @@
 use Rattle.std.proofs.Common.{arith, refl, rules}
-use Rattle.recode.proofs.NewVerdictLemmas.{new_can_tell, new_verdict}
+use Rattle.recode.proofs.VerdictLemmas.{new_can_tell, new_verdict}
 use Rattle.recode.proofs.engine.Engine+Decoder+VariantEncoder.new.Goals as goal
 
 pub returns-clause-ready : goal.returns-clause-ready

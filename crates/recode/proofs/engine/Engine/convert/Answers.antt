@@ -1,4 +1,4 @@
-use Rattle.std.proofs.Common.{◌+◌, ◌++◌, ◌-◌, ◌*◌, append-nil, drop, length, map, refl, rules, sym, take}
+use Rattle.std.proofs.Common.{◌+◌, ◌++◌, ◌-◌, ◌*◌, append-nil, drop, length, map, refl, rules, sym, take, arith}
 use Rattle.std.proofs.lemmas.List.{drop-drop, take_rest}
 use Rattle.encoding_mem.specs.Items.{Byte}
 use Rattle.recode.specs.Policy.{reference_form}
@@ -7,9 +7,9 @@ use borrow.Rule.Slice.PartMut.{put_mid}
 use Rattle.encoding_mem.specs.calls.EncoderRule.{WritesBytes}
 use Rattle.recode.specs.calls.Turns.{TakesTurns, stop_count, stop_items}
 use Rattle.recode.specs.declared.job.Policy.{Policy}
-use Rattle.recode.proofs.BufferLemmas.{lent_on, lent_start}
-use Rattle.recode.proofs.TurnLemmas.{turns_start}
-use Rattle.recode.proofs.ConvertLemmas.{free_into, items_into, turn_after, wrote_into}
+use Rattle.recode.proofs.WriterLemmas.{lent_on, lent_start}
+use Rattle.recode.proofs.TurnLemmas.{turns_more, turns_start}
+use Rattle.recode.proofs.ConvertLemmas.{free_into, items_into, wrote_into}
 use Rattle.recode.proofs.engine.Engine.convert.Given.{Over}
 use Rattle.recode.proofs.engine.Engine.convert.Goals.{After-turn-stop}
 use Rattle.recode.proofs.engine.Engine.convert.Goals as goal
@@ -36,7 +36,7 @@ after g c p =
     let i = c.turns.invariant in
     let t = c.turn-stop in
     rw (sym (items_into c.turns.written (length c.turns.dst - c.turns.written) t.result.2 c.turns.dst t.new.dst (stop_items (reference_form p) t.result.0) i.wrote.room t.ensures.wrote.room))
-    (turn_after _ _ _ c.args.last c.args.src.now c.turns.read t.result.1 _ _ (3 * stop_count t.result.0) (2 * stop_count t.result.0) (i.law p) (rw (take_rest c.args.src.now c.turns.read) at (t.ensures.law p)))
+    (rw (sym (drop-drop t.result.1 c.turns.read c.args.src.now)) (turns_more _ _ (omega arith) (omega arith) (i.law p) (rw (take_rest c.args.src.now c.turns.read) at (t.ensures.law p))))
 
 written : (g : Over) (c : After-turn-stop g) → WritesBytes c.args.dst.now (put_mid c.turns.written (length c.turns.dst - c.turns.written) c.turns.dst c.turn-stop.new.dst) (c.turns.written + c.turn-stop.result.2)
 written g c = wrote_into c.args.dst.now c.turns.dst c.turn-stop.new.dst c.turns.written (length c.turns.dst - c.turns.written) c.turn-stop.result.2 refl (search rules) c.turns.invariant.wrote c.turn-stop.ensures.wrote

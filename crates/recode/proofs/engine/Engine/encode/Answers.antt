@@ -1,6 +1,6 @@
 use Rattle.std.proofs.Common.{false, [], append_assoc, ◌≡◌, ◌+◌, ◌-◌, ◌≤◌, ◌∙◌, ◌++◌, arith, refl, sym, ap, length, length-append, map, inl, inr, true≢false, take}
 use Rattle.recode.proofs.ConvertLemmas.{items_of_bytes, items_of_lost, left_in_pivot, lost_less}
-use Rattle.recode.proofs.EncoderCallLemmas.{items_less, one_taken, turn_items}
+use Rattle.recode.proofs.CodecCallLemmas.{items_less, turn_items}
 use Rattle.recode.specs.Policy.{reference_form}
 use Rattle.recode.specs.declared.job.Policy.{Policy}
 use Rattle.encoding_mem.specs.calls.EncoderRule.{EncoderParts}
@@ -122,7 +122,7 @@ returns-in-Unmappable-clause-once g c = λ p.
         lines = items_of_lost _ _ _ _ _ _ refl refl;
         owes = items ∙ sym (append_assoc (map Byte (take call.result.written call.new.out)) (reported_item (reference_form p) i' (Unmappable m)) (whole_items (reference_form p) coding c.args.last s1 i' rest));
         index = omega (arith, call.ensures.passed);
-        lost = omega (arith, ready.lost, call.ensures.passed, one_taken _ _ _ _ _ _ _ _ encodes);
+        lost = omega (arith, ready.lost, call.ensures.passed, ap length encodes.split, length-append encodes.before encodes.next, ap length encodes.leaves.1);
         bad = refl;
         read = refl;
         target = refl;

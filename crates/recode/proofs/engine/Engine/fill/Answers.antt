@@ -2,8 +2,9 @@ use Rattle.std.proofs.Common.{◌≡◌, ◌<◌, length, None, arith, length-dr
 use Rattle.encoding_mem.specs.declared.decoder_result.DecoderResult.TheVariants.{OutputFull}
 use Rattle.recode.specs.calls.EngineView.{chars_between, standing}
 use Rattle.recode.specs.declared.job.Policy.{Policy}
-use Rattle.recode.proofs.ConvertLemmas.{between_is, decode_turn_from, holds_between, none_open, open_after, tells_next}
-use Rattle.recode.proofs.DecoderCallLemmas.{IsDecoded, decoded_by, fewer_left, some_written, written_some}
+use Rattle.recode.proofs.ConvertLemmas.{between_is, decode_turn_from, holds_between, none_open, open_after}
+use Rattle.recode.proofs.VerdictLemmas.{next_tells}
+use Rattle.recode.proofs.CodecCallLemmas.{IsDecoded, decoded_by, fewer_left, some_written, written_some}
 use Rattle.recode.proofs.PivotLemmas.{holds_some}
 use Rattle.recode.proofs.engine.Engine.fill.Goals.{After-decode_to_pivot-call}
 use Rattle.recode.proofs.engine.Engine.fill.Given.{Over}
@@ -36,7 +37,7 @@ returns-clause-next g c =
     record {
       sound = (returns-clause-law g c Policy.Decimal).sound;
       limit = omega (arith, c.requires.ready.limit, length-drop d.result.read c.args.src.now, d.ensures.law.within);
-      tells = tells_next was _ (none_open was c.args.src.now c.args.last was.answer none c.requires.ready.open_).0 c.requires.ready.tells;
+      tells = next_tells _ _ _ _ (rw (none_open was c.args.src.now c.args.last was.answer none c.requires.ready.open_).0 at c.requires.ready.tells);
       open_ = open_after _ _ c.args.src.now c.args.last d.result.read d.result.written _ d.result.answer _ (took g (goal.at.returns-clause-next g c).After-decode_to_pivot-call) d.ensures.ends refl d.ensures.finished;
     }
 

@@ -9,7 +9,7 @@ use Rattle.recode.specs.calls.Turns.{TakesTurns, is_last_text}
 use Rattle.recode.specs.declared.job.Policy.{Policy}
 use Rattle.recode.proofs.TurnLemmas.{finish_turn, replace_turn, replaced_state}
 use Rattle.recode.proofs.VerdictLemmas.{lost_tells}
-use Rattle.recode.proofs.ConvertLemmas.{Encoded, done_in, encoded, lost_some, offset_fits, some_passed, text_fits}
+use Rattle.recode.proofs.ConvertLemmas.{Encoded, done_in, encoded, lost_some, offset_fits, text_fits}
 use Rattle.recode.proofs.engine.Engine.turn.Goals.{After-encode-answer}
 use Rattle.recode.proofs.engine.Engine.turn.Given.{Over}
 use Rattle.recode.proofs.engine.Engine.turn.Goals as goal
@@ -29,9 +29,7 @@ after g c p =
     encoded g.D.StreamDecoder.view g.E.RawEncoder.parts p c.args.self.now f.new.self e.new.self c.args.pivot.now f.new.pivot c.args.last c.ends-ends.result c.args.src.now (drop f.result c.args.src.now) (f.ensures.law p) f.ensures.next f.ensures.some c.ends-ends.ensures e.ensures.answer e.ensures.decoder (e.ensures.once p)
 
 pub returns-in-OutputFull-clause-law : goal.returns-in-OutputFull-clause-law
-returns-in-OutputFull-clause-law g c = λ p.
-    let k = rw c.in-OutputFull.is at (after g (goal.at.returns-in-OutputFull-clause-law g c).After-encode-answer p) in
-    k.turned
+returns-in-OutputFull-clause-law g c = λ p. (rw c.in-OutputFull.is at (after g (goal.at.returns-in-OutputFull-clause-law g c).After-encode-answer p)).turned
 
 pub returns-in-OutputFull-clause-ends : goal.returns-in-OutputFull-clause-ends
 returns-in-OutputFull-clause-ends g c = λ p.
@@ -42,12 +40,10 @@ pub overflow_sub-index : goal.overflow_sub-index
 overflow_sub-index g c =
     let e = c.encode-answer in
     let once = rw c.in-Unmappable.is at (e.ensures.once Policy.Decimal) in
-    some_passed c.fill-read.new.self.counts e.new.self.counts _ once.encodes.lines (lost_some (reference_form Policy.Decimal) (take e.result.1 e.new.dst) e.new.self.counts.index c.in-Unmappable.scalar) once.encodes.lost
+    omega (arith, once.encodes.lines.lost, once.encodes.lost, lost_some (reference_form Policy.Decimal) (take e.result.1 e.new.dst) e.new.self.counts.index c.in-Unmappable.scalar)
 
 pub returns-in-Unmappable-clause-law : goal.returns-in-Unmappable-clause-law
-returns-in-Unmappable-clause-law g c = λ p.
-    let k = rw c.in-Unmappable.is at (after g (goal.at.returns-in-Unmappable-clause-law g c).After-encode-answer p) in
-    k.turned
+returns-in-Unmappable-clause-law g c = λ p. (rw c.in-Unmappable.is at (after g (goal.at.returns-in-Unmappable-clause-law g c).After-encode-answer p)).turned
 
 pub returns-in-Unmappable-clause-ends : goal.returns-in-Unmappable-clause-ends
 returns-in-Unmappable-clause-ends g c = λ p.

@@ -1,15 +1,16 @@
-use Rattle.std.proofs.Common.{◌≡◌, ◌≤◌, [], ap, arith, length, rules, take}
-use Rattle.std.proofs.lemmas.Bool.{ne_eqb}
+use Rattle.std.proofs.lemmas.List.{nil_from_length}
+use Rattle.std.proofs.Common.{◌≡◌, ◌≤◌, [], ap, arith, length, rules, take, Err}
+use Rattle.std.proofs.lemmas.Bool.{ne_eqb, eqb-true}
 use Rattle.recode_log.specs.Call.{passed_by}
 use Rattle.recode_log.specs.Counted.{history_of, inner_of}
 use Rattle.recode_log.specs.laws.Calls.{passed_failed, passed_one}
 use Rattle.recode_log.specs.Told.{TellsReads}
 use Rattle.recode.specs.calls.Writers.{is_end}
-use Rattle.recode.proofs.GrowLemmas.{Gave-one, GaveToEnd-one, none_where_end}
+use Rattle.recode.proofs.GrowLemmas.{Gave-one, GaveToEnd-one}
 use Rattle.recode.proofs.StepLemmas.{stops_unread, stops_refused, stops_under}
 use Rattle.recode.proofs.LatencyLemmas.{finishes, steps_on}
 use Rattle.recode_log.specs.laws.Told.{ended_before, reads_one, taken_none}
-use Rattle.recode.proofs.TellLemmas.{last_handed, none_well, step_calls}
+use Rattle.recode.proofs.TellLemmas.{step_calls, last_of_writers}
 use Rattle.recode.proofs.TraceLemmas.{handed_on}
 use Rattle.recode.proofs.session.Session.step.Given.{Over}
 use Rattle.recode.proofs.session.Session.step.Goals.{After-read}
@@ -28,7 +29,7 @@ returns-in_err-write_chunk-clause-fault g c =
     let one = passed_one _ _ _ _ c.in-Ok.ensures.call in
     handed_on _ _ _ c.from_residual.ensures.1 (stops_under _ _ _ _ _ _ _
     (Gave-one _ _ _ one)
-    (λ h. GaveToEnd-one _ _ _ one (none_where_end _ h))
+    (λ h. GaveToEnd-one _ _ _ one (nil_from_length _ (eqb-true _ 0 h)))
     c.in_err-write_chunk.ensures.failures.not_other
     (omega (arith, c.in-Ok.ensures.bound.1, c.if-read-self.false, within))
     (search rules))
@@ -61,7 +62,7 @@ returns-then-read-self-clause-told g c = (record { input = reads g (goal.at.retu
 
 pub returns-in_err-write_chunk-clause-told : goal.returns-in_err-write_chunk-clause-told
 returns-in_err-write_chunk-clause-told g c =
-    (record { input = reads g (goal.at.returns-in_err-write_chunk-clause-told g c).After-read; output = search rules; log = search rules }, λ is. absurd (none_well _ _ _ c.from_residual.ensures.1 is))
+    (record { input = reads g (goal.at.returns-in_err-write_chunk-clause-told g c).After-read; output = search rules; log = search rules }, λ is. absurd (rw is at c.from_residual.ensures.1))
 
 pub returns-else-read-eq0-clause-told : goal.returns-else-read-eq0-clause-told
 returns-else-read-eq0-clause-told g c = (record { input = reads g (goal.at.returns-else-read-eq0-clause-told g c).After-read; output = search rules; log = search rules }, λ is. cc)
@@ -83,7 +84,7 @@ returns-then-read-self-clause-calls g c = step_calls _ _ _ _ c.read.result c.rea
 pub returns-in_err-write_chunk-clause-calls : goal.returns-in_err-write_chunk-clause-calls
 returns-in_err-write_chunk-clause-calls g c =
     let e = c.in_err-write_chunk.ensures.failures in
-    step_calls _ _ _ _ c.read.result c.read.new.buf _ _ c.read.ensures.call c.read.auto.buf (last_handed _ _ _ _ _ c.from_residual.ensures.1 e.not_other (search rules))
+    step_calls _ _ _ _ c.read.result c.read.new.buf _ _ c.read.ensures.call c.read.auto.buf (handed_on _ _ _ c.from_residual.ensures.1 (last_of_writers {T = Unit {0}} (Err _) _ _ _ e.not_other (search rules)))
 
 pub returns-then-read-eq0-clause-calls : goal.returns-then-read-eq0-clause-calls
 returns-then-read-eq0-clause-calls g c = step_calls _ _ _ _ c.read.result c.read.new.buf _ _ c.read.ensures.call c.read.auto.buf tt

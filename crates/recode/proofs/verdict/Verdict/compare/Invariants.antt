@@ -1,7 +1,7 @@
 use Rattle.std.proofs.Common.{◌≡◌, ◌≤◌, ◌<◌, ◌+◌, ◌-◌, ◌^◌, false, length}
 use Rattle.recode.specs.calls.Buffers.{KeepsRoom, is_wide}
 use Rattle.recode.specs.calls.PivotText.{is_in_units, pivot_chars, IsWholeText}
-use Rattle.recode.proofs.CompareLemmas.{HasCompared}
+use Rattle.recode.proofs.VerdictLemmas.{HasCompared}
 use Rattle.recode.proofs.verdict.Verdict.compare.Given as goal
 
 abbrev pub invariant-parts : goal.invariant-parts

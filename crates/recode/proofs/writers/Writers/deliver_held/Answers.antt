@@ -1,11 +1,9 @@
 use Rattle.std.proofs.Common.{[], ◌++◌, ap, map, refl, rules, take}
 use Rattle.encoding_mem.specs.Items.{Byte}
 use Rattle.recode.specs.calls.Held.{line_items}
-use Rattle.recode.proofs.HandsLemmas.{hands_after, hands_fault}
-use Rattle.recode.proofs.HeldLemmas.{delivers, hands_each}
-use Rattle.recode.proofs.TraceLemmas.{under_bytes}
+use Rattle.recode.proofs.WriterLemmas.{delivers, hands_after, hands_fault}
+use Rattle.recode.proofs.TraceLemmas.{handed_on, under_bytes}
 use Rattle.recode_log.specs.laws.Told.{taken_none, took_part, took_whole}
-use Rattle.recode.proofs.TellLemmas.{last_each}
 use Rattle.recode.proofs.writers.Writers.deliver_held.Goals as goal
 
 pub returns-in_err-deliver_line-clause-hands : goal.returns-in_err-deliver_line-clause-hands
@@ -17,9 +15,9 @@ returns-in_err-deliver-clause-hands g c =
     let held = take c.deliver_line.new.self.held c.deliver_line.new.self.buffer.now in
     hands_after e.hands (record {
       ok = search rules;
-      err = λ p any. hands_each _ _ _ _ _ _ c.from_residual-in_err-deliver.ensures.1 (λ more. under_bytes _ _ _ _ _ held _ _ more c.in_err-deliver.ensures.fault c.in_err-deliver.ensures.err.4
+      err = λ p any. handed_on _ _ _ c.from_residual-in_err-deliver.ensures.1 (λ more. under_bytes _ _ _ _ _ held _ _ more c.in_err-deliver.ensures.fault c.in_err-deliver.ensures.err.4
           (ap (λ line. (line_items line ++ map Byte held) ++ more) e.none));
-      failures = record { writer = search rules; log = search rules; not_reader = search rules; not_other = search rules; same = search rules; last = last_each _ _ _ _ _ c.from_residual-in_err-deliver.ensures.1 c.in_err-deliver.ensures.fault c.in_err-deliver.ensures.failed };
+      failures = record { writer = search rules; log = search rules; not_reader = search rules; not_other = search rules; same = search rules; last = handed_on _ _ _ c.from_residual-in_err-deliver.ensures.1 (rw c.in_err-deliver.ensures.fault c.in_err-deliver.ensures.failed) };
       told = record { output = took_part _ _ _ _ held c.in_err-deliver.ensures.err; log = taken_none _ _ };
     })
 

@@ -1,7 +1,6 @@
 use Rattle.std.proofs.Common.{[], ◌∷◌, rules}
 use Rattle.recode.specs.calls.Held.{item_of, log_line_of}
-use Rattle.recode.proofs.HandsLemmas.{hands_after, hands_fault}
-use Rattle.recode.proofs.HeldLemmas.{holds_line, none_held}
+use Rattle.recode.proofs.WriterLemmas.{hands_after, hands_fault, holds_line, none_held}
 use Rattle.recode_log.specs.laws.Told.{taken_none}
 use Rattle.recode.proofs.writers.Writers.hold_line.Goals as goal
 

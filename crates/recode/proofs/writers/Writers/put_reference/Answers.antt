@@ -1,10 +1,10 @@
 use Rattle.std.proofs.Common.{◌++◌, ◌∙◌, ap, map, rules, take}
 use Rattle.encoding_mem.specs.Coding.{reference_bytes}
 use Rattle.encoding_mem.specs.Items.{Byte}
-use Rattle.recode.proofs.HandsLemmas.{hands_after, hands_fault}
-use Rattle.recode.proofs.HeldLemmas.{delivers_part, delivers_whole, holds, none_held}
+use Rattle.recode.proofs.WriterLemmas.{delivers_part, hands_after, hands_fault, holds, none_held, ok_map, delivers_more}
 use Rattle.recode_log.specs.laws.Told.{taken_by, taken_none}
-use Rattle.recode.proofs.TellLemmas.{last_write}
+use Rattle.recode.specs.declared.job.Fault.TheVariants.{Write}
+use Rattle.recode.proofs.TellLemmas.{last_failed}
 use Rattle.recode.proofs.writers.Writers.put_reference.Goals as goal
 
 pub returns-in_err-deliver_held : goal.returns-in_err-deliver_held
@@ -18,9 +18,9 @@ returns-in_ok-deliver_held g c =
     let is = c.write_reference-len.ensures.reference in
     record {
       hands = hands_after e.hands (record {
-        ok = delivers_whole _ _ _ _ _ held _ _ _ _ e.none.line none is _ c.deliver.ensures.ok;
+        ok = ok_map c.deliver.result c.deliver.ensures.ok (λ q. delivers_more _ _ _ _ held held _ e.none.line none none (rw is at q.2));
         err = λ p any. delivers_part _ _ _ _ _ held _ _ _ _ e.none.line none is _ _ c.deliver.ensures.fault c.deliver.ensures.err;
-        failures = record { writer = search rules; log = search rules; not_reader = search rules; not_other = search rules; same = search rules; last = last_write _ _ _ c.deliver.ensures.fault c.deliver.ensures.failed };
+        failures = record { writer = search rules; log = search rules; not_reader = search rules; not_other = search rules; same = search rules; last = last_failed Write _ _ _ c.deliver.ensures.fault c.deliver.ensures.failed };
         told = record { output = taken_by _ _ _ _ _ _ _ _ c.deliver.ensures.ok c.deliver.ensures.err; log = taken_none _ _ };
       });
     }

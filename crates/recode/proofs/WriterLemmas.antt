@@ -1,5 +1,18 @@
--- How bytes and lines are passed on after what is held, and what is left if a writer failed.
-use Rattle.std.proofs.Common.{◌≡◌, ◌≤◌, ◌<◌, ◌+◌, ◌-◌, ℕ, List, [], ◌∷◌, ◌++◌, map, take, drop, length, Option, Some, None, Result, Ok, Err, OnOk, OnErr, IfErr, IsErrAnd, Bool, true, refl, sym, ap, subst, ◌∙◌, append_assoc, append-nil, take-add, arith}
+-- Buffers and writers that are lent and given back. How bytes and lines are passed on after what is held, and
+-- what is left if a writer failed. How what the writers' functions promise is put together.
+use Rattle.std.proofs.Common.{◌≡◌, ◌∙◌, ℕ, Option, None, Result, Ok, Err, OnOk, IfErr, ap, arith, refl, sym, take, Some, ◌≤◌, ◌<◌, ◌+◌, ◌-◌, List, [], ◌∷◌, ◌++◌, map, drop, length, OnErr, IsErrAnd, Bool, true, subst, append_assoc, append-nil, take-add, rules}
+use Rattle.recode.specs.calls.Buffers.{AreEnough, KeepSizes, KeepsRoom, HoldsAnyCharacter, capacity, is_wide}
+use Rattle.recode.specs.calls.Lent.{AreLent, KeepsLent}
+use Rattle.recode.specs.calls.Writers.{AreReady, AreTheSame, HandsOn, HandsOnIf, HandsOnUnder, HoldNothing, TellWhatTaken, writers_view, written_by}
+use Rattle.recode.specs.calls.Held.{holding_none, LeavesPrefix, LeavesPrefixFor, Passes, PassesBytes, WritersView, held_items, held_line_bytes, item_of, line_items, log_line_of}
+use Rattle.recode.specs.declared.job.Buffers.{Buffers}
+use Rattle.recode.specs.declared.job.Pivot.{Pivot}
+use Rattle.recode.specs.declared.job.Pivot.TheVariants.{Utf8, Utf16}
+use Rattle.recode.specs.declared.writers.MalformedLine.{MalformedLine}
+use Rattle.recode.specs.declared.writers.Writers.{Writers}
+use Rattle.encoding_mem.specs.declared.reference.Reference.{Reference}
+use Rattle.recode.specs.Policy.{reference_form, reference_of, written_under}
+use Rattle.recode.specs.declared.job.Policy.{Policy}
 use Rattle.std.proofs.lemmas.List.{map-append}
 use Rattle.std.proofs.lemmas.Slice.{take-put_mid_below}
 use borrow.Rule.Slice.PartMut.{put_mid}
@@ -8,21 +21,78 @@ use Rattle.recode_log.specs.Line.{line_bytes}
 use Rattle.recode_log.specs.declared.line.LogLine.{LogLine}
 use Rattle.recode_log.specs.declared.line.LogLine.TheVariants.{Bad, Lost}
 use Rattle.recode.specs.Devices.{Grew, Written}
-use Rattle.recode.specs.Policy.{written_under}
 use Rattle.recode.specs.TaggedByte.{Line, Wrote, tagged, tagged_item}
 use Rattle.recode.specs.WrittenItems.{IsSpared, WritesPrefix, lost_line_count}
-use Rattle.recode.specs.calls.Held.{LeavesPrefix, LeavesPrefixFor, Passes, PassesBytes, WritersView, held_items, held_line_bytes, item_of, line_items, log_line_of}
 use Rattle.recode.specs.declared.job.Fault.{Fault}
 use Rattle.recode.specs.declared.job.Fault.TheVariants.{Write, Log, Unmappable}
-use Rattle.recode.specs.declared.job.Policy.{Policy}
-use Rattle.recode.specs.declared.writers.MalformedLine.{MalformedLine}
-use Rattle.recode.specs.laws.Items.{lost_line_count-append, lost_line_count-bytes, tagged-append, written_spared}
-use Rattle.recode.proofs.TraceLemmas.{Wrote-nil, Wrote-trans, WritesPrefixFor-of, handed_on, left_behind, under_bytes, under_lines, written_first, wrote_bytes, wrote_line}
+use Rattle.recode.specs.laws.Items.{lost_line_count-append, lost_line_count-bytes, tagged-append, written_spared, spared_nil}
+use Rattle.recode.proofs.TraceLemmas.{WritesPrefixFor-of, Wrote-nil, Wrote-trans, left_behind, under_bytes, under_lines, written_first, wrote_bytes, wrote_line}
+use Rattle.recode_log.specs.Counted.{inner_of, passed_of}
+use Rattle.recode.proofs.ConvertLemmas.{last_is, size_into}
+use Rattle.recode_log.specs.laws.Told.{taken_none, taken_then}
+
+-- ---- results
+
+pub ok_map : {T E A B : Type 0} (r : Result T E) → OnOk r A → (A → B) → OnOk r B
+ok_map (Ok x) k f = f k
+ok_map (Err e) k f = tt
+
+pub err_map : {T E : Type 0} {P Q : E → Type 0} (r : Result T E) → IfErr r P → ((e : E) → P e → Q e) → IfErr r Q
+err_map (Ok x) h f = tt
+err_map (Err e) h f = f e h
+
+-- ---- buffers and writers that are lent and given back
+
+pub kept_start : (b : Buffers) → KeepSizes b b
+kept_start b = record { input = refl; pivot = refl; pivot_kind = refl; output = refl; check = refl; check_kind = refl }
+
+pub kept_on : (a b c : Buffers) → KeepSizes a b → KeepSizes b c → KeepSizes a c
+kept_on a b c p q = search rules
+
+holds_still : (p q : Pivot) → HoldsAnyCharacter p → capacity q ≡ capacity p → is_wide q ≡ is_wide p → HoldsAnyCharacter q
+holds_still (Utf8 a) (Utf8 b) h size kind = omega (arith, h, size)
+holds_still (Utf16 a) (Utf16 b) h size kind = omega (arith, h, size)
+holds_still _ _ h size kind = absurd (cc)
+
+pub room_start : (p : Pivot) → HoldsAnyCharacter p → KeepsRoom p p
+room_start p h = record { roomy = h; kind = refl; size = refl }
+
+pub room_on : {p q r : Pivot} → KeepsRoom p q → KeepsRoom q r → KeepsRoom p r
+room_on h k = record { roomy = k.roomy; kind = k.kind ∙ h.kind; size = k.size ∙ h.size }
+
+pub lent_start : (p c : Pivot) → AreLent p c → KeepsLent p c p c
+lent_start p c lent = record { pivot = room_start p lent.pivot; check = room_start c lent.check }
+
+pub lent_on : {p c p1 c1 p2 c2 : Pivot} → KeepsLent p c p1 c1 → KeepsLent p1 c1 p2 c2 → KeepsLent p c p2 c2
+lent_on h k = record { pivot = room_on h.pivot k.pivot; check = room_on h.check k.check }
+
+pub kept_enough : (b c : Buffers) → AreEnough b → KeepSizes b c → AreEnough c
+kept_enough b c e k = record {
+  input = omega (arith, e.input, k.input);
+  pivot = holds_still b.pivot c.pivot e.pivot k.pivot k.pivot_kind;
+  output = omega (arith, e.output, k.output);
+  check = holds_still b.check c.check e.check k.check k.check_kind;
+  one_kind = k.pivot_kind ∙ e.one_kind ∙ sym k.check_kind;
+}
+
+pub same_start : {W L : Type 0} (a : Writers W L) → AreReady a → AreTheSame a a
+same_start a ready = record { output = refl; buffer = refl; room = refl; within = ready.within; line = ready.line; log = refl }
+
+pub same_on : {W L : Type 0} {a b c : Writers W L} → AreTheSame a b → AreTheSame b c → AreTheSame a c
+same_on p q = record { output = q.output ∙ p.output; buffer = q.buffer ∙ p.buffer; room = q.room ∙ p.room; within = q.within; line = q.line; log = q.log ∙ p.log }
+
+-- writers for which nothing is held
+pub view_none : {W L : Type 0} (a : Writers W L) → HoldNothing a → writers_view a ≡ holding_none (written_by a)
+view_none a h =
+    ap (λ (line : Option MalformedLine). record { written = written_by a; line = line; bytes = take a.held a.buffer.now }) h.line
+    ∙ ap (λ (n : ℕ). record { written = written_by a; line = None; bytes = take n a.buffer.now }) h.bytes
+
+-- a policy that writes no reference stops, and another writes one of its form
+pub form_of : (p : Policy) → (reference_of p ≡ None → p ≡ Policy.Stop) × ((ref : Reference) → reference_of p ≡ Some ref → ref ≡ reference_form p)
+form_of Policy.Stop = (λ h. refl, λ ref h. absurd cc)
+form_of _ = (λ h. absurd cc, λ ref h. cc)
 
 -- ---- items in a row
-
-pub passes_none : (w : WritersView) → Passes w w []
-passes_none w = record { delivered = []; wrote = Wrote-nil w.written; in_order = append-nil (held_items w) }
 
 pub passes_then : (w w' w'' : WritersView) (a b : List Item) → Passes w w' a → Passes w' w'' b → Passes w w'' (a ++ b)
 passes_then w w' w'' a b h k = record {
@@ -33,8 +103,8 @@ passes_then w w' w'' a b h k = record {
 }
 
 -- what was still to be written, before and after items were passed
-passed_of : (w w' : WritersView) (passed a b : List Item) (h : Passes w w' passed) → a ≡ passed ++ b → held_items w ++ a ≡ h.delivered ++ (held_items w' ++ b)
-passed_of w w' passed a b h e = ap (λ x. held_items w ++ x) e ∙ sym (append_assoc (held_items w) passed b) ∙ ap (λ x. x ++ b) h.in_order ∙ append_assoc h.delivered (held_items w') b
+still_owed : (w w' : WritersView) (passed a b : List Item) (h : Passes w w' passed) → a ≡ passed ++ b → held_items w ++ a ≡ h.delivered ++ (held_items w' ++ b)
+still_owed w w' passed a b h e = ap (λ x. held_items w ++ x) e ∙ sym (append_assoc (held_items w) passed b) ∙ ap (λ x. x ++ b) h.in_order ∙ append_assoc h.delivered (held_items w') b
 
 -- no line of a lost character is held
 line_spared : (line : Option MalformedLine) (bytes : List ℕ) → lost_line_count (line_items line ++ map Byte bytes) ≡ 0
@@ -53,7 +123,7 @@ pub left_after : (w w' : WritersView) (v : Written) (p : Policy) (f : Fault) (pa
 left_after w w' v p f passed a b h spared e k = record {
   taken = tagged h.delivered ++ k.taken;
   wrote = Wrote-trans w.written w'.written v _ _ h.wrote k.wrote;
-  left = left_behind p f h.delivered k.taken (held_items w ++ a) (held_items w' ++ b) (delivered_spared w w' p passed h spared) (passed_of w w' passed a b h e) k.left;
+  left = left_behind p f h.delivered k.taken (held_items w ++ a) (held_items w' ++ b) (delivered_spared w w' p passed h spared) (still_owed w w' passed a b h e) k.left;
 }
 
 -- ---- for every continuation
@@ -79,7 +149,7 @@ pub delivers_line : (o l l' : List ℕ) (line : Option MalformedLine) (bytes : L
     → Passes (record { written = record { output = o; log = l }; line = line; bytes = bytes }) (record { written = record { output = o; log = l' }; line = None; bytes = bytes }) []
 delivers_line o l l' line bytes told = record {
   delivered = line_items line;
-  wrote = subst (Wrote (record { output = o; log = l }) (record { output = o; log = l' })) (sym (held_line_is line)) (wrote_line o l l' (held_line_bytes line) told);
+  wrote = rw (held_line_is line) (wrote_line o l l' (held_line_bytes line) told);
   in_order = append-nil (line_items line ++ map Byte bytes);
 }
 
@@ -109,24 +179,15 @@ holds_behind w line n m buffer room within =
 -- bytes that were not held are written, if nothing is held
 pub delivers_more : (o o' l : List ℕ) (line : Option MalformedLine) (held held' bytes : List ℕ) → line ≡ None → held ≡ [] → held' ≡ [] → Grew o o' bytes
     → PassesBytes (record { written = record { output = o; log = l }; line = line; bytes = held }) (record { written = record { output = o'; log = l }; line = line; bytes = held' }) bytes
-delivers_more o o' l line held held' bytes no_line none none' h = record {
-  delivered = map Byte bytes;
-  wrote = wrote_bytes o o' l bytes h;
-  in_order = ap (λ x. (line_items x ++ map Byte held) ++ map Byte bytes) no_line ∙ ap (λ x. map Byte x ++ map Byte bytes) none ∙ sym (append-nil (map Byte bytes))
-      ∙ ap (λ x. map Byte bytes ++ map Byte x) (sym none') ∙ ap (λ x. map Byte bytes ++ (line_items x ++ map Byte held')) (sym no_line);
-}
+delivers_more o o' l line held held' bytes no_line none none' h =
+    rw (no_line, none, none') (record { delivered = map Byte bytes; wrote = wrote_bytes o o' l bytes h; in_order = sym (append-nil (map Byte bytes)) })
 
 -- ---- lines
 
 -- a line is held, if nothing is
 pub holds_line : (w : Written) (line : Option MalformedLine) (held : List ℕ) (bad : MalformedLine) → line ≡ None → held ≡ []
     → Passes (record { written = w; line = line; bytes = held }) (record { written = w; line = Some bad; bytes = held }) (item_of (log_line_of bad) ∷ [])
-holds_line w line held bad no_line none = record {
-  delivered = [];
-  wrote = Wrote-nil w;
-  in_order = ap (λ x. (line_items x ++ map Byte held) ++ (item_of (log_line_of bad) ∷ [])) no_line ∙ ap (λ x. map Byte x ++ (item_of (log_line_of bad) ∷ [])) none
-      ∙ ap (λ x. item_of (log_line_of bad) ∷ map Byte x) (sym none);
-}
+holds_line w line held bad no_line none = rw (no_line, none) (record { delivered = []; wrote = Wrote-nil w; in_order = refl })
 
 -- The line that is held, and another after it with no bytes between them, as tagged bytes.
 two_lines_are : (held : Option MalformedLine) (line : LogLine) (lines : List ℕ) → lines ≡ held_line_bytes held ++ line_bytes line → tagged (line_items held ++ (item_of line ∷ [])) ≡ map Line lines
@@ -135,20 +196,15 @@ two_lines_are held line lines e =
     ∙ ap (λ x. map Line (held_line_bytes held) ++ x) (append-nil (tagged_item (item_of line)) ∙ line_is line)
     ∙ sym (map-append Line (held_line_bytes held) (line_bytes line)) ∙ ap (map Line) (sym e)
 
-writes_lines : (o l l' : List ℕ) (held : Option MalformedLine) (bytes lines : List ℕ) (line : LogLine) → bytes ≡ [] → lines ≡ held_line_bytes held ++ line_bytes line → Grew l l' lines
+pub writes_lines : (o l l' : List ℕ) (held : Option MalformedLine) (bytes lines : List ℕ) (line : LogLine) → bytes ≡ [] → lines ≡ held_line_bytes held ++ line_bytes line → Grew l l' lines
     → Passes (record { written = record { output = o; log = l }; line = held; bytes = bytes }) (record { written = record { output = o; log = l' }; line = None; bytes = bytes }) (item_of line ∷ [])
 writes_lines o l l' held bytes lines line none is told = record {
   delivered = line_items held ++ (item_of line ∷ []);
-  wrote = subst (Wrote (record { output = o; log = l }) (record { output = o; log = l' })) (sym (two_lines_are held line lines is)) (wrote_line o l l' lines told);
-  in_order = ap (λ x. (line_items held ++ map Byte x) ++ (item_of line ∷ [])) none ∙ ap (λ x. x ++ (item_of line ∷ [])) (append-nil (line_items held))
-      ∙ sym (append-nil (line_items held ++ (item_of line ∷ []))) ∙ ap (λ x. (line_items held ++ (item_of line ∷ [])) ++ map Byte x) (sym none);
+  wrote = rw (two_lines_are held line lines is) (wrote_line o l l' lines told);
+  in_order = rw (none, append-nil (line_items held)) (sym (append-nil (line_items held ++ (item_of line ∷ []))));
 }
 
 -- ---- if a writer failed
-
-on_ok : {T E A B : Type 0} (r : Result T E) → OnOk r A → (A → B) → OnOk r B
-on_ok (Ok x) k f = f k
-on_ok (Err e) k f = tt
 
 on_err : {T E A : Type 0} {P Q : E → Type 0} (r : Result T E) → IfErr r P → OnErr r A → ((e : E) → P e → A → Q e) → IfErr r Q
 on_err (Ok x) is k f = tt
@@ -158,11 +214,8 @@ on_err (Err e) is k f = f e is k
 pub none_held : (n : ℕ) (buffer : List ℕ) → n ≡ 0 → take n buffer ≡ []
 none_held n buffer e = ap (λ k. take k buffer) e
 
--- The line that is held, all of it or a part.
+-- A part of the line that is held.
 module _ {T : Type 0} (r : Result T Fault) (o l l' : List ℕ) (line : Option MalformedLine) (held bytes : List ℕ) (failures failures' : ℕ) (is : bytes ≡ held_line_bytes line) where
-  pub line_whole : (X : Type 0) → OnOk r (X × (failures' ≡ failures) × Grew l l' bytes) → OnOk r (Passes (record { written = record { output = o; log = l }; line = line; bytes = held }) (record { written = record { output = o; log = l' }; line = None; bytes = held }) [])
-  line_whole X k = on_ok r k (λ q. delivers_line o l l' line held (subst (Grew l l') is q.2))
-
   pub line_part : (Y : ℕ → Type 0) (p : Policy) → IfErr r (λ (g : Fault). g ≡ Log) → OnErr r ((n : ℕ) × (n < length bytes) × Y n × (failures' ≡ failures + 1) × Grew l l' (take n bytes))
       → IfErr r (λ (g : Fault). (to_write : List Item) → WritesPrefix (record { output = o; log = l }) (record { output = o; log = l' }) p g ((line_items line ++ map Byte held) ++ to_write))
   line_part Y p is_log k = on_err r is_log k (λ g same q to_write.
@@ -170,12 +223,8 @@ module _ {T : Type 0} (r : Result T Fault) (o l l' : List ℕ) (line : Option Ma
       let spared : lost_line_count (line_items line) ≡ 0 = ap lost_line_count (sym (append-nil (line_items line))) ∙ line_spared line [] in
       under_lines o l l' p g bytes q.0 (line_items line) _ (written_under p (map Byte held ++ to_write)) same (held_line_is line ∙ ap (map Line) (sym is)) (ap (written_under p) e ∙ written_spared p (line_items line) _ (λ stops. spared)) q.4)
 
--- A line after the line that is held, both of them or a part: no bytes are held.
+-- A part of the line that is held and of one after it: no bytes are held.
 module _ {T : Type 0} (r : Result T Fault) (o l l' : List ℕ) (held : Option MalformedLine) (bytes lines : List ℕ) (line : LogLine) (failures failures' : ℕ) (none : bytes ≡ []) (is : lines ≡ held_line_bytes held ++ line_bytes line) where
-  pub lines_whole : (X : Type 0) → OnOk r (X × (failures' ≡ failures) × Grew l l' lines)
-      → OnOk r (Passes (record { written = record { output = o; log = l }; line = held; bytes = bytes }) (record { written = record { output = o; log = l' }; line = None; bytes = bytes }) (item_of line ∷ []))
-  lines_whole X k = on_ok r k (λ q. writes_lines o l l' held bytes lines line none is q.2)
-
   pub lines_part : (Y : ℕ → Type 0) (p : Policy) → IfErr r (λ (g : Fault). g ≡ Log) → OnErr r ((n : ℕ) × (n < length lines) × Y n × (failures' ≡ failures + 1) × Grew l l' (take n lines))
       → IfErr r (λ (g : Fault). (more : List Item) → WritesPrefix (record { output = o; log = l }) (record { output = o; log = l' }) p g ((line_items held ++ map Byte bytes) ++ (item_of line ∷ more)))
   lines_part Y p is_log k = on_err r is_log k (λ g same q more.
@@ -185,22 +234,13 @@ module _ {T : Type 0} (r : Result T Fault) (o l l' : List ℕ) (held : Option Ma
       under_lines o l l' p g lines q.0 (line_items held ++ (item_of line ∷ [])) _ first.0 same (two_lines_are held line lines is)
       (ap (written_under p) e ∙ written_spared p (line_items held) _ (λ stops. spared) ∙ ap (λ x. line_items held ++ x) first.1 ∙ sym (append_assoc (line_items held) (item_of line ∷ []) first.0)) q.4)
 
--- Bytes, all of them or a part: nothing is held.
+-- A part of some bytes: nothing is held.
 module _ {T : Type 0} (r : Result T Fault) (o o' l : List ℕ) (line : Option MalformedLine) (held bytes passed : List ℕ) (failures failures' : ℕ) (no_line : line ≡ None) (none : held ≡ []) (is : bytes ≡ passed) where
-  pub delivers_whole : (X : Type 0) → OnOk r (X × (failures' ≡ failures) × Grew o o' bytes)
-      → OnOk r (PassesBytes (record { written = record { output = o; log = l }; line = line; bytes = held }) (record { written = record { output = o'; log = l }; line = line; bytes = held }) passed)
-  delivers_whole X k = on_ok r k (λ q. delivers_more o o' l line held held passed no_line none none (subst (Grew o o') is q.2))
-
   pub delivers_part : (Y : ℕ → Type 0) (p : Policy) → IfErr r (λ (g : Fault). g ≡ Write) → OnErr r ((n : ℕ) × (n < length bytes) × Y n × (failures' ≡ failures + 1) × Grew o o' (take n bytes))
       → IfErr r (λ (g : Fault). (more : List Item) → WritesPrefix (record { output = o; log = l }) (record { output = o'; log = l }) p g ((line_items line ++ map Byte held) ++ (map Byte passed ++ more)))
   delivers_part Y p is_write k = on_err r is_write k (λ g same q more.
       let e : (line_items line ++ map Byte held) ++ (map Byte passed ++ more) ≡ map Byte passed ++ more = ap (λ x. (line_items x ++ map Byte held) ++ (map Byte passed ++ more)) no_line ∙ ap (λ x. map Byte x ++ (map Byte passed ++ more)) none in
       under_bytes o o' l p g passed q.0 _ more same (subst (λ x. Grew o o' (take q.0 x)) is q.4) e)
-
--- what a fault leaves is left if a result hands it on, whatever follows
-pub hands_each : {T : Type 0} (r : Result T Fault) (e : Fault) (w w' : Written) (p : Policy) (a : List Item → List Item) → IsErrAnd r (λ (x : Fault). x ≡ e) → ((rest : List Item) → WritesPrefix w w' p e (a rest))
-    → IfErr r (λ (g : Fault). (rest : List Item) → WritesPrefix w w' p g (a rest))
-hands_each r e w w' p a same h = handed_on (λ (q : Fault). (rest : List Item) → WritesPrefix w w' p q (a rest)) r e same h
 
 -- the fault of a policy that stops, after the line of the character
 pub stops_as : (w w' : WritersView) (p : Policy) (f : Fault) (i c : ℕ) (b : List Item) → f ≡ Unmappable i c → p ≡ Policy.Stop → Passes w w' (LostAt i c ∷ []) → held_items w' ≡ [] → LeavesPrefix w w' p f (LostAt i c ∷ b)
@@ -219,3 +259,93 @@ stops_as w w' p f i c b fault stops h none =
             rw (sym first, sym second) (record { policy = stops; items = held_items w; first = held_spared w; last = cut; whole = ap tagged (sym cut) });
       };
     }
+
+-- writers that hold so many bytes of a room behind those that they held
+abbrev pub holding_more : {W L : Type 0} → Writers W L → List ℕ → ℕ → Writers W L
+holding_more a room n = record a { buffer = record a.buffer { now = put_mid a.held (length a.buffer.now - a.held) a.buffer.now room }; held = a.held + n }
+
+module _ {W L : Type 0} {contents : W → Option (List ℕ)} {logged : L → Option (List ℕ)} where
+  -- what the writers tell, in a row
+  pub told_then : (a b c : Writers W L) → TellWhatTaken contents logged a b → TellWhatTaken contents logged b c → TellWhatTaken contents logged a c
+  told_then a b c h k = record {
+    output = taken_then (passed_of a.output.now) (passed_of b.output.now) (passed_of c.output.now) (contents (inner_of a.output.now)) (contents (inner_of b.output.now)) (contents (inner_of c.output.now)) h.output k.output;
+    log = taken_then (passed_of a.log.now) (passed_of b.log.now) (passed_of c.log.now) (logged (inner_of a.log.now)) (logged (inner_of b.log.now)) (logged (inner_of c.log.now)) h.log k.log;
+  }
+
+  -- what holds whatever the policy holds under one
+  pub hands_under : {T : Type 0} {p : Policy} {a b : Writers W L} {items : List Item} {r : Result T Fault} → HandsOn contents logged a b items r → HandsOnUnder p contents logged a b items r
+  hands_under h = record { ok = h.ok; err = λ p is. h.err p tt; failures = h.failures; told = h.told }
+
+module _ {W L : Type 0} {contents : W → Option (List ℕ)} {logged : L → Option (List ℕ)} {applies : Policy → Type 0} where
+  -- a fault that is handed on, before more was passed
+  pub hands_fault : {S T : Type 0} {a b : Writers W L} {items : List Item} (more : List Item) {e : Fault} {r : Result T Fault} → IsErrAnd r (λ (x : Fault). x ≡ e)
+      → HandsOnIf {T = S} contents logged applies a b items (Err e) → HandsOnIf contents logged applies a b (items ++ more) r
+  hands_fault {S} {T} {a} {b} {items} more {e} {r = Ok x} same h = absurd same
+  hands_fault {S} {T} {a} {b} {items} more {e} {r = Err x} same h = rw same (record {
+    ok = tt;
+    err = λ p is rest. rw (append_assoc items more rest) (h.err p is (more ++ rest));
+    failures = record { writer = h.failures.writer; log = h.failures.log; not_reader = h.failures.not_reader; not_other = h.failures.not_other; same = h.failures.same; last = h.failures.last };
+    told = h.told;
+  })
+
+  -- what was passed, and then what more was
+  pub hands_then : {S T : Type 0} {a b c : Writers W L} {items more : List Item} {u : S} {r : Result T Fault} → ((p : Policy) → applies p → IsSpared p items)
+      → HandsOnIf contents logged applies a b items (Ok u) → HandsOnIf contents logged applies b c more r → HandsOnIf contents logged applies a c (items ++ more) r
+  hands_then {S} {T} {a} {b} {c} {items} {more} {u} {r} spared h k = record {
+    ok = ok_map r k.ok (λ q. passes_then (writers_view a) (writers_view b) (writers_view c) items more h.ok q);
+    err = λ p is. err_map r (k.err p is) (λ f q rest. left_after (writers_view a) (writers_view b) (writers_view c).written p f items
+        ((items ++ more) ++ rest) (more ++ rest) h.ok (spared p is) (append_assoc items more rest) (q rest));
+    failures = record {
+      writer = omega (arith, h.failures.writer, k.failures.writer);
+      log = omega (arith, h.failures.log, k.failures.log);
+      not_reader = k.failures.not_reader;
+      not_other = k.failures.not_other;
+      same = same_on h.failures.same k.failures.same;
+      last = k.failures.last;
+    };
+    told = told_then a b c h.told k.told;
+  }
+
+  -- what was held is delivered first
+  pub hands_after : {S T : Type 0} {a b c : Writers W L} {more : List Item} {u : S} {r : Result T Fault} → HandsOnIf contents logged applies a b [] (Ok u) → HandsOnIf contents logged applies b c more r → HandsOnIf contents logged applies a c more r
+  hands_after {S} {T} {a} {b} {c} {more} {u} {r} h k = hands_then {items = []} (λ p is. spared_nil p) h k
+
+  -- nothing was passed
+  pub hands_start : {a : Writers W L} → AreReady a → HandsOnIf {T = Unit {0}} contents logged applies a a [] (Ok tt)
+  hands_start {a} ready = record {
+    ok = record { delivered = []; wrote = Wrote-nil (written_by a); in_order = append-nil (held_items (writers_view a)) };
+    err = λ p is. tt;
+    failures = record { writer = omega arith; log = omega arith; not_reader = refl; not_other = refl; same = same_start a ready; last = tt };
+    told = record { output = taken_none (passed_of a.output.now) (contents (inner_of a.output.now)); log = taken_none (passed_of a.log.now) (logged (inner_of a.log.now)) };
+  }
+
+  -- bytes are held behind those that were
+  pub hands_held : {a : Writers W L} (room : List ℕ) (n : ℕ) → AreReady a → length room ≡ length a.buffer.now - a.held → n ≤ length room
+      → HandsOnIf {T = Unit {0}} contents logged applies a (holding_more a room n) (map Byte (take n room)) (Ok tt)
+  hands_held {a} room n ready size fits = record {
+    ok = subst (λ t. PassesBytes (writers_view a) (writers_view (holding_more a room n)) t)
+        (last_is a.buffer.now room a.held n ready.within fits) (holds_behind (written_by a) a.line a.held n a.buffer.now room ready.within);
+    err = λ p is. tt;
+    failures = record {
+      writer = omega arith;
+      log = omega arith;
+      not_reader = refl;
+      not_other = refl;
+      same = record { output = refl; buffer = refl; room = long; within = omega (arith, ready.within, size, fits, long); line = ready.line; log = refl };
+      last = tt;
+    };
+    told = record { output = taken_none (passed_of a.output.now) (contents (inner_of a.output.now)); log = taken_none (passed_of a.log.now) (logged (inner_of a.log.now)) };
+  }
+    where
+      long : length (put_mid a.held (length a.buffer.now - a.held) a.buffer.now room) ≡ length a.buffer.now
+      long = size_into a.buffer.now room a.held (length a.buffer.now - a.held) ready.within refl size
+
+  -- the writers are ready still
+  pub hands_ready : {a b : Writers W L} {items : List Item} → AreReady a → HandsOnIf {T = Unit {0}} contents logged applies a b items (Ok tt) → AreReady b
+  hands_ready ready h = record {
+    output = omega (arith, ready.output, h.failures.writer);
+    log = omega (arith, ready.log, h.failures.log);
+    room = omega (arith, ready.room, h.failures.same.room);
+    within = h.failures.same.within;
+    line = h.failures.same.line;
+  }

@@ -1,23 +1,26 @@
--- What the pieces that a call took stand for. What a call of a decoder took, in words of the text that it wrote. W
--- says which text was written.
-use Rattle.std.proofs.Common.{◌≡◌, ℕ, suc, ◌+◌, ◌≤◌, Bool, true, false, ◌&&◌, List, [], ◌∷◌, ◌++◌, map, length, Some, refl, sym, ◌∙◌, ap, arith, append_assoc, append-nil, length-append, add-zero, ◌-◌, ◌<◌, drop, subst, ◌⊎◌, inl, inr}
+-- What the pieces that a call took stand for. What a call of a decoder took, in words of the text that it wrote: W
+-- says which. What a call of an encoder says of items, by the index that its caller has counted.
+use Rattle.std.proofs.Common.{◌≡◌, ℕ, suc, ◌+◌, ◌≤◌, Bool, true, ◌&&◌, List, [], ◌∷◌, ◌++◌, map, length, Some, refl, sym, ◌∙◌, ap, arith, append_assoc, append-nil, length-append, add-zero, ◌-◌, ◌<◌, drop, subst, take}
 use lib.Utf8.{scalar}
-use Rattle.std.proofs.lemmas.Bool.{and_parts, false≢true}
+use Rattle.std.proofs.lemmas.Bool.{and_parts}
 use Rattle.std.specs.Str.{all_scalars}
 use Rattle.encoding_mem.specs.declared.reference.Reference.{Reference}
 use Rattle.encoding_mem.specs.Piece.{IsPiece, Piece, well_formed, malformed, piece_scalars, sizes, scalars, AreWellFormed, ArePieces}
 use Rattle.encoding_mem.specs.Coding.{Coding, last_set, IsCoding}
-use Rattle.encoding_mem.specs.Items.{Byte, closing, form_items, open_items, trace_from}
+use Rattle.encoding_mem.specs.Items.{Byte, closing, form_items, open_items, trace_from, Item, whole_items}
 use Rattle.encoding_mem.specs.declared.form.EscapeState.{EscapeState}
 use Rattle.encoding_mem.specs.calls.Decoding.{DecoderState, Takes, StateLaw}
 use Rattle.encoding_mem.specs.declared.form.EscapeState.TheVariants.{Ascii}
 use Rattle.encoding_mem.specs.declared.decoder_result.DecoderResult.{DecoderResult}
 use Rattle.encoding_mem.specs.declared.decoder_result.DecoderResult.TheVariants.{InputEmpty, OutputFull, Malformed}
 use Rattle.encoding_mem.specs.laws.Piece.{scalars-append, sizes-append}
-use Rattle.encoding_mem.specs.laws.EncoderCalls.{last_set-append}
+use Rattle.encoding_mem.specs.laws.EncoderCalls.{last_set-append, encoded_items}
 use Rattle.recode.specs.calls.Turns.{reported}
 use Rattle.recode.specs.calls.TraceToWrite.{trace_to_write}
 use Rattle.recode.specs.declared.counts.Counts.{Counts}
+use Rattle.std.proofs.lemmas.List.{length-map, length-take-le}
+use Rattle.encoding_mem.specs.calls.EncoderCalls.{Encodes, reported_item}
+use Rattle.encoding_mem.specs.declared.encoder_result.EncoderResult.{EncoderResult}
 
 -- of texts in a row
 pub open_items-append : (ref : Reference) (e : Coding) (s : EscapeState) (i : ℕ) (a b : List ℕ) → open_items ref e s i (a ++ b) ≡ open_items ref e s i a ++ open_items ref e (last_set e s a) (i + length a) b
@@ -75,12 +78,6 @@ pub record IsDecoded (before after : DecoderState) (src : List ℕ) (last : Bool
   pub rest : (r : List ℕ) → (last ≡ true → r ≡ []) → before.pieces (src ++ r) ≡ front ++ (reported (Some answer) ++ after.pieces (drop read src ++ r))
   pub malformed : (a b : ℕ) → answer ≡ Malformed a b → (1 ≤ a) × (a ≤ 4) × (after.pending ≡ b)
 
-malformed_is : (P : ℕ → ℕ → Type 0) (a b m n : ℕ) → Malformed a b ≡ Malformed m n → P a b → P m n
-malformed_is P a b m n e h =
-    let first : a ≡ m = cc in
-    let second : b ≡ n = cc in
-    subst (λ k. P k n) first (subst (P a) second h)
-
 -- the last of some pieces
 last_piece : (ps : List Piece) (p : Piece) → ArePieces (ps ++ p ∷ []) → IsPiece p
 last_piece [] p h = h.0
@@ -130,7 +127,10 @@ module _ (before after : DecoderState) (src : List ℕ) (last : Bool) (read : �
         fits = omega (arith, ap length same, few_scalars front (prefix_pieces front (malformed a ∷ []) are) fine);
         counted = omega (arith, k.counted, ap sizes cut, sizes-append front (malformed a ∷ []), k.well_formed.0);
         rest = λ r h. k.rest r h ∙ ap (λ ps. ps ++ after.pieces (drop read src ++ r)) cut ∙ append_assoc front (malformed a ∷ []) (after.pieces (drop read src ++ r));
-        malformed = λ m n e. malformed_is (λ x y. (1 ≤ x) × (x ≤ 4) × (after.pending ≡ y)) a b m n e ((last_piece front (malformed a) are).some, k.well_formed.1, k.well_formed.0);
+        malformed = λ m n e.
+            let one : m ≡ a = cc in
+            let two : n ≡ b = cc in
+            rw (one, two) ((last_piece front (malformed a) are).some, k.well_formed.1, k.well_formed.0);
       }
 
 -- fewer pieces are left, if some text was written
@@ -144,12 +144,20 @@ fewer_left before after src last read answer t k some =
     some_taken [] h = h
     some_taken (p ∷ ps) h = omega arith
 
--- the end of the input leaves no byte and no piece
-pub end_nothing : {A P B : Type 0} (last : Bool) → (A × P) ⊎ ((last ≡ false) × B) → last ≡ true → A × P
-end_nothing last (inl h) e = h
-end_nothing last (inr h) e = absurd (false≢true (sym h.0 ∙ e))
-
 -- at the end nothing is left to write
 pub none_owed : (ref : Reference) {need : ℕ} (after : DecoderState) (e : Coding) (s : EscapeState) (c : Counts) → IsCoding need e → s ≡ Ascii → after.pieces [] ≡ [] → trace_to_write ref after e s c [] ≡ []
 none_owed ref after e s c law set_is none =
     ap (trace_from ref e s (c.read - after.pending) c.index) none ∙ ap (closing e) set_is ∙ ap (map Byte) (law.same Ascii)
+
+pub turn_items : (ref : Reference) {need : ℕ} (e : Coding) (last : Bool) (outcome : EncoderResult) (s : EscapeState) (text written : List ℕ) (s' : EscapeState) (rest : List ℕ) (i i' : ℕ) → IsCoding need e
+    → Encodes e last outcome s text written s' rest → i' + length rest ≡ i + length text
+    → whole_items ref e last s i text ≡ map Byte written ++ (reported_item ref i' outcome ++ whole_items ref e last s' i' rest)
+turn_items ref e last outcome s text written s' rest i i' laws call passed =
+    let k = encoded_items ref e last outcome s text written s' rest laws call in
+    let at : i + length k.prefix ≡ i' = omega (arith, ap length k.split, length-append k.prefix rest) in
+    let P : ℕ → Type 0 = λ n. whole_items ref e last s i text ≡ map Byte written ++ (reported_item ref n outcome ++ whole_items ref e last s' n rest) in
+    subst P at (k.items i)
+
+-- for each byte an item less is still to be written
+pub items_less : (a b more : List Item) (bytes : List ℕ) (n : ℕ) → a ≡ map Byte (take n bytes) ++ (more ++ b) → n ≤ length bytes → n + length b ≤ length a
+items_less a b more bytes n e fits = omega (arith, ap length e, length-append (map Byte (take n bytes)) (more ++ b), length-append more b, length-map (take n bytes) Byte, length-take-le n bytes fits)
