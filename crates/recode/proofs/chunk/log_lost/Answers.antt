@@ -1,9 +1,10 @@
-use Rattle.std.proofs.Common.{◌++◌, ◌∙◌, ap, map, rules, subst, sym}
+use Rattle.std.proofs.Common.{◌≡◌, ◌++◌, ◌∙◌, ap, map, rules, subst, sym}
 use Rattle.encoding_mem.specs.Coding.{reference_bytes}
 use Rattle.encoding_mem.specs.Items.{Byte}
 use Rattle.recode.specs.Policy.{reference_form}
 use Rattle.recode.specs.calls.Held.{held_items}
 use Rattle.recode.specs.calls.Writers.{HandsOnUnder, writers_view}
+use Rattle.recode.specs.declared.job.Policy.{Policy}
 use Rattle.recode.proofs.WriterLemmas.{form_of, hands_fault, hands_then, hands_under, stops_as, view_none}
 use Rattle.recode.proofs.TraceLemmas.{handed_on}
 use Rattle.recode.proofs.chunk.log_lost.Goals as goal
@@ -28,6 +29,6 @@ returns-in_err-form-clause-hands g c =
 
 pub returns-clause-hands : goal.returns-clause-hands
 returns-clause-hands g c =
-    hands_then (λ p is stops. absurd (let none = rw (sym is ∙ stops) at c.in_ok-form.ensures.ok in cc)) (hands_under c.in_ok-log_line.ensures.hands)
+    hands_then (λ p is stops. absurd (let stop : c.args.policy ≡ Policy.Stop = sym is ∙ stops in let none = rw stop at c.in_ok-form.ensures.ok in cc)) (hands_under c.in_ok-log_line.ensures.hands)
     (subst (λ form. HandsOnUnder c.args.policy g.W.Write.contents g.L.Write.contents c.log_line.new.self c.put_reference.new.self (map Byte (reference_bytes form c.args.scalar)) c.put_reference.result)
     ((form_of _).1 _ c.in_ok-form.ensures.ok) (hands_under c.put_reference.ensures.hands))
