@@ -67,13 +67,7 @@ pub lent_on : {p c p1 c1 p2 c2 : Pivot} → KeepsLent p c p1 c1 → KeepsLent p1
 lent_on h k = record { pivot = room_on h.pivot k.pivot; check = room_on h.check k.check }
 
 pub kept_enough : (b c : Buffers) → AreEnough b → KeepSizes b c → AreEnough c
-kept_enough b c e k = record {
-  input = omega (arith, e.input, k.input);
-  pivot = holds_still b.pivot c.pivot e.pivot k.pivot k.pivot_kind;
-  output = omega (arith, e.output, k.output);
-  check = holds_still b.check c.check e.check k.check k.check_kind;
-  one_kind = k.pivot_kind ∙ e.one_kind ∙ sym k.check_kind;
-}
+kept_enough b c e k = search (rules, arith, holds_still)
 
 pub same_start : {W L : Type 0} (a : Writers W L) → AreReady a → AreTheSame a a
 same_start a ready = record { output = refl; buffer = refl; room = refl; within = ready.within; line = ready.line; log = refl; policy = refl }
@@ -267,10 +261,7 @@ holding_more a room n = record a { buffer = record a.buffer { now = put_mid a.he
 module _ {W L : Type 0} {contents : W → Option (List ℕ)} {logged : L → Option (List ℕ)} where
   -- what the writers tell, in a row
   pub told_then : (a b c : Writers W L) → TellWhatTaken contents logged a b → TellWhatTaken contents logged b c → TellWhatTaken contents logged a c
-  told_then a b c h k = record {
-    output = taken_then (passed_of a.output.now) (passed_of b.output.now) (passed_of c.output.now) (contents (inner_of a.output.now)) (contents (inner_of b.output.now)) (contents (inner_of c.output.now)) h.output k.output;
-    log = taken_then (passed_of a.log.now) (passed_of b.log.now) (passed_of c.log.now) (logged (inner_of a.log.now)) (logged (inner_of b.log.now)) (logged (inner_of c.log.now)) h.log k.log;
-  }
+  told_then a b c h k = record { output = taken_then _ _ _ _ _ _ h.output k.output; log = taken_then _ _ _ _ _ _ h.log k.log }
 
   -- a fault that is handed on, before more was passed
   pub hands_fault : {S T : Type 0} {a b : Writers W L} {items : List Item} (more : List Item) {e : Fault} {r : Result T Fault} → IsErrAnd r (λ (x : Fault). x ≡ e)
