@@ -100,13 +100,8 @@ tail_between l from to n a b order within is long =
     let y : List ℕ = drop from l in
     let total : length a + n ≡ to - from = omega (arith, ap length is, length-append a b, length-take-le (to - from) y (omega (arith, length-drop from l, order, within)), long) in
     let at : to - n ≡ from + length a = omega (arith, total, order) in
-    ap (λ k. take (to - (to - n)) (drop k l)) at
-    ∙ ap (take (to - (to - n))) (sym (drop-drop (length a) from l))
-    ∙ ap (λ k. take k (drop (length a) y)) (omega (arith, total))
-    ∙ sym (drop-take (length a) n y)
-    ∙ ap (λ k. drop (length a) (take k y)) total
-    ∙ ap (drop (length a)) is
-    ∙ drop_at a b (length a) refl
+    let size : to - (from + length a) ≡ n = omega (arith, total) in
+    rw (at, size, ← drop-drop (length a) from l, ← drop-take (length a) n y, total, is) (drop_at a b (length a) refl)
 
 -- what is left of a stretch of text
 left_between : {spell read : List ℕ → List ℕ} (form : IsForm spell read) (l : List ℕ) (from to : ℕ) (cp r : List ℕ) → from ≤ to → to ≤ length l → take (to - from) (drop from l) ≡ spell (read (take (to - from) (drop from l)))

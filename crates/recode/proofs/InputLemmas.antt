@@ -40,7 +40,7 @@ use Rattle.recode.specs.ReadBackJobs.{back, in_utf8}
 use Rattle.recode.specs.Runs.{IsWholeOutput, AgreeButForCalls, IsStopped, RunReturns, WroteTheSame}
 use Rattle.recode.specs.laws.Items.{lost_line_count-append}
 use Rattle.encoding_front.specs.declared.encoding.Encoding.{Encoding}
-use Rattle.recode.specs.declared.job.Fault.TheVariants.{Read, Write, Log, TooLong, Unmappable}
+use Rattle.recode.specs.declared.job.Fault.TheVariants.{TooLong, Unmappable}
 use Rattle.encoding_mem.specs.Items.{LostAt}
 
 pub input_whole : (j : Job) (x : List ℕ) → IsValidJob j → sizes (input_pieces j x) ≡ length x
@@ -222,11 +222,9 @@ same_bytes j x w w' v' p q a b = (a.whole.output ∙ sym b.whole.output, a.whole
 module _ (j : Job) (s s' : Devices) (quiet : s'.failures ≡ s.failures) where
   pub well_or_ended : (answer : Result Report Fault) → RunReturns s s' j answer → IsOk answer ⊎ ((answer ≡ Err TooLong) ⊎ IsStopped j.policy answer)
   well_or_ended (Ok p) a = inl refl
-  well_or_ended (Err Read) a = absurd (omega (arith, a.counts.reader, ap (λ (n : Failures). n.reader) quiet))
-  well_or_ended (Err Write) a = absurd (omega (arith, a.counts.writer, ap (λ (n : Failures). n.writer) quiet))
-  well_or_ended (Err Log) a = absurd (omega (arith, a.counts.log, ap (λ (n : Failures). n.log) quiet))
   well_or_ended (Err TooLong) a = inr (inl refl)
   well_or_ended (Err (Unmappable i c)) a = inr (inr (a.fails.stopped [] (λ last. refl) i c refl).policy)
+  well_or_ended _ a = absurd (omega (arith, a.counts, ap (λ (n : Failures). n.reader) quiet, ap (λ (n : Failures). n.writer) quiet, ap (λ (n : Failures). n.log) quiet))
 
 -- and whose reader's contract says its bytes
 module _ (j : Job) (x : List ℕ) (s s' : Devices) (quiet : s'.failures ≡ s.failures) where

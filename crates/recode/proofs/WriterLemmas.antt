@@ -186,9 +186,8 @@ holds_line w line held bad no_line none = rw (no_line, none) (record { delivered
 -- The line that is held, and another after it with no bytes between them, as tagged bytes.
 two_lines_are : (held : Option MalformedLine) (line : LogLine) (lines : List ℕ) → lines ≡ held_line_bytes held ++ line_bytes line → tagged (line_items held ++ (item_of line ∷ [])) ≡ map Line lines
 two_lines_are held line lines e =
-    tagged-append (line_items held) (item_of line ∷ []) ∙ ap (λ x. x ++ tagged (item_of line ∷ [])) (held_line_is held)
-    ∙ ap (λ x. map Line (held_line_bytes held) ++ x) (append-nil (tagged_item (item_of line)) ∙ line_is line)
-    ∙ sym (map-append Line (held_line_bytes held) (line_bytes line)) ∙ ap (map Line) (sym e)
+    tagged-append (line_items held) (item_of line ∷ [])
+    ∙ rw (e, map-append Line (held_line_bytes held) (line_bytes line), held_line_is held, append-nil (tagged_item (item_of line)), line_is line) refl
 
 pub writes_lines : (o l l' : List ℕ) (held : Option MalformedLine) (bytes lines : List ℕ) (line : LogLine) → bytes ≡ [] → lines ≡ held_line_bytes held ++ line_bytes line → Grew l l' lines
     → Passes (record { written = record { output = o; log = l }; line = held; bytes = bytes }) (record { written = record { output = o; log = l' }; line = None; bytes = bytes }) (item_of line ∷ [])
@@ -281,14 +280,7 @@ module _ {W L : Type 0} {contents : W → Option (List ℕ)} {logged : L → Opt
     ok = ok_map r k.ok (λ q. passes_then (writers_view a) (writers_view b) (writers_view c) items more h.ok q);
     err = err_map r k.err (λ f q rest. left_after (writers_view a) (writers_view b) (writers_view c).written a.policy f items
         ((items ++ more) ++ rest) (more ++ rest) h.ok spared (append_assoc items more rest) (subst (λ (p : Policy). LeavesPrefix (writers_view b) (writers_view c) p f (more ++ rest)) h.failures.same.policy (q rest)));
-    failures = record {
-      writer = omega (arith, h.failures.writer, k.failures.writer);
-      log = omega (arith, h.failures.log, k.failures.log);
-      not_reader = k.failures.not_reader;
-      not_other = k.failures.not_other;
-      same = same_on h.failures.same k.failures.same;
-      last = k.failures.last;
-    };
+    failures = search (rules, arith, same_on);
     told = told_then a b c h.told k.told;
   }
 
@@ -308,30 +300,16 @@ module _ {W L : Type 0} {contents : W → Option (List ℕ)} {logged : L → Opt
   -- bytes are held behind those that were
   pub hands_held : {a : Writers W L} (room : List ℕ) (n : ℕ) → AreReady a → length room ≡ length a.buffer.now - a.held → n ≤ length room
       → HandsOn {T = Unit {0}} contents logged a (holding_more a room n) (map Byte (take n room)) (Ok tt)
-  hands_held {a} room n ready size fits = record {
-    ok = subst (λ t. PassesBytes (writers_view a) (writers_view (holding_more a room n)) t)
-        (last_is a.buffer.now room a.held n ready.within fits) (holds_behind (written_by a) a.line a.held n a.buffer.now room ready.within);
-    err = tt;
-    failures = record {
-      writer = omega arith;
-      log = omega arith;
-      not_reader = refl;
-      not_other = refl;
-      same = record { output = refl; buffer = refl; room = long; within = omega (arith, ready.within, size, fits, long); line = ready.line; log = refl; policy = refl };
-      last = tt;
-    };
-    told = record { output = taken_none (passed_of a.output.now) (contents (inner_of a.output.now)); log = taken_none (passed_of a.log.now) (logged (inner_of a.log.now)) };
-  }
-    where
-      long : length (put_mid a.held (length a.buffer.now - a.held) a.buffer.now room) ≡ length a.buffer.now
-      long = size_into a.buffer.now room a.held (length a.buffer.now - a.held) ready.within refl size
+  hands_held {a} room n ready size fits =
+      let free = length a.buffer.now - a.held in
+      let long : length (put_mid a.held free a.buffer.now room) ≡ length a.buffer.now = size_into a.buffer.now room a.held free ready.within refl size in
+      record {
+        ok = rw (last_is a.buffer.now room a.held n ready.within fits) at (holds_behind (written_by a) a.line a.held n a.buffer.now room ready.within);
+        err = tt;
+        failures = search (rules, arith, long);
+        told = record { output = taken_none (passed_of a.output.now) (contents (inner_of a.output.now)); log = taken_none (passed_of a.log.now) (logged (inner_of a.log.now)) };
+      }
 
   -- the writers are ready still
   pub hands_ready : {a b : Writers W L} {items : List Item} → AreReady a → HandsOn {T = Unit {0}} contents logged a b items (Ok tt) → AreReady b
-  hands_ready ready h = record {
-    output = omega (arith, ready.output, h.failures.writer);
-    log = omega (arith, ready.log, h.failures.log);
-    room = omega (arith, ready.room, h.failures.same.room);
-    within = h.failures.same.within;
-    line = h.failures.same.line;
-  }
+  hands_ready ready h = search (rules, arith)
