@@ -13,7 +13,7 @@ use Rattle.encoding_mem.specs.declared.decoder_result.DecoderResult.TheVariants.
 use Rattle.recode.specs.Step.{IsNearlyDecided}
 use Rattle.recode.specs.Work.{IsCounted, ended_count}
 use Rattle.recode.specs.calls.CodecCalls.{DecodeCallEndsWith}
-use Rattle.recode.specs.calls.EngineView.{HoldsBetween, chars_between, engine_target, standing, engine_state}
+use Rattle.recode.specs.calls.EngineView.{HoldsBetween, chars_between, engine_target, standing}
 use Rattle.recode.specs.calls.Buffers.{is_wide}
 use Rattle.recode.specs.calls.PivotText.{Holds, HoldsText, IsCutInto, IsWholeText, element_count, is_in_units, pivot_chars}
 use Rattle.recode.specs.declared.codec_calls.PivotText.{PivotText}
@@ -29,9 +29,8 @@ use Rattle.recode.specs.declared.job.Pivot.TheVariants.{Utf8, Utf16}
 use Rattle.recode.proofs.CodecCallLemmas.{IsDecoded, none_owed}
 use Rattle.recode.proofs.PivotLemmas.{IsForm, spelled, text_of, utf16, utf8}
 use Rattle.recode.proofs.TurnLemmas.{after_encoder, decode_turn, decoded_state, encode_turn, standing_is, target_of_state, turns_more, waiting_size}
-use Rattle.encoding_mem.specs.Coding.{Coding, IsCoding, reference_bytes}
+use Rattle.encoding_mem.specs.Coding.{IsCoding, reference_bytes}
 use Rattle.recode.specs.calls.Text.{IsEncoded}
-use Rattle.recode.specs.calls.VerdictView.{verdict_view}
 use Rattle.recode.specs.declared.engine.Engine.{Engine}
 use Rattle.recode.specs.declared.job.Policy.{Policy}
 use Rattle.recode.proofs.VerdictLemmas.{verdict_told}
@@ -101,13 +100,8 @@ tail_between l from to n a b order within is long =
     let y : List ℕ = drop from l in
     let total : length a + n ≡ to - from = omega (arith, ap length is, length-append a b, length-take-le (to - from) y (omega (arith, length-drop from l, order, within)), long) in
     let at : to - n ≡ from + length a = omega (arith, total, order) in
-    ap (λ k. take (to - (to - n)) (drop k l)) at
-    ∙ ap (take (to - (to - n))) (sym (drop-drop (length a) from l))
-    ∙ ap (λ k. take k (drop (length a) y)) (omega (arith, total))
-    ∙ sym (drop-take (length a) n y)
-    ∙ ap (λ k. drop (length a) (take k y)) total
-    ∙ ap (drop (length a)) is
-    ∙ drop_at a b (length a) refl
+    let size : to - (from + length a) ≡ n = omega (arith, total) in
+    rw (at, size, ← drop-drop (length a) from l, ← drop-take (length a) n y, total, is) (drop_at a b (length a) refl)
 
 -- what is left of a stretch of text
 left_between : {spell read : List ℕ → List ℕ} (form : IsForm spell read) (l : List ℕ) (from to : ℕ) (cp r : List ℕ) → from ≤ to → to ≤ length l → take (to - from) (drop from l) ≡ spell (read (take (to - from) (drop from l)))
@@ -145,13 +139,6 @@ items_of_lost ref bytes c c' n m bad lost = record {
 -- an item less is owed
 pub lost_less : (ref : Reference) (a b : List Item) (bytes : List ℕ) (n m : ℕ) → a ≡ map Byte bytes ++ (reported_item ref n (Unmappable m) ++ b) → length b < length a
 lost_less ref a b bytes n m e = omega (arith, ap length e, length-append (map Byte bytes) (reported_item ref n (Unmappable m) ++ b), length-append (reported_item ref n (Unmappable m)) b)
-
--- the state after a call of the encoder, which keeps the decoder and the coding
-pub state_kept : {D E : Type 0} (view : D → DecoderView) (parts : E → EncoderParts) (p : Policy) (c c' : Engine D E) → c'.decoder ≡ c.decoder → (parts c'.encoder).coding ≡ (parts c.encoder).coding
-    → engine_state view parts p c' ≡ record (engine_state view parts p c) { set = (parts c'.encoder).set; verdict = verdict_view view c'.verdict; counts = c'.counts }
-state_kept {D} {E} view parts p c c' d k =
-    ap (λ (x : D). record { decoder = (view x).state; finished = (view x).finished; source = (view x).source; coding = (parts c'.encoder).coding; set = (parts c'.encoder).set; policy = p; verdict = verdict_view view c'.verdict; counts = c'.counts }) d
-    ∙ ap (λ (x : Coding). record { decoder = (view c.decoder).state; finished = (view c.decoder).finished; source = (view c.decoder).source; coding = x; set = (parts c'.encoder).set; policy = p; verdict = verdict_view view c'.verdict; counts = c'.counts }) k
 
 -- all is read, and the text that waits is the last
 pub record IsAtEnd (a : Option DecoderResult) (c : Standing) (src : List ℕ) (is_last : Bool) : Type 0 where
@@ -226,7 +213,7 @@ encoded view parts p e0 e1 e2 p0 p1 last ended x y law next some is_end answer d
     let c2 = standing view parts p e2 p1 in
     let open_ = open_still e1.answer (standing view parts Policy.Decimal e1 p1) c1 y last some refl refl next.open_ in
     let still = subst (λ a. IsOpenFor a c2 y last) (sym answer) (open_still e1.answer c1 c2 y last some (ap (λ d. (view d).state) decoder) (ap (λ d. (view d).finished) decoder) open_) in
-    let turn = encode_turn_in c1 c2 ended last y _ _ answer (state_kept view parts p e1 e2 decoder once.encodes.target) law.sound open_ is_end once in
+    let turn = encode_turn_in c1 c2 ended last y _ _ answer (rw (decoder, once.encodes.target) refl) law.sound open_ is_end once in
     let limit : c2.state.counts.read + length y ≤ 2 ^ 48 = omega (arith, next.limit, once.encodes.read) in
     record { turned = turns_more _ _ (omega arith) (omega arith) law turn; open_ = still; limit = limit; goes_on = λ tells. record { sound = turn.sound; limit = limit; tells = tells; open_ = still }; more = once.more; done = once.done }
 

@@ -17,7 +17,7 @@ use Rattle.encoding_front.specs.Marks.{marked_pieces, marked_text}
 use Rattle.encoding_front.specs.declared.mark.Mark.TheVariants.{Keep}
 use Rattle.encoding_front.specs.laws.Encodings.{pieces_of_utf8, coding_of_utf8}
 use Rattle.encoding_mem.specs.calls.TextRun.{text_pieces}
-use Rattle.encoding_mem.specs.Utf8.{first_piece_utf8, pieces_utf8}
+use Rattle.encoding_mem.specs.Utf8.{first_piece_utf8}
 use Rattle.encoding_mem.specs.laws.Utf8.{pieces_utf8-text}
 use Rattle.encoding_mem.specs.laws.Pieces.{pieces_by-nil}
 use Rattle.recode.specs.Policy.{reference_form}
@@ -40,7 +40,7 @@ use Rattle.recode.specs.ReadBackJobs.{back, in_utf8}
 use Rattle.recode.specs.Runs.{IsWholeOutput, AgreeButForCalls, IsStopped, RunReturns, WroteTheSame}
 use Rattle.recode.specs.laws.Items.{lost_line_count-append}
 use Rattle.encoding_front.specs.declared.encoding.Encoding.{Encoding}
-use Rattle.recode.specs.declared.job.Fault.TheVariants.{Read, Write, Log, TooLong, Unmappable}
+use Rattle.recode.specs.declared.job.Fault.TheVariants.{TooLong, Unmappable}
 use Rattle.encoding_mem.specs.Items.{LostAt}
 
 pub input_whole : (j : Job) (x : List ℕ) → IsValidJob j → sizes (input_pieces j x) ≡ length x
@@ -73,12 +73,11 @@ faithful_quiet j x v k = (
   λ h. let kept = kept_where_quiet j x h in faithful_where_kept j x v k kept.0 kept.1,
 )
 
-utf8_pieces : (x : List ℕ) → IsUtf8 x → pieces_utf8 x ≡ text_pieces (chars x)
-utf8_pieces x u = ap pieces_utf8 (sym (append-nil x)) ∙ pieces_utf8-text x [] u ∙ ap (λ ps. text_pieces (chars x) ++ ps) (pieces_by-nil first_piece_utf8) ∙ append-nil (text_pieces (chars x))
-
 -- From UTF-8 to UTF-8.
 text_is : (j : Job) (x : List ℕ) → j.mark ≡ Keep → IsUtf8Encoding j.from → IsUtf8 x → input_pieces j x ≡ text_pieces (chars x)
-text_is j x kept from u = ap (λ m. marked_pieces j.tables.now m j.from x) kept ∙ ap (λ f. f x) (pieces_of_utf8 j.tables.now j.from from) ∙ utf8_pieces x u
+text_is j x kept from u =
+    ap (λ m. marked_pieces j.tables.now m j.from x) kept ∙ ap (λ f. f x) (pieces_of_utf8 j.tables.now j.from from)
+    ∙ (rw (append-nil x, pieces_by-nil first_piece_utf8, append-nil (text_pieces (chars x))) at (pieces_utf8-text x [] u))
 
 mapped_in_utf8 : (j : Job) (x : List ℕ) → IsUtf8Encoding j.to → AllMapped (target_of j) (input_text j x)
 mapped_in_utf8 j x to = subst (λ e. AllMapped e (input_text j x)) (sym (coding_of_utf8 j.tables.now j.to to)) (all_in_utf8 (input_text j x))
@@ -223,11 +222,9 @@ same_bytes j x w w' v' p q a b = (a.whole.output ∙ sym b.whole.output, a.whole
 module _ (j : Job) (s s' : Devices) (quiet : s'.failures ≡ s.failures) where
   pub well_or_ended : (answer : Result Report Fault) → RunReturns s s' j answer → IsOk answer ⊎ ((answer ≡ Err TooLong) ⊎ IsStopped j.policy answer)
   well_or_ended (Ok p) a = inl refl
-  well_or_ended (Err Read) a = absurd (omega (arith, a.counts.reader, ap (λ (n : Failures). n.reader) quiet))
-  well_or_ended (Err Write) a = absurd (omega (arith, a.counts.writer, ap (λ (n : Failures). n.writer) quiet))
-  well_or_ended (Err Log) a = absurd (omega (arith, a.counts.log, ap (λ (n : Failures). n.log) quiet))
   well_or_ended (Err TooLong) a = inr (inl refl)
   well_or_ended (Err (Unmappable i c)) a = inr (inr (a.fails.stopped [] (λ last. refl) i c refl).policy)
+  well_or_ended _ a = absurd (omega (arith, a.counts, ap (λ (n : Failures). n.reader) quiet, ap (λ (n : Failures). n.writer) quiet, ap (λ (n : Failures). n.log) quiet))
 
 -- and whose reader's contract says its bytes
 module _ (j : Job) (x : List ℕ) (s s' : Devices) (quiet : s'.failures ≡ s.failures) where

@@ -1,5 +1,5 @@
 -- What was taken while the input goes on, and what that says of the output and the log.
-use Rattle.std.proofs.Common.{◌≡◌, ◌⊎◌, ℕ, suc, ◌+◌, ◌-◌, ◌≤◌, ◌<◌, Bool, true, false, List, [], ◌∷◌, ◌++◌, length, Some, refl, sym, ◌∙◌, ap, subst, arith, append_assoc, append-nil, length-append, add-zero, inl, inr}
+use Rattle.std.proofs.Common.{◌≡◌, ◌⊎◌, ℕ, suc, ◌+◌, ◌-◌, ◌≤◌, ◌<◌, Bool, true, false, List, [], ◌∷◌, ◌++◌, length, Some, refl, sym, ◌∙◌, ap, subst, arith, append_assoc, append-nil, length-append, add-zero, inl, inr, rules}
 use Rattle.std.specs.List.{flat_map}
 use Rattle.recode.proofs.GrowLemmas.{Gave-nil, Gave-trans, Grew-nil, Grew-trans}
 use Rattle.std.proofs.lemmas.Bool.{false≢true}
@@ -69,22 +69,20 @@ module _ (ref : Reference) (e : Coding) (s s1 : EscapeState) (offset i offset1 i
     (is : trace_from ref e s offset i (taken ++ qs) ≡ written_items ++ trace_from ref e s1 offset1 i1 qs) where
   paid_output : output_bytes (tagged written_items) ≡ open_from ref e s (text taken)
   paid_output =
+      let rest : List Item = trace_from ref e s1 offset1 i1 qs in
       let all : open_from ref e s (text taken) ++ whole_from ref e s1 (text qs) ≡ output_bytes (tagged written_items) ++ whole_from ref e s1 (text qs) =
-      ap (λ (q : EscapeState). open_from ref e s (text taken) ++ whole_from ref e q (text qs)) set_is
-      ∙ sym (whole_from-append _ e s (text taken) (text qs)) ∙ ap (whole_from ref e s) (sym (text-append taken qs))
-      ∙ sym (output_bytes-trace _ e s offset i (taken ++ qs)) ∙ ap (λ k. output_bytes (tagged k)) is
-      ∙ ap output_bytes (tagged-append written_items (trace_from ref e s1 offset1 i1 qs)) ∙ output_bytes-append (tagged written_items) (tagged (trace_from ref e s1 offset1 i1 qs))
-      ∙ ap (λ x. output_bytes (tagged written_items) ++ x) (output_bytes-trace _ e s1 offset1 i1 qs) in
+      rw (set_is) (sym (whole_from-append ref e s (text taken) (text qs))) ∙ ap (whole_from ref e s) (sym (text-append taken qs)) ∙ sym (output_bytes-trace ref e s offset i (taken ++ qs))
+      ∙ rw (is, tagged-append written_items rest, output_bytes-append (tagged written_items) (tagged rest), output_bytes-trace ref e s1 offset1 i1 qs) refl in
       sym (append_cancel_right (open_from ref e s (text taken)) (output_bytes (tagged written_items)) (whole_from ref e s1 (text qs)) all)
 
   paid_lines : log_bytes (tagged written_items) ≡ flat_map line_bytes (log_lines e offset i taken)
   paid_lines =
+      let items : List Item = trace_from ref e s1 offset1 i1 qs in
       let own : List ℕ = flat_map line_bytes (log_lines e offset i taken) in
       let rest : List ℕ = flat_map line_bytes (log_lines e offset1 i1 qs) in
       let all : own ++ rest ≡ log_bytes (tagged written_items) ++ rest =
-      sym (line_bytes-append e offset i offset1 i1 taken qs offset_is index_is) ∙ sym (log_bytes-trace _ e s offset i (taken ++ qs)) ∙ ap (λ k. log_bytes (tagged k)) is
-      ∙ ap log_bytes (tagged-append written_items (trace_from ref e s1 offset1 i1 qs)) ∙ log_bytes-append (tagged written_items) (tagged (trace_from ref e s1 offset1 i1 qs))
-      ∙ ap (λ x. log_bytes (tagged written_items) ++ x) (log_bytes-trace _ e s1 offset1 i1 qs) in
+      sym (line_bytes-append e offset i offset1 i1 taken qs offset_is index_is) ∙ sym (log_bytes-trace ref e s offset i (taken ++ qs))
+      ∙ rw (is, tagged-append written_items items, log_bytes-append (tagged written_items) (tagged items), log_bytes-trace ref e s1 offset1 i1 qs) refl in
       sym (append_cancel_right own (log_bytes (tagged written_items)) rest all)
 
 -- how many bytes were taken
@@ -147,18 +145,7 @@ finishes before after limit s s1 chunk last given none within ends k =
 
 -- A session that has read nothing, and one that steps on.
 pub stands_first : (t : Devices) (j : Job) (v : View) → IsNewSession v j → HasReached t t j v.state [] []
-stands_first t j v b = record {
-  coding = b.coding;
-  policy = b.policy;
-  read = b.read;
-  given = Gave-nil t.reads;
-  pieces = λ y. sym (b.pieces y);
-  passed = omega (arith, b.pending);
-  set = b.set;
-  index = b.index;
-  output = Grew-nil t.written.output;
-  logged = Grew-nil t.written.log;
-}
+stands_first t j v b = search (rules, arith, b.pieces, Gave-nil, Grew-nil)
 
 pub stands_on : (t t1 t2 : Devices) (j : Job) (limit : ℕ) (s s1 : State) (x : List ℕ) (ps : List Piece)
     → HasReached t t1 j s x ps → (p : StepsOn t1 t2 limit s s1) → HasReached t t2 j s1 (x ++ p.chunk) (ps ++ p.advances.taken)
@@ -289,10 +276,4 @@ stands_run a b j v s n p =
 -- All that the bytes read decide was written, and stays so if nothing is written after.
 pub wrote_decided : (a b : Devices) (after : Written) (j : Job) (s : State) (x : List ℕ) (ps : List Piece)
     → HasReached a b j s x ps → IsNearlyDecided s.decoder → KeepsWritten b.written after → WroteDecided a.written after j x ps
-wrote_decided a b after j s x ps k settled kept = record {
-  decided = decided a b j s x ps k;
-  longest = λ qs h. longest a b j s x ps qs k settled h;
-  soon = λ y qs more is early. soon a b j s x y ps qs more k settled is early;
-  output = kept.output ∙ k.output;
-  logged = kept.log ∙ k.logged;
-}
+wrote_decided a b after j s x ps k settled kept = search (rules, decided, longest, soon)

@@ -3,7 +3,7 @@ use Rattle.std.proofs.Common.{◌≡◌, ◌≢◌, ◌⊎◌, ◌∙◌, ℕ, L
 use Rattle.std.specs.Prelude.{if◌then◌else◌, IfSome, MatchOption, Result, Ok, Err, option_map}
 use Rattle.std.specs.Option.{option_or}
 use Rattle.std.specs.Bool.{MatchBool}
-use Rattle.std.proofs.lemmas.Bool.{cases_eq, false_from_ne_true}
+use Rattle.std.proofs.lemmas.Bool.{cases_eq, false_from_ne_true, cases_Bool}
 use Rattle.std.proofs.lemmas.List.{take-append-drop}
 use Rattle.std.proofs.lemmas.Option.{IfSome_then}
 use Rattle.std.proofs.lemmas.List.Elements.{Contains-append_left, Contains-append_right}
@@ -23,13 +23,11 @@ use Rattle.encoding_index.specs.Loads.{KeepsOtherKinds, Loads, load_fault, table
 use Rattle.recode.specs.IndexFaults.{AddsOnly}
 use Rattle.recode.specs.Program.{AddsFromFiles, AreKept, AreOfFiles, FileTexts, IsOfText}
 
-some_there : (b : Bool) (rows : Option (List (ℕ × ℕ))) (flat : Option (List ℕ)) (r : List (ℕ × ℕ)) (f : List ℕ)
-    → MatchBool b (rows ≡ Some r) (flat ≡ Some f) → (if b then is_some rows else is_some flat) ≡ true
-some_there true rows flat r f h = ap is_some h
-some_there false rows flat r f h = ap is_some h
-
 pub loaded_there : (new : IndexLists) (kind : IndexKind) (text : List ℕ) → Loads new kind text → has new kind ≡ true
-loaded_there new kind text h = some_there (is_ranges kind) new.rows (new.flats kind) (text_rows text) (text_list (index_size kind) text) h
+loaded_there new kind text h = elim (cases_Bool (is_ranges kind)) [
+  | inl ranges ↦ rw ranges (ap is_some (rw ranges at h))
+  | inr flat ↦ rw flat (ap is_some (rw flat at h))
+]
 
 -- the ranges are of one kind
 ranges_are_one : (k : IndexKind) → is_ranges k ≡ true → k ≡ Gb18030Ranges

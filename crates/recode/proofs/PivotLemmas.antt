@@ -135,23 +135,20 @@ units_passed units prefix n m is e =
 -- ---- a text that is cut
 
 -- units are no more than what their characters are spelled with, so a text that is cut between characters is cut into two
-encode_some : (c : ℕ) → 1 ≤ length (encode_utf16 c)
-encode_some c = elim (cases_lt c 0x1_0000) [ inl small ↦ rw (lt-ltb c 0x1_0000 small) (omega arith) | inr great ↦ rw (le-ltb c 0x1_0000 great) (omega arith) ]
-
-encode_pair : (c : ℕ) → 0x1_0000 ≤ c → 2 ≤ length (encode_utf16 c)
-encode_pair c great = rw (le-ltb c 0x1_0000 great) (omega arith)
+encode_long : (c : ℕ) → (1 ≤ length (encode_utf16 c)) × (0x1_0000 ≤ c → 2 ≤ length (encode_utf16 c))
+encode_long c = elim (cases_lt c 0x1_0000) [ inl small ↦ rw (lt-ltb c 0x1_0000 small) (omega arith) | inr great ↦ rw (le-ltb c 0x1_0000 great) (omega arith) ]
 
 units_long : (us : List ℕ) → length us ≤ length (encode_utf16_all (utf16_lossy_chars us))
 units_long [] = omega arith
 units_long (u ∷ []) = elim (pair_or_not u 0) [
   | inl pair ↦ absurd (omega (arith, pair.1))
-  | inr apart ↦ rw (one u [] apart) (omega (arith, encode_some (char_of u), length-append (encode_utf16 (char_of u)) (encode_utf16_all (utf16_lossy_chars []))))
+  | inr apart ↦ rw (one u [] apart) (omega (arith, (encode_long (char_of u)).0, length-append (encode_utf16 (char_of u)) (encode_utf16_all (utf16_lossy_chars []))))
 ]
 units_long (u ∷ v ∷ us) = elim (pair_or_not u v) [
   | inl pair ↦
       let c : ℕ = surrogate_pair_char u v in
-      rw (two u v us pair) (omega (arith, units_long us, encode_pair c (omega (arith, pair.0, pair.1)), length-append (encode_utf16 c) (encode_utf16_all (utf16_lossy_chars us))))
-  | inr apart ↦ rw (one u (v ∷ us) apart) (omega (arith, units_long (v ∷ us), encode_some (char_of u), length-append (encode_utf16 (char_of u)) (encode_utf16_all (utf16_lossy_chars (v ∷ us)))))
+      rw (two u v us pair) (omega (arith, units_long us, (encode_long c).1 (omega (arith, pair.0, pair.1)), length-append (encode_utf16 c) (encode_utf16_all (utf16_lossy_chars us))))
+  | inr apart ↦ rw (one u (v ∷ us) apart) (omega (arith, units_long (v ∷ us), (encode_long (char_of u)).0, length-append (encode_utf16 (char_of u)) (encode_utf16_all (utf16_lossy_chars (v ∷ us)))))
 ]
 
 cut_at : (a b c d : List ℕ) → a ++ b ≡ c ++ d → length a ≡ length c → a ≡ c
@@ -166,12 +163,6 @@ units_cut x a b are whole cut parts =
     let long : length a ≡ length ea = omega (arith, units_long a, units_long b, ap length both, length-append a b, length-append ea eb) in
     let first : a ≡ ea = cut_at a b ea eb both long in
     (first, append_cancel_left a b eb (both ∙ ap (λ l. l ++ eb) (sym first)))
-
--- the same of bytes, if both parts are texts
-pub bytes_cut : (x a b : List ℕ) → IsUtf8 a → x ≡ encode_utf8_all (chars x) → x ≡ a ++ b → a ≡ encode_utf8_all (chars a) → (chars x ≡ chars a ++ chars b) × (b ≡ encode_utf8_all (chars b))
-bytes_cut x a b text whole cut start =
-    let parts : chars x ≡ chars a ++ chars b = ap chars cut ∙ chars-append a b text in
-    (parts, rest_spelled utf8 x a b (chars a) (chars b) whole start cut parts)
 
 -- what `strip_prefix` of a slice returns
 pub no_start : (x p : List ℕ) → pointwise eqb (take (length p) x) p ≡ false → (rest : List ℕ) → x ≡ p ++ rest → ⊥
@@ -190,9 +181,9 @@ pub bytes_parts : (text prefix back : List ℕ) (n : ℕ) → IsUtf8 prefix → 
 bytes_parts text prefix back n u are whole f g =
     let cut : text ≡ prefix ++ back = sym (take-append-drop n text) ∙ ap (λ x. x ++ drop n text) (sym f) ∙ ap (λ x. prefix ++ x) (sym g) in
     let start : prefix ≡ encode_utf8_all (chars prefix) = sym (encodes-chars prefix u) in
-    let k = bytes_cut text prefix back u whole cut start in
-    let both = scalars_parts (chars prefix) (chars back) (subst (λ l. all_scalars l ≡ true) k.0 are) in
-    (k.0, (both.0, start), (both.1, k.1))
+    let parts : chars text ≡ chars prefix ++ chars back = ap chars cut ∙ chars-append prefix back u in
+    let both = scalars_parts (chars prefix) (chars back) (rw parts at are) in
+    (parts, (both.0, start), (both.1, rest_spelled utf8 text prefix back (chars prefix) (chars back) whole start cut parts))
 
 pub units_parts : (units prefix back : List ℕ) (n : ℕ) → all_scalars (utf16_lossy_chars units) ≡ true → units ≡ encode_utf16_all (utf16_lossy_chars units) → utf16_lossy_chars units ≡ prefix ++ utf16_lossy_chars (drop n units) → back ≡ drop n units
     → (utf16_lossy_chars units ≡ utf16_lossy_chars (take n units) ++ utf16_lossy_chars back) × ((all_scalars (utf16_lossy_chars (take n units)) ≡ true) × (take n units ≡ encode_utf16_all (utf16_lossy_chars (take n units))))

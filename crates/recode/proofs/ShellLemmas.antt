@@ -168,12 +168,7 @@ pub sound_start : (c : Standing) → c.answer ≡ None → c.text ≡ [] → Are
 sound_start c none empty h = subst AreCountedSoundly (sym (standing_is c none empty)) (record { index = omega (arith, h.index); bad = omega (arith, h.bad); lost = h.lost })
 
 pub ready_start : (c : Standing) (src : List ℕ) (last : Bool) → c.answer ≡ None → c.text ≡ [] → c.state.counts.read + length src ≤ 2 ^ 48 → CanConvert c.state → CanGoOn c src last
-ready_start c src last none empty limit h = subst (λ (z : Standing). CanGoOn z src last) (sym (standing_is c none empty)) (record {
-  sound = record { index = omega (arith, h.sound.index); bad = omega (arith, h.sound.bad); lost = h.sound.lost };
-  limit = limit;
-  tells = h.tells;
-  open_ = (refl, h.open_);
-})
+ready_start c src last none empty limit h = subst (λ (z : Standing). CanGoOn z src last) (sym (standing_is c none empty)) (search (rules, arith))
 
 pub found_some : (ref : Reference) (bytes : List ℕ) (line : LogLine) → 0 < length (map Byte bytes ++ found_items ref (Found line))
 found_some ref bytes (Bad offset size) = omega (arith, length-append (map Byte bytes) (found_items ref (Found (Bad offset size))))
@@ -205,12 +200,7 @@ open_from (Some decoded.InputEmpty) c ended src last is h with_end =
     ((with_end end).0, h.finished ∙ end ∙ sym (with_end end).1, inl ((h.end end).1, none), λ _. ((h.end end).1, none))
 
 pub can_go_on : (c : Standing) (ended : Bool) (src : List ℕ) (last : Bool) → IsBetweenCalls c ended → (ended ≡ true → (src ≡ []) × (last ≡ true)) → c.state.counts.read + length src ≤ 2 ^ 48 → CanGoOn c src last
-can_go_on c ended src last h with_end limit = record {
-  sound = h.sound;
-  limit = limit;
-  tells = h.tells;
-  open_ = open_from c.answer c ended src last refl h with_end;
-}
+can_go_on c ended src last h with_end limit = search (rules, open_from c.answer c ended src last refl h with_end)
 
 -- ---- what is left by a call
 
@@ -263,15 +253,7 @@ ended_with c x last free _ h e = let end = end_open c.answer c x last e h.1.open
 -- the law of a converter's call, by that of its engine
 pub part_of : (j : Job) (c c' : Standing) (e o e' o' last : Bool) (bytes rest : List ℕ) (items : List Item) (m l free : ℕ) (result : ConverterResult) → TakesTurns c c' last bytes rest items m l → ConvertEndsWith c' rest last free result → e' ≡ is_last_text c'.answer last
     → ConvertsPart (view_at j c e o) (view_at j (after_call c' last) e' o') last bytes rest items
-part_of j c c' e o e' o' last bytes rest items m l free result t ends is = rw (view_after j c' last e' o') (record {
-  job = refl;
-  owed = t.owes;
-  verdict = t.verdict;
-  source = t.source;
-  counted = t.counted;
-  lines = t.lines;
-  ended = λ end. ended_with c' rest last free result ends (sym is ∙ end);
-})
+part_of j c c' e o e' o' last bytes rest items m l free result t ends is = rw (view_after j c' last e' o') (search (rules, ended_with))
 
 none_waits : (c : Standing) → c.answer ≡ None → c.text ≡ [] → waiting c ≡ []
 none_waits c none empty = rw (none, empty) refl
@@ -312,15 +294,9 @@ standing_kept view parts p e (Utf16 units) text form same = absurd (cc)
 
 -- an engine of which nothing is read
 pub new_rests : (c : Standing) → c.answer ≡ None → c.text ≡ [] → CanConvert c.state → IsBetweenCalls c false
-new_rests c none empty h = record {
-  sound = sound_start c none empty h.sound;
-  tells = subst (CanTell c.state.verdict c.state.coding c.state.set) (sym empty) h.tells;
-  finished = h.open_;
-  none = λ _. empty;
-  malformed = λ a b e. absurd (cc (sym none ∙ e));
-  end = λ e. absurd (cc);
-  more = λ _. ap (λ a. is_last_text a true) none;
-}
+new_rests c none empty h =
+    let tells : CanTell c.state.verdict c.state.coding c.state.set c.text = rw empty h.tells in
+    search (rules, sound_start, tells)
 
 -- no text stands between a place and itself
 pub none_between : (p : Pivot) (from to : ℕ) → from ≡ 0 → to ≡ 0 → (chars_between p from to ≡ []) × HoldsBetween p from to

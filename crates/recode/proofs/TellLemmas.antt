@@ -1,5 +1,5 @@
 -- What the devices of a conversion tell after calls in a row, and which call was the last.
-use Rattle.std.proofs.Common.{◌≡◌, ◌⊎◌, ◌<◌, ℕ, List, [], ◌∷◌, ◌++◌, Option, Some, None, Result, Ok, Err, OnErr, IfErr, inl, inr, sym, ap, subst, ◌∙◌, append_assoc, append-nil, length, take, arith}
+use Rattle.std.proofs.Common.{◌≡◌, ◌⊎◌, ◌<◌, ℕ, List, [], ◌∷◌, ◌++◌, Option, Some, None, Result, Ok, Err, OnErr, IfErr, inl, inr, sym, ap, subst, ◌∙◌, append_assoc, append-nil, length, take, arith, rules}
 use Rattle.std.specs.Io.KnownBytes.{Appends, Consumes, IsAtEnd}
 use Rattle.std.specs.List.{concat}
 use Rattle.std.proofs.lemmas.List.{append_cancel_left, same_from_push}
@@ -9,7 +9,7 @@ use Rattle.recode.specs.Devices.{Devices, Gave, GaveToEnd, Grew, IsOf}
 use Rattle.recode.specs.Fault.{EndsAtFault, EndsAtWriterFault, of_other}
 use Rattle.recode.specs.Step.{IsReadInto, StepCalls}
 use Rattle.recode_log.specs.Told.{TellsReads, TellsTaken}
-use Rattle.recode_log.specs.laws.Told.{NoneYet, reads_none, reads_after, reads_then, taken_none, taken_then}
+use Rattle.recode_log.specs.laws.Told.{NoneYet, flushed_none, taken_kept, reads_none, reads_after, reads_then, taken_none, taken_then}
 use Rattle.recode.specs.Told.{Told, TellWhatPassed}
 use Rattle.recode.specs.declared.job.Fault.{Fault}
 use Rattle.recode.specs.declared.job.Fault.TheVariants.{Read}
@@ -66,27 +66,18 @@ pub tells_none : (d : Devices) (t : Told) → TellWhatPassed d d t t
 tells_none d t = record { input = reads_none d.reads t.input; output = taken_none d.written.output t.output; log = taken_none d.written.log t.log }
 
 pub tells_then : (d e f : Devices) (t u v : Told) → NoneYet d.reads e.reads → TellWhatPassed d e t u → TellWhatPassed e f u v → TellWhatPassed d f t v
-tells_then d e f t u v yet h k = record {
-  input = reads_then d.reads e.reads f.reads t.input u.input v.input yet h.input k.input;
-  output = taken_then d.written.output e.written.output f.written.output t.output u.output v.output h.output k.output;
-  log = taken_then d.written.log e.written.log f.written.log t.log u.log v.log h.log k.log;
-}
+tells_then d e f t u v yet h k = search (rules, reads_then, taken_then)
 
 pub tells_on : (d e f : Devices) (t u v : Told) (x : List ℕ) → t.input ≡ Some x → TellWhatPassed d e t u → TellWhatPassed e f u v → TellWhatPassed d f t v
-tells_on d e f t u v x is h k = record {
-  input = reads_after d.reads e.reads f.reads t.input u.input v.input x is h.input k.input;
-  output = taken_then d.written.output e.written.output f.written.output t.output u.output v.output h.output k.output;
-  log = taken_then d.written.log e.written.log f.written.log t.log u.log v.log h.log k.log;
-}
+tells_on d e f t u v x is h k = search (rules, reads_after, taken_then)
 
 -- and then more was written
 pub tells_more : (d e f : Devices) (t u v : Told) → TellWhatPassed d e t u → f.reads ≡ e.reads → v.input ≡ u.input → TellsTaken e.written.output f.written.output u.output v.output → TellsTaken e.written.log f.written.log u.log v.log
     → TellWhatPassed d f t v
-tells_more d e f t u v h same still k l = record {
-  input = subst (λ (x : List (List ℕ)). TellsReads d.reads x t.input v.input) (sym same) (subst (λ (x : Option (List ℕ)). TellsReads d.reads e.reads t.input x) (sym still) h.input);
-  output = taken_then d.written.output e.written.output f.written.output t.output u.output v.output h.output k;
-  log = taken_then d.written.log e.written.log f.written.log t.log u.log v.log h.log l;
-}
+tells_more d e f t u v h same still k l = record { input = rw (same, still) h.input; output = taken_then _ _ _ _ _ _ h.output k; log = taken_then _ _ _ _ _ _ h.log l }
+
+-- a flush
+pub ruleset flush_rules = (flushed_none, taken_kept)
 
 -- ---- the last call
 

@@ -1,5 +1,5 @@
 -- How turns of an engine add up, and what each is.
-use Rattle.std.proofs.Common.{◌≡◌, ◌↔◌, ℕ, ◌+◌, ◌-◌, ◌*◌, ◌<◌, ◌≤◌, Bool, true, false, IsTrue, List, [], ◌∷◌, ◌++◌, length, drop, Option, None, Some, refl, sym, ◌∙◌, ap, subst, arith, append_assoc, append-nil, length-append, length-drop}
+use Rattle.std.proofs.Common.{◌≡◌, ◌↔◌, ℕ, ◌+◌, ◌-◌, ◌*◌, ◌<◌, ◌≤◌, Bool, true, false, IsTrue, List, [], ◌∷◌, ◌++◌, length, drop, Option, None, Some, refl, sym, ◌∙◌, ap, subst, arith, append_assoc, append-nil, length-append, length-drop, rules}
 use Rattle.std.proofs.lemmas.Bool.{false≢true, false_from_ne_true}
 use Rattle.encoding_front.specs.declared.encoding.Encoding.{Encoding}
 use Rattle.encoding_mem.specs.Coding.{Coding, last_set}
@@ -17,7 +17,7 @@ use Rattle.recode.specs.Policy.{reference_form}
 use Rattle.recode.specs.State.{State}
 use Rattle.recode.specs.Work.{IsCounted}
 use Rattle.recode.specs.calls.Text.{TargetState, text_items}
-use Rattle.recode.specs.calls.Turns.{AreCountedSoundly, EncodesTurn, Standing, TakesTurns, WillBeKept, due_calls, owed, reported, spare_calls, pieces_of_text, waiting}
+use Rattle.recode.specs.calls.Turns.{AreCountedSoundly, EncodesTurn, Standing, TakesTurns, WillBeKept, due_calls, owed, reported, spare_calls, pieces_of_text, waiting, TakesPieces}
 use Rattle.recode.specs.calls.Verdict.{IsFaithfulFor, VerdictIsKept, VerdictView}
 use Rattle.recode.specs.declared.counts.Counts.{Counts}
 use Rattle.recode.proofs.CodecCallLemmas.{IsDecoded, trace_well_formed}
@@ -84,20 +84,9 @@ same_faithful ref v e s ps qs fine same = rw same (λ h. (h.0, fine.0 h.1, h.2),
 -- ---- turns in a row
 
 pub turns_start : (c : Standing) (last : Bool) (bytes : List ℕ) → AreCountedSoundly c → TakesTurns c c last bytes bytes [] 0 0
-turns_start c last bytes sound = record {
-  counted = refl;
-  target = refl;
-  policy = refl;
-  sound = sound;
-  lines = omega arith;
-  source = λ r h. refl;
-  owes = λ r h. refl;
-  verdict = λ r h. (λ x. x, λ x. x);
-  calls = λ r h. omega arith;
-  least_calls = λ under. omega arith;
-  grows = λ under. omega arith;
-  advances = λ on. record { taken = []; rest_is = λ r. refl; set = refl; index = omega arith };
-}
+turns_start c last bytes sound =
+    let none : TakesPieces c c bytes bytes = record { taken = []; rest_is = λ r. refl; set = refl; index = omega arith } in
+    search (rules, arith, none)
 
 pub turns_more : {c c1 c2 : Standing} {last : Bool} {x y z : List ℕ} {a b : List Item} {m n k l : ℕ} (most least : ℕ) → m + n ≤ most → least ≤ k + l → TakesTurns c c1 last x y a m k → TakesTurns c1 c2 last y z b n l → TakesTurns c c2 last x z (a ++ b) most least
 turns_more {c} {c1} {c2} {last} {x} {y} {z} {a} {b} most least up down p q = record {

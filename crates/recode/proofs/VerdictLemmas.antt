@@ -44,8 +44,6 @@ are_well_formed_prop [] a b = refl
 are_well_formed_prop (well_formed n cs ∷ ps) a b = ap (λ x. (tt, x)) (are_well_formed_prop ps a.1 b.1)
 are_well_formed_prop (malformed n ∷ ps) a b = absurd a.0
 
--- ---- cases
-
 -- one call of an encoder that reads some of a text, and what the reader makes of its bytes
 module _ (e : Coding) (need : ℕ) (coding : IsCoding need e) (last : Bool) (outcome : EncoderResult) (v v' : VerdictView) (s : EscapeState) (t w : List ℕ) (s' : EscapeState) (rest read : List ℕ)
     (scalars : all_scalars t ≡ true) (encodes : Encodes e last outcome s t w s' rest) (kept : IsNotUnmappable outcome) (split : t ≡ read ++ rest) (back : IsReadBack v v' w read) where

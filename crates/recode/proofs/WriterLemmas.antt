@@ -67,13 +67,7 @@ pub lent_on : {p c p1 c1 p2 c2 : Pivot} → KeepsLent p c p1 c1 → KeepsLent p1
 lent_on h k = record { pivot = room_on h.pivot k.pivot; check = room_on h.check k.check }
 
 pub kept_enough : (b c : Buffers) → AreEnough b → KeepSizes b c → AreEnough c
-kept_enough b c e k = record {
-  input = omega (arith, e.input, k.input);
-  pivot = holds_still b.pivot c.pivot e.pivot k.pivot k.pivot_kind;
-  output = omega (arith, e.output, k.output);
-  check = holds_still b.check c.check e.check k.check k.check_kind;
-  one_kind = k.pivot_kind ∙ e.one_kind ∙ sym k.check_kind;
-}
+kept_enough b c e k = search (rules, arith, holds_still)
 
 pub same_start : {W L : Type 0} (a : Writers W L) → AreReady a → AreTheSame a a
 same_start a ready = record { output = refl; buffer = refl; room = refl; within = ready.within; line = ready.line; log = refl }
@@ -192,9 +186,8 @@ holds_line w line held bad no_line none = rw (no_line, none) (record { delivered
 -- The line that is held, and another after it with no bytes between them, as tagged bytes.
 two_lines_are : (held : Option MalformedLine) (line : LogLine) (lines : List ℕ) → lines ≡ held_line_bytes held ++ line_bytes line → tagged (line_items held ++ (item_of line ∷ [])) ≡ map Line lines
 two_lines_are held line lines e =
-    tagged-append (line_items held) (item_of line ∷ []) ∙ ap (λ x. x ++ tagged (item_of line ∷ [])) (held_line_is held)
-    ∙ ap (λ x. map Line (held_line_bytes held) ++ x) (append-nil (tagged_item (item_of line)) ∙ line_is line)
-    ∙ sym (map-append Line (held_line_bytes held) (line_bytes line)) ∙ ap (map Line) (sym e)
+    tagged-append (line_items held) (item_of line ∷ [])
+    ∙ rw (e, map-append Line (held_line_bytes held) (line_bytes line), held_line_is held, append-nil (tagged_item (item_of line)), line_is line) refl
 
 pub writes_lines : (o l l' : List ℕ) (held : Option MalformedLine) (bytes lines : List ℕ) (line : LogLine) → bytes ≡ [] → lines ≡ held_line_bytes held ++ line_bytes line → Grew l l' lines
     → Passes (record { written = record { output = o; log = l }; line = held; bytes = bytes }) (record { written = record { output = o; log = l' }; line = None; bytes = bytes }) (item_of line ∷ [])
@@ -267,10 +260,7 @@ holding_more a room n = record a { buffer = record a.buffer { now = put_mid a.he
 module _ {W L : Type 0} {contents : W → Option (List ℕ)} {logged : L → Option (List ℕ)} where
   -- what the writers tell, in a row
   pub told_then : (a b c : Writers W L) → TellWhatTaken contents logged a b → TellWhatTaken contents logged b c → TellWhatTaken contents logged a c
-  told_then a b c h k = record {
-    output = taken_then (passed_of a.output.now) (passed_of b.output.now) (passed_of c.output.now) (contents (inner_of a.output.now)) (contents (inner_of b.output.now)) (contents (inner_of c.output.now)) h.output k.output;
-    log = taken_then (passed_of a.log.now) (passed_of b.log.now) (passed_of c.log.now) (logged (inner_of a.log.now)) (logged (inner_of b.log.now)) (logged (inner_of c.log.now)) h.log k.log;
-  }
+  told_then a b c h k = record { output = taken_then _ _ _ _ _ _ h.output k.output; log = taken_then _ _ _ _ _ _ h.log k.log }
 
   -- what holds whatever the policy holds under one
   pub hands_under : {T : Type 0} {p : Policy} {a b : Writers W L} {items : List Item} {r : Result T Fault} → HandsOn contents logged a b items r → HandsOnUnder p contents logged a b items r
@@ -295,14 +285,7 @@ module _ {W L : Type 0} {contents : W → Option (List ℕ)} {logged : L → Opt
     ok = ok_map r k.ok (λ q. passes_then (writers_view a) (writers_view b) (writers_view c) items more h.ok q);
     err = λ p is. err_map r (k.err p is) (λ f q rest. left_after (writers_view a) (writers_view b) (writers_view c).written p f items
         ((items ++ more) ++ rest) (more ++ rest) h.ok (spared p is) (append_assoc items more rest) (q rest));
-    failures = record {
-      writer = omega (arith, h.failures.writer, k.failures.writer);
-      log = omega (arith, h.failures.log, k.failures.log);
-      not_reader = k.failures.not_reader;
-      not_other = k.failures.not_other;
-      same = same_on h.failures.same k.failures.same;
-      last = k.failures.last;
-    };
+    failures = search (rules, arith, same_on);
     told = told_then a b c h.told k.told;
   }
 
@@ -322,30 +305,16 @@ module _ {W L : Type 0} {contents : W → Option (List ℕ)} {logged : L → Opt
   -- bytes are held behind those that were
   pub hands_held : {a : Writers W L} (room : List ℕ) (n : ℕ) → AreReady a → length room ≡ length a.buffer.now - a.held → n ≤ length room
       → HandsOnIf {T = Unit {0}} contents logged applies a (holding_more a room n) (map Byte (take n room)) (Ok tt)
-  hands_held {a} room n ready size fits = record {
-    ok = subst (λ t. PassesBytes (writers_view a) (writers_view (holding_more a room n)) t)
-        (last_is a.buffer.now room a.held n ready.within fits) (holds_behind (written_by a) a.line a.held n a.buffer.now room ready.within);
-    err = λ p is. tt;
-    failures = record {
-      writer = omega arith;
-      log = omega arith;
-      not_reader = refl;
-      not_other = refl;
-      same = record { output = refl; buffer = refl; room = long; within = omega (arith, ready.within, size, fits, long); line = ready.line; log = refl };
-      last = tt;
-    };
-    told = record { output = taken_none (passed_of a.output.now) (contents (inner_of a.output.now)); log = taken_none (passed_of a.log.now) (logged (inner_of a.log.now)) };
-  }
-    where
-      long : length (put_mid a.held (length a.buffer.now - a.held) a.buffer.now room) ≡ length a.buffer.now
-      long = size_into a.buffer.now room a.held (length a.buffer.now - a.held) ready.within refl size
+  hands_held {a} room n ready size fits =
+      let free = length a.buffer.now - a.held in
+      let long : length (put_mid a.held free a.buffer.now room) ≡ length a.buffer.now = size_into a.buffer.now room a.held free ready.within refl size in
+      record {
+        ok = rw (last_is a.buffer.now room a.held n ready.within fits) at (holds_behind (written_by a) a.line a.held n a.buffer.now room ready.within);
+        err = λ p is. tt;
+        failures = search (rules, arith, long);
+        told = record { output = taken_none (passed_of a.output.now) (contents (inner_of a.output.now)); log = taken_none (passed_of a.log.now) (logged (inner_of a.log.now)) };
+      }
 
   -- the writers are ready still
   pub hands_ready : {a b : Writers W L} {items : List Item} → AreReady a → HandsOnIf {T = Unit {0}} contents logged applies a b items (Ok tt) → AreReady b
-  hands_ready ready h = record {
-    output = omega (arith, ready.output, h.failures.writer);
-    log = omega (arith, ready.log, h.failures.log);
-    room = omega (arith, ready.room, h.failures.same.room);
-    within = h.failures.same.within;
-    line = h.failures.same.line;
-  }
+  hands_ready ready h = search (rules, arith)

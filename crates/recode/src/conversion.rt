@@ -32,6 +32,7 @@ pub const NOT_FAITHFUL: u8 = 1;
 pub const FAULT: u8 = 4;
 
 // Flushes both, and returns the first fault.
+#[tactic(auto, using(crate::proofs::TellLemmas::flush_rules))]
 fn flush_both<W: Write, L: Write>(
     writer: &mut Counted<W>,
     log: &mut Counted<L>,
