@@ -20,7 +20,7 @@ PAGE = os.path.join(TOP, "docs", "HEADLINE.md")
 LINES = os.path.join(TOP, "tools", "headline_lines")
 
 # The clauses of `recode::run` that are the theorem, and the laws that stand beside it.
-CLAUSES = ("completes", "fails", "failures", "last")
+CLAUSES = ("completes", "fails", "failures", "calls")
 LAWS = ("steps_add_up", "decided_pieces_are_converted", "calls_are_a_conversion", "runs_agree", "read_back")
 
 # What the definitions of each crate are about, in the order to read them in.
@@ -42,7 +42,9 @@ For every valid job, every reader, writer and log, and all buffers that are enou
 - **Whole.** It returns a report. Calls of the reader gave an input, and the last of them gave none; the input is within the job's limit, and the policy stops nothing in it. What calls of the writer took grew by exactly the output that the job's definitions give for that input, and what calls of the log took by exactly its log. No call failed. The report has the input's length, its malformed sequences, its lost characters and its source encoding, and says `faithful` exactly if nothing is malformed and the output decodes to the input's text.
 - **A fault, with its cause.** `Read`, `Write` or `Log`: one call failed, and it was the last of that device. `TooLong`: what was read passes the limit. `Unmappable`: the policy stops, and all was written up to the line of the first lost character. What was written is a prefix, in the one order of output and log, of what is written for every input that begins with what was read; after `Read` and `TooLong` it is all that these bytes decide.
 
-It speaks of files, pipes and standard streams as of devices in memory: of the calls that were made of them, and what these passed.
+The reader is called by reads alone, each with room of the whole input buffer, until one gives no bytes or a fault comes; it is not called after that.
+
+All this is said of files, pipes and standard streams as of devices in memory: of the calls that were made of them, and what these passed.
 """
 
 CHAIN = """

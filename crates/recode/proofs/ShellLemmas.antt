@@ -18,7 +18,7 @@ use Rattle.recode.specs.calls.EngineView.{HoldsBetween, chars_between, over_text
 use Rattle.recode.specs.calls.Held.{LeavesPrefixFor, Passes, WritersView, held_items}
 use Rattle.recode.specs.calls.TraceToWrite.{AreSound}
 use Rattle.recode.specs.calls.Turns.{AreCountedSoundly, CanGoOn, Standing, TakesTurns, owed, ConvertEndsWith, IsBetweenCalls, IsOpenFor, is_last_text, reported, settled, pieces_of_text, waiting}
-use Rattle.recode.specs.calls.Writers.{AreReady, HandsOnUnder, HoldNothing, written_by, writers_view}
+use Rattle.recode.specs.calls.Writers.{AreReady, CountsWriterFault, HandsOnUnder, HoldNothing, written_by, writers_view}
 use Rattle.recode.specs.declared.converter.ConverterResult.TheVariants.{Found, InputEmpty}
 use Rattle.recode.specs.declared.job.Fault.{Fault}
 use Rattle.recode.specs.declared.job.Pivot.{Pivot}
@@ -108,6 +108,10 @@ module _ {W L : Type 0} {contents : W → Option (List ℕ)} {logged : L → Opt
       → IfErr r (λ (f : Fault). WritesPrefixFor (written_by w0) (written_by w2) p f last (λ r. to_write c0.state (x ++ r)))
   pumps_under {T} {w1} {w2} {c1} {c2} {y} {z} {items} h k t none empty nothing =
       pumps_owed (λ r. owed c2 (z ++ r)) h k none empty nothing (λ r end. t.owes r end ∙ ap (λ q. q ++ owed c2 (z ++ r)) (sym (append-nil items)))
+
+  -- and the counts are those of all that was handed on
+  pub pumps_counts : {T : Type 0} {w1 w2 : Writers W L} {c1 : Standing} {y : List ℕ} {items : List Item} {m l : ℕ} {r : Result T Fault} → Pumps contents logged p w0 w1 c0 c1 last x y m l → HandsOnUnder p contents logged w1 w2 items r → CountsWriterFault w0 w2 r
+  pumps_counts h k = (hands_then (only_under h.items h.spared) h.hands k).failures
 
   -- or while what is held is delivered
   pub pumps_stuck : {T : Type 0} {w1 w2 : Writers W L} {c1 : Standing} {y : List ℕ} {m l : ℕ} {r : Result T Fault} → Pumps contents logged p w0 w1 c0 c1 last x y m l → HandsOnUnder p contents logged w1 w2 [] r → c0.answer ≡ None → c0.text ≡ [] → HoldNothing w0

@@ -1,13 +1,17 @@
 -- What the devices of a conversion tell after calls in a row, and which call was the last.
-use Rattle.std.proofs.Common.{◌≡◌, ◌⊎◌, ◌<◌, ℕ, List, [], ◌∷◌, ◌++◌, Option, Some, None, Result, Ok, Err, OnErr, IfErr, inl, inr, sym, ap, subst, ◌∙◌, append_assoc, append-nil, length, take, arith, rules}
+use Rattle.std.proofs.Common.{◌≡◌, ◌⊎◌, ◌<◌, ℕ, List, [], ◌∷◌, ◌++◌, Option, Some, None, Result, Ok, Err, OnErr, IfErr, IsErrAnd, inl, inr, sym, ap, subst, ◌∙◌, append_assoc, append-nil, length, take, arith, rules}
 use Rattle.std.specs.Io.KnownBytes.{Appends, Consumes, IsAtEnd}
-use Rattle.std.specs.List.{concat}
+use Rattle.std.specs.List.{All, concat}
 use Rattle.std.proofs.lemmas.List.{append_cancel_left, same_from_push}
-use Rattle.recode_log.specs.Call.{Call, CallsOnce, Failed, Flush, Passed, passed_by}
+use Rattle.std.proofs.lemmas.List.Elements.{All-append, All-cons, All-nil}
+use Rattle.recode_log.specs.Call.{Call, Failed, Flush, Passed, passed_by}
+use Rattle.recode_log.specs.Counted.{CountsWrites, history_of}
+use Rattle.recode_log.specs.declared.counted.Counted.{Counted}
 use Rattle.recode_log.specs.laws.Calls.{passed_failed, passed_one}
+use Rattle.recode_log.specs.laws.Counts.{counts_then}
 use Rattle.recode.specs.Devices.{Devices, Gave, GaveToEnd, Grew, IsOf}
-use Rattle.recode.specs.Fault.{EndsAtFault, EndsAtWriterFault, of_other}
-use Rattle.recode.specs.Step.{IsReadInto, StepCalls}
+use Rattle.recode.specs.Fault.{EndsAtFault, EndsAtWriterFault, of_other, reader_failures}
+use Rattle.recode.specs.Step.{GaveSome, IsReadInto, RunCalls, StepCalls}
 use Rattle.recode_log.specs.Told.{TellsReads, TellsTaken}
 use Rattle.recode_log.specs.laws.Told.{NoneYet, flushed_none, taken_kept, reads_none, reads_after, reads_then, taken_none, taken_then}
 use Rattle.recode.specs.Told.{Told, TellWhatPassed}
@@ -36,6 +40,38 @@ none_yet_on a before after room call chunk yet is once gave some front e = elim 
       let all : gave.0 ≡ one.0 ∷ [] = append_cancel_left (passed_by before) gave.0 (one.0 ∷ []) (sym gave.1 ∙ one.1) in
       omega (arith, some, ap length (sym gave.2 ∙ ap concat all ∙ append-nil one.0 ∙ none))
 ]
+
+-- reads with room for so many bytes, each of which gave some
+pub record ReadsSome (before after : List Call) (room : ℕ) : Type 0 where
+  pub earlier : List Call
+  pub calls : after ≡ before ++ earlier
+  pub some : All (GaveSome room) earlier
+
+-- a read that gave these is one
+gave_some : (before after : List Call) (room : ℕ) (call : Call) (chunk : List ℕ) → IsReadInto room call → after ≡ before ++ (call ∷ []) → Gave (passed_by before) (passed_by after) chunk → 0 < length chunk → GaveSome room call
+gave_some before after room (Passed n bytes) chunk is once gave some =
+    let all : gave.0 ≡ bytes ∷ [] = append_cancel_left (passed_by before) gave.0 (bytes ∷ []) (sym gave.1 ∙ passed_one before after n bytes once) in
+    (is, omega (arith, some, ap length (sym gave.2 ∙ ap concat all ∙ append-nil bytes)))
+gave_some before after room (Failed n) chunk is once gave some =
+    let all : gave.0 ≡ [] = append_cancel_left (passed_by before) gave.0 [] (sym gave.1 ∙ passed_failed before after n once ∙ sym (append-nil (passed_by before))) in
+    absurd (omega (arith, some, ap length (sym gave.2 ∙ ap concat all)))
+gave_some before after room (Flush failed) chunk is once gave some = absurd is
+
+pub reads_start : (calls : List Call) (room : ℕ) → ReadsSome calls calls room
+reads_start calls room = record { earlier = []; calls = sym (append-nil calls); some = All-nil (GaveSome room) }
+
+pub reads_on : (a before after : List Call) (room room' : ℕ) (call : Call) (chunk : List ℕ) → ReadsSome a before room → room' ≡ room → IsReadInto room' call → after ≡ before ++ (call ∷ [])
+    → Gave (passed_by before) (passed_by after) chunk → 0 < length chunk → ReadsSome a after room
+reads_on a before after room room' call chunk h same is once gave some = record {
+  earlier = h.earlier ++ (call ∷ []);
+  calls = once ∙ ap (λ l. l ++ (call ∷ [])) h.calls ∙ append_assoc a h.earlier (call ∷ []);
+  some = All-append (GaveSome room) h.earlier (call ∷ []) h.some (All-cons (GaveSome room) call [] (gave_some before after room call chunk (rw same at is) once gave some) (All-nil (GaveSome room)));
+}
+
+-- a fault that is handed on, which is not of the reader
+pub not_of_reader : {T : Type 0} (S : Type 0) (r : Result T Fault) (e : Fault) → IsErrAnd r (λ (x : Fault). x ≡ e) → reader_failures {T = S} (Err e) ≡ 0 → reader_failures r ≡ 0
+not_of_reader S (Ok x) e same h = absurd same
+not_of_reader S (Err x) e same h = rw same h
 
 -- so what its calls gave is what it has lost
 pub reads_are : (a b : List (List ℕ)) (t u : Option (List ℕ)) (bytes : List ℕ) → TellsReads a b t u → Gave a b bytes → Consumes t u bytes
@@ -92,8 +128,17 @@ pub last_failed : {T : Type 0} (g : Fault) (r : Result T Fault) (writer log : Li
 last_failed g (Ok x) writer log is h = tt
 last_failed g (Err f) writer log is h = rw is h
 
--- the calls of a step
-pub step_calls : {T E : Type 0} (reader reader' writer log : List Call) (r : Result ℕ E) (buf : List ℕ) (room : ℕ) (answer : Result T Fault) → CallsOnce reader reader' r buf → length buf ≡ room
-    → IfErr answer (EndsAtFault reader' writer log) → StepCalls reader reader' writer log room answer
-step_calls reader reader' writer log (Ok n) buf room answer once size last = record { call = Passed (length buf) (take n buf); once = once; is = size; last = last }
-step_calls reader reader' writer log (Err e) buf room answer once size last = record { call = Failed (length buf); once = once; is = size; last = last }
+-- the calls of a run whose last step made these
+pub run_calls : {R W L S T : Type 0} (r0 r r' : Counted R) (w0 w w' : Counted W) (l0 l l' : Counted L) (room : ℕ) {room' : ℕ} {s : Result S Fault} {result : Result T Fault} → ReadsSome (history_of r0) (history_of r) room
+    → CountsWrites w0 w → CountsWrites l0 l → room' ≡ room → StepCalls r r' w w' l l' room' s → reader_failures s ≡ reader_failures result → IfErr result (EndsAtFault (history_of r') (history_of w') (history_of l')) → RunCalls r0 r' w0 w' l0 l' room result
+run_calls r0 r r' w0 w w' l0 l l' room h writes lines same k failed last = record {
+  earlier = h.earlier;
+  call = k.call;
+  calls = k.once ∙ ap (λ x. x ++ (k.call ∷ [])) h.calls ∙ append_assoc (history_of r0) h.earlier (k.call ∷ []);
+  some = h.some;
+  is = rw same at k.is;
+  failed = k.failed ∙ failed;
+  writes = counts_then w0 w w' writes k.writes;
+  lines = counts_then l0 l l' lines k.lines;
+  last = last;
+}

@@ -29,6 +29,7 @@ use Rattle.recode.specs.laws.Items.{lost_line_count-append, lost_line_count-byte
 use Rattle.recode.proofs.TraceLemmas.{WritesPrefixFor-of, Wrote-nil, Wrote-trans, left_behind, under_bytes, under_lines, written_first, wrote_bytes, wrote_line}
 use Rattle.recode_log.specs.Counted.{inner_of, passed_of}
 use Rattle.recode.proofs.ConvertLemmas.{last_is, size_into}
+use Rattle.recode_log.specs.laws.Counts.{counts_none, counts_then}
 use Rattle.recode_log.specs.laws.Told.{taken_none, taken_then}
 
 -- ---- results
@@ -274,7 +275,7 @@ module _ {W L : Type 0} {contents : W → Option (List ℕ)} {logged : L → Opt
   hands_fault {S} {T} {a} {b} {items} more {e} {r = Err x} same h = rw same (record {
     ok = tt;
     err = λ p is rest. rw (append_assoc items more rest) (h.err p is (more ++ rest));
-    failures = record { writer = h.failures.writer; log = h.failures.log; not_reader = h.failures.not_reader; not_other = h.failures.not_other; same = h.failures.same; last = h.failures.last };
+    failures = record { writer = h.failures.writer; log = h.failures.log; not_reader = h.failures.not_reader; not_other = h.failures.not_other; output_calls = h.failures.output_calls; log_calls = h.failures.log_calls; same = h.failures.same; last = h.failures.last };
     told = h.told;
   })
 
@@ -285,7 +286,7 @@ module _ {W L : Type 0} {contents : W → Option (List ℕ)} {logged : L → Opt
     ok = ok_map r k.ok (λ q. passes_then (writers_view a) (writers_view b) (writers_view c) items more h.ok q);
     err = λ p is. err_map r (k.err p is) (λ f q rest. left_after (writers_view a) (writers_view b) (writers_view c).written p f items
         ((items ++ more) ++ rest) (more ++ rest) h.ok (spared p is) (append_assoc items more rest) (q rest));
-    failures = search (rules, arith, same_on);
+    failures = search (rules, arith, same_on, counts_then);
     told = told_then a b c h.told k.told;
   }
 
@@ -298,7 +299,7 @@ module _ {W L : Type 0} {contents : W → Option (List ℕ)} {logged : L → Opt
   hands_start {a} ready = record {
     ok = record { delivered = []; wrote = Wrote-nil (written_by a); in_order = append-nil (held_items (writers_view a)) };
     err = λ p is. tt;
-    failures = record { writer = omega arith; log = omega arith; not_reader = refl; not_other = refl; same = same_start a ready; last = tt };
+    failures = record { writer = omega arith; log = omega arith; not_reader = refl; not_other = refl; output_calls = counts_none _; log_calls = counts_none _; same = same_start a ready; last = tt };
     told = record { output = taken_none (passed_of a.output.now) (contents (inner_of a.output.now)); log = taken_none (passed_of a.log.now) (logged (inner_of a.log.now)) };
   }
 
@@ -311,7 +312,7 @@ module _ {W L : Type 0} {contents : W → Option (List ℕ)} {logged : L → Opt
       record {
         ok = rw (last_is a.buffer.now room a.held n ready.within fits) at (holds_behind (written_by a) a.line a.held n a.buffer.now room ready.within);
         err = λ p is. tt;
-        failures = search (rules, arith, long);
+        failures = search (rules, arith, long, counts_none);
         told = record { output = taken_none (passed_of a.output.now) (contents (inner_of a.output.now)); log = taken_none (passed_of a.log.now) (logged (inner_of a.log.now)) };
       }
 

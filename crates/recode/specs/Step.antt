@@ -1,14 +1,16 @@
 -- What one step does, for every continuation of the bytes read.
 use Rattle.std.specs.Prelude.{◌≡◌, ◌≢◌, ◌↔◌, IsTrue, ℕ, ◌+◌, ◌-◌, ◌*◌, ◌<◌, ◌≤◌, ◌⊎◌, List, [], ◌∷◌, ◌++◌, length, Bool, true, false, Result, IfErr, min}
-use Rattle.std.specs.List.{flat_map}
+use Rattle.std.specs.List.{All, flat_map}
 use Rattle.encoding_mem.specs.Coding.{Coding, last_set, open_from}
 use Rattle.encoding_mem.specs.calls.Decoding.{DecoderState, Waits}
 use Rattle.encoding_mem.specs.Items.{Item}
 use Rattle.encoding_mem.specs.Piece.{Piece, text}
 use Rattle.encoding_mem.specs.declared.form.EscapeState.{EscapeState}
-use Rattle.recode_log.specs.Call.{Call, Passed, Failed, Flush}
+use Rattle.recode_log.specs.Call.{Call, Passed, Failed, Flush, failed_read}
+use Rattle.recode_log.specs.Counted.{CountsWrites, history_of}
+use Rattle.recode_log.specs.declared.counted.Counted.{Counted}
 use Rattle.recode_log.specs.Line.{line_bytes}
-use Rattle.recode.specs.Fault.{EndsAtFault}
+use Rattle.recode.specs.Fault.{EndsAtFault, reader_failures}
 use Rattle.recode.specs.Job.{log_lines}
 use Rattle.recode.specs.Policy.{reference_form}
 use Rattle.recode.specs.State.{State, WillBeFaithful, to_write}
@@ -122,9 +124,32 @@ IsReadInto room (Passed n bytes) = n ≡ room
 IsReadInto room (Failed n) = n ≡ room
 IsReadInto room (Flush failed) = ⊥
 
--- A step called the reader once, with room for so many bytes. If a device failed, its last call is the one that did.
-pub record StepCalls {T : Type 0} (reader reader' writer' log' : List Call) (room : ℕ) (result : Result T Fault) : Type 0 where
+-- a call is a read with room for so many bytes that gave some
+abbrev pub GaveSome : ℕ → Call → Type 0
+GaveSome room (Passed n bytes) = (n ≡ room) × (0 < length bytes)
+GaveSome room (Failed n) = ⊥
+GaveSome room (Flush failed) = ⊥
+
+-- The reader was called at least once, each time by a read with room for so many bytes. Each call but the last gave
+-- some, and the last failed exactly if the fault is of the reader. The counts of the writer and of the log rose by as many
+-- calls as failed. If a device failed, its last call is the one that did.
+pub record RunCalls {R W L T : Type 0} (reader reader' : Counted R) (writer writer' : Counted W) (log log' : Counted L) (room : ℕ) (result : Result T Fault) : Type 0 where
+  pub earlier : List Call
   pub call : Call
-  pub once : reader' ≡ reader ++ (call ∷ [])
+  pub calls : history_of reader' ≡ history_of reader ++ (earlier ++ (call ∷ []))
+  pub some : All (GaveSome room) earlier
   pub is : IsReadInto room call
-  pub last : IfErr result (EndsAtFault reader' writer' log')
+  pub failed : failed_read call ≡ reader_failures result
+  pub writes : CountsWrites writer writer'
+  pub lines : CountsWrites log log'
+  pub last : IfErr result (EndsAtFault (history_of reader') (history_of writer') (history_of log'))
+
+-- A step called the reader once, with room for so many bytes; the rest as of a run.
+pub record StepCalls {R W L T : Type 0} (reader reader' : Counted R) (writer writer' : Counted W) (log log' : Counted L) (room : ℕ) (result : Result T Fault) : Type 0 where
+  pub call : Call
+  pub once : history_of reader' ≡ history_of reader ++ (call ∷ [])
+  pub is : IsReadInto room call
+  pub failed : failed_read call ≡ reader_failures result
+  pub writes : CountsWrites writer writer'
+  pub lines : CountsWrites log log'
+  pub last : IfErr result (EndsAtFault (history_of reader') (history_of writer') (history_of log'))

@@ -3,7 +3,7 @@
 ghost use Rattle.std.specs.Prelude.{◌≡◌, ◌≤◌, ◌<◌, ◌^◌, ◌-◌, ◌↔◌, ◌==◌, IsTrue, IsSome, IfOk, None};
 ghost use Rattle.std.specs.Prelude.{IfErr, IfSome, length, true, false};
 ghost use Rattle.std.specs.Io.KnownBytes.{IsAtEnd};
-ghost use Rattle.recode_log.specs.Counted.{failures_of, history_of, inner_of};
+ghost use Rattle.recode_log.specs.Counted.{inner_of};
 ghost use Rattle.recode.specs.Job.{IsValidJob};
 ghost use Rattle.recode.specs.calls.Buffers.{AreEnough, KeepSizes};
 ghost use Rattle.recode.specs.calls.Chunk.{CanConvert};
@@ -11,8 +11,7 @@ ghost use Rattle.recode.specs.calls.EngineView.{engine_state};
 ghost use Rattle.recode.specs.Session.{View, IsOver, IsNewSession, IsStepped, Tells, Completes};
 ghost use Rattle.recode.specs.Session.{Fails};
 ghost use Rattle.recode.specs.declared.session.Phase.TheVariants.{Open};
-ghost use Rattle.recode.specs.Fault.{EndsAtFault};
-ghost use Rattle.recode.specs.Step.{Finishes, StepCalls, Stops, StepsOn};
+ghost use Rattle.recode.specs.Step.{Finishes, RunCalls, StepCalls, Stops, StepsOn};
 ghost use Rattle.recode.specs.RunsTold.{CompletesTold, FailsTold};
 ghost use Rattle.recode.specs.Told.{TellWhatPassed, told_in};
 ghost use Rattle.recode.specs.Devices.{CountsFault, HaveFailedAtMost, devices_in, reads_of};
@@ -154,8 +153,8 @@ impl<'t> Session<'t> {
         ensures buffers { KeepSizes buffers.old buffers.new }
         ensures failures { CountsFault (devices_in reader.old writer.old log.old)
             (devices_in reader.new writer.new log.new) result }
-        ensures calls { StepCalls (history_of reader.old) (history_of reader.new)
-            (history_of writer.new) (history_of log.new) (length buffers.old.input.now) result }
+        ensures calls { StepCalls reader.old reader.new writer.old writer.new log.old log.new
+            (length buffers.old.input.now) result }
     {
         self.phase = Phase::Stopped;
         let Ok(read) = reader.read(buffers.input) else {
@@ -191,7 +190,8 @@ impl<'t> Session<'t> {
 }
 
 /// Converts the whole input of a job, step by step, and returns the report on it. It takes at most
-/// as many steps as the limit has bytes, and one more.
+/// as many steps as the limit has bytes, and one more. Each reads once, with room of the whole input
+/// buffer; the reader is not called again after a read that gave no bytes, nor after a fault.
 ///
 /// - `Ok`: the input was read to its end, and is within the limit. Exactly its output and its log
 ///   were written. They depend on the input and the job alone: not on how reads are cut, on the
@@ -236,8 +236,8 @@ pub fn run<R: Read, W: Write, L: Write>(
     ensures buffers { KeepSizes buffers.old buffers.new }
     ensures failures { CountsFault (devices_in reader.old writer.old log.old)
         (devices_in reader.new writer.new log.new) result }
-    ensures last { IfErr result
-        (EndsAtFault (history_of reader.new) (history_of writer.new) (history_of log.new)) }
+    ensures calls { RunCalls reader.old reader.new writer.old writer.new log.old log.new
+        (length buffers.old.input.now) result }
     ensures told { TellWhatPassed
         (devices_in reader.old writer.old log.old) (devices_in reader.new writer.new log.new)
         (told_in R.remaining W.contents L.contents reader.old writer.old log.old)

@@ -1,5 +1,5 @@
 -- What the calls of a reader or a writer did: the history of a device.
-use Rattle.std.specs.Prelude.{◌≡◌, ℕ, ◌<◌, List, [], ◌∷◌, ◌++◌, Bool, true, false, IsTrue, Result, Ok, Err, length, take}
+use Rattle.std.specs.Prelude.{◌≡◌, ℕ, ◌+◌, ◌<◌, min, List, [], ◌∷◌, ◌++◌, Bool, true, false, IsTrue, Result, Ok, Err, length, take}
 
 -- One call of a device: a read or a write that passed the first bytes of its buffer, or that failed, each with the
 -- length of the buffer, or a flush, and whether it failed.
@@ -45,3 +45,21 @@ pub record EndsInFailedWrite (calls : List Call) : Type 0 where
   pub last : Call
   pub ends : calls ≡ earlier ++ (last ∷ [])
   pub failed : IsFailedWrite last
+
+-- 1 if a call of a reader failed, else 0
+abbrev pub failed_read : Call → ℕ
+failed_read (Failed room) = 1
+failed_read _ = 0
+
+-- 1 if a call of a writer failed, which it did if it took none of some bytes, else 0
+abbrev pub failed_write : Call → ℕ
+failed_write (Passed room []) = min 1 room
+failed_write (Passed room (b ∷ bytes)) = 0
+failed_write (Failed room) = 1
+failed_write (Flush true) = 1
+failed_write (Flush false) = 0
+
+-- how many of a writer's calls failed
+abbrev pub failed_writes : List Call → ℕ
+failed_writes [] = 0
+failed_writes (call ∷ calls) = failed_write call + failed_writes calls

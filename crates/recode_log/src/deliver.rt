@@ -4,7 +4,8 @@ ghost use Rattle.std.specs.Prelude.{◌≡◌, ℕ, ◌+◌, ◌-◌, ◌^◌, �
 ghost use Rattle.std.specs.Prelude.{IsOk, OnOk, OnErr, IfErr};
 ghost use Rattle.std.specs.Io.KnownBytes.{Appends};
 ghost use Rattle.recode_log.specs.Call.{EndsInFailedWrite};
-ghost use Rattle.recode_log.specs.Counted.{IsTold, inner_of, failures_of, history_of, passed_of};
+ghost use Rattle.recode_log.specs.Counted.{CountsWrites, IsTold, inner_of, failures_of};
+ghost use Rattle.recode_log.specs.Counted.{history_of, passed_of};
 
 use crate::counted::Counted;
 use std::io::Write;
@@ -27,6 +28,7 @@ pub fn deliver<W: Write, F: Drop>(writer: &mut Counted<W>, bytes: &[u8], fault: 
         × (failures_of writer.new ≡ failures_of writer.old + 1)
         × (passed_of writer.new ≡ passed_of writer.old ++ take n bytes.now)) }
     ensures failed { OnErr result (EndsInFailedWrite (history_of writer.new)) }
+    ensures counts { CountsWrites writer.old writer.new }
     ensures fault { IfErr result (λ f. f ≡ fault) }
     ensures empty { bytes.now ≡ [] → IsOk result × (writer.new ≡ writer.old) }
 {

@@ -1,6 +1,6 @@
 -- What the two writers of a conversion have, and how the counts of their failed calls rise.
 use Rattle.std.specs.Prelude.{◌≡◌, ℕ, ◌+◌, ◌-◌, ◌^◌, ◌<◌, ◌≤◌, ◌++◌, nat_eq, length, take, Bool, List, Option, None, IfSome, Result, OnOk, IfErr}
-use Rattle.recode_log.specs.Counted.{failures_of, history_of, inner_of, passed_of}
+use Rattle.recode_log.specs.Counted.{CountsWrites, failures_of, history_of, inner_of, passed_of}
 use Rattle.recode_log.specs.Line.{IsValid}
 use Rattle.recode.specs.Devices.{Written, written_in}
 use Rattle.recode.specs.Fault.{EndsAtWriterFault, log_failures, of_other, reader_failures, writer_failures}
@@ -49,12 +49,14 @@ pub record AreTheSame {W L : Type 0} (before after : Writers W L) : Type 0 where
   pub log : after.log.ghost_name ≡ before.log.ghost_name
 
 -- The count of the writer that a fault is of rose by one, and its last call is the one that failed. The other count
--- stayed. No fault is of another device.
+-- stayed. No fault is of another device. Each count is that of the failed calls.
 pub record CountsWriterFault {W L T : Type 0} (before after : Writers W L) (result : Result T Fault) : Type 0 where
   pub writer : failures_of after.output.now ≡ failures_of before.output.now + writer_failures result
   pub log : failures_of after.log.now ≡ failures_of before.log.now + log_failures result
   pub not_reader : reader_failures result ≡ 0
   pub not_other : of_other result ≡ 0
+  pub output_calls : CountsWrites before.output.now after.output.now
+  pub log_calls : CountsWrites before.log.now after.log.now
   pub last : IfErr result (EndsAtWriterFault (history_of after.output.now) (history_of after.log.now))
   pub same : AreTheSame before after
 

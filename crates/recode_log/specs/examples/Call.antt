@@ -1,7 +1,7 @@
 -- Worked rows of `specs/Call.antt`.
-use Rattle.std.proofs.Common.{◌≡◌, ℕ, [], ◌∷◌, Ok, Err, false, refl, arith}
+use Rattle.std.proofs.Common.{◌≡◌, ℕ, [], ◌∷◌, Ok, Err, false, true, refl, arith}
 use Rattle.std.specs.List.{concat}
-use Rattle.recode_log.specs.Call.{IsFailedWrite, call_of, flush_of, passed_by}
+use Rattle.recode_log.specs.Call.{IsFailedWrite, call_of, failed_read, failed_writes, flush_of, passed_by}
 use Rattle.recode_log.specs.Call.{Failed, Flush, Passed}
 
 -- a read that gives two bytes, into a room of four
@@ -35,3 +35,14 @@ failed_write-none_taken = (omega arith, refl)
 -- one of no bytes has not
 failed_write-nothing_to_take : IsFailedWrite (Passed 0 []) → ⊥
 failed_write-nothing_to_take h = omega (arith, h.0)
+
+-- of a write that takes a byte, one that takes none, one of no bytes, one that fails and a flush that fails, three failed
+failed_writes-some : failed_writes (Passed 2 (1 ∷ []) ∷ Passed 1 [] ∷ Passed 0 [] ∷ Failed 1 ∷ Flush true ∷ Flush false ∷ []) ≡ 3
+failed_writes-some = refl
+
+-- the end of what a reader has is no failure
+failed_read-end : failed_read (Passed 4 []) ≡ 0
+failed_read-end = refl
+
+failed_read-failed : failed_read (Failed 4) ≡ 1
+failed_read-failed = refl

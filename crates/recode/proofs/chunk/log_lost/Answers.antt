@@ -23,7 +23,7 @@ returns-in_err-form-clause-hands g c =
       ok = search rules;
       err = λ p is. handed_on _ _ _ c.from_residual-in_err-form.ensures.1
           (λ more. stops_as _ (writers_view c.log_line.new.self) p _ c.args.index c.args.scalar (bytes ++ more) c.in_err-form.ensures.err.1 (is ∙ (form_of _).0 c.in_err-form.ensures.err.0) e.hands.ok none);
-      failures = record { writer = search rules; log = search rules; not_reader = search rules; not_other = search rules; same = search rules; last = handed_on _ _ _ c.from_residual-in_err-form.ensures.1 (rw c.in_err-form.ensures.err.1 tt) };
+      failures = record { writer = search rules; log = search rules; not_reader = search rules; not_other = search rules; output_calls = search rules; log_calls = search rules; same = search rules; last = handed_on _ _ _ c.from_residual-in_err-form.ensures.1 (rw c.in_err-form.ensures.err.1 tt) };
       told = e.hands.told;
     }
 

@@ -10,7 +10,7 @@ use Rattle.recode.specs.declared.engine.Engine.{Engine}
 use Rattle.recode.specs.declared.job.Policy.{Policy}
 use Rattle.recode.specs.laws.Items.{spared_append}
 use Rattle.recode.proofs.WriterLemmas.{hands_fault, hands_held, hands_ready, hands_then, hands_under, holding_more, lent_on, lent_start, told_then}
-use Rattle.recode.proofs.ShellLemmas.{between_none, found_some, holds_none, ok_of, pumps_bytes, pumps_done, pumps_held, pumps_more, pumps_start, pumps_stuck, pumps_under, ready_start, smaller_by, sound_start, spared_only}
+use Rattle.recode.proofs.ShellLemmas.{between_none, found_some, holds_none, ok_of, pumps_bytes, pumps_counts, pumps_done, pumps_held, pumps_more, pumps_start, pumps_stuck, pumps_under, ready_start, smaller_by, sound_start, spared_only}
 use Rattle.recode.proofs.chunk.write_chunk.Given.{Over}
 use Rattle.recode.proofs.chunk.write_chunk.Goals.{After-convert-result}
 use Rattle.recode.proofs.chunk.write_chunk.Goals as goal
@@ -45,6 +45,9 @@ returns-in_err-make_room-clause-err g c =
     rw (sym c.is_empty-last.ensures)
     (pumps_stuck c.calls.invariant.pumps (hands_fault [] c.from_residual.ensures.1 (hands_under c.in_err-make_room.ensures.hands)) c.requires.none (between_none c.args.pivot.now) c.requires.writers.1)
 
+pub returns-in_err-make_room-clause-failures : goal.returns-in_err-make_room-clause-failures
+returns-in_err-make_room-clause-failures g c = pumps_counts c.calls.invariant.pumps (hands_fault [] c.from_residual.ensures.1 (hands_under c.in_err-make_room.ensures.hands))
+
 pub returns-in_err-make_room-clause-told : goal.returns-in_err-make_room-clause-told
 returns-in_err-make_room-clause-told g c = told_then _ _ _ c.calls.invariant.pumps.hands.told c.in_err-make_room.ensures.hands.told
 
@@ -69,6 +72,11 @@ returns-in-InputEmpty-clause-err g c =
     let law = rw c.in-InputEmpty.is at (k.ensures.law c.args.policy) in
     let all = pumps_bytes (take k.result.2 k.new.dst) room (held g (goal.at.returns-in-InputEmpty-clause-err g c).After-convert-result) law in
     rw (sym c.is_empty-last.ensures) (pumps_stuck all (hands_under c.deliver_held.ensures.hands) c.requires.none (between_none c.args.pivot.now) c.requires.writers.1)
+
+pub returns-in-InputEmpty-clause-failures : goal.returns-in-InputEmpty-clause-failures
+returns-in-InputEmpty-clause-failures g c =
+    let room = pumps_held c.calls.invariant.pumps (hands_under c.in_ok-make_room.ensures.hands) in
+    pumps_counts room (hands_then (λ q is. spared_only q (take c.convert-result.result.2 c.convert-result.new.dst)) (held g (goal.at.returns-in-InputEmpty-clause-failures g c).After-convert-result) (hands_under c.deliver_held.ensures.hands))
 
 pub returns-in-InputEmpty-clause-told : goal.returns-in-InputEmpty-clause-told
 returns-in-InputEmpty-clause-told g c = told_then _ _ _ (told g (goal.at.returns-in-InputEmpty-clause-told g c).After-convert-result) c.deliver_held.ensures.hands.told
@@ -133,6 +141,12 @@ returns-in_err-take_found-in-Found-clause-err g c =
     let e = c.in_err-take_found-in-Found in
     let passed = hands_fault [] c.from_residual-in_err-take_found-in-Found.ensures.1 (hands_then (λ q is. spared_only q bytes) (held g (goal.at.returns-in_err-take_found-in-Found-clause-err g c).After-convert-result) e.ensures.hands) in
     rw (sym c.is_empty-last.ensures) (pumps_under (pumps_held i.pumps room) passed (rw c.in-Found.is at (k.ensures.law p)) c.requires.none (between_none c.args.pivot.now) c.requires.writers.1)
+
+pub returns-in_err-take_found-in-Found-clause-failures : goal.returns-in_err-take_found-in-Found-clause-failures
+returns-in_err-take_found-in-Found-clause-failures g c =
+    let room = pumps_held c.calls.invariant.pumps (hands_under c.in_ok-make_room.ensures.hands) in
+    let now = held g (goal.at.returns-in_err-take_found-in-Found-clause-failures g c).After-convert-result in
+    pumps_counts room (hands_fault [] c.from_residual-in_err-take_found-in-Found.ensures.1 (hands_then (λ q is. spared_only q (take c.convert-result.result.2 c.convert-result.new.dst)) now c.in_err-take_found-in-Found.ensures.hands))
 
 pub returns-in_err-take_found-in-Found-clause-target : goal.returns-in_err-take_found-in-Found-clause-target
 returns-in_err-take_found-in-Found-clause-target g c = (c.convert-result.ensures.law c.args.policy).target ∙ c.calls.invariant.pumps.turns.target

@@ -2,8 +2,9 @@ use Rattle.std.proofs.Common.{◌∙◌, Ok, refl, ap, subst, arith}
 use Rattle.recode.specs.Session.{IsOver, phase_after}
 use Rattle.recode.specs.calls.SessionView.{view_of}
 use Rattle.recode.specs.declared.job.Job.{Job}
+use Rattle.recode_log.specs.laws.Counts.{counts_none, counts_then}
 use Rattle.recode_log.specs.laws.Told.{none_yet}
-use Rattle.recode.proofs.TellLemmas.{none_yet_on, tells_none, tells_then}
+use Rattle.recode.proofs.TellLemmas.{none_yet_on, reads_on, reads_start, run_calls, tells_none, tells_then}
 use Rattle.recode.proofs.WriterLemmas.{kept_enough, kept_on, kept_start}
 use Rattle.recode.proofs.LatencyLemmas.{new_settled}
 use Rattle.recode.proofs.StepLemmas.{goes_on_start, goes_on_more, goes_on_finish, goes_on_stop}
@@ -21,6 +22,9 @@ run-init g c = record {
   reader_count = refl;
   writer_count = refl;
   log_count = refl;
+  reads = reads_start _ _;
+  writes = counts_none _;
+  lines = counts_none _;
   yet = none_yet _;
   told = tells_none _ _;
 }
@@ -48,6 +52,9 @@ run-preserved g c =
       reader_count = omega (arith, e.failures.reader, c.run.invariant.reader_count);
       writer_count = omega (arith, e.failures.writer, c.run.invariant.writer_count);
       log_count = omega (arith, e.failures.log, c.run.invariant.log_count);
+      reads = (let on = e.more (ap Ok c.in-Ok-More.field-0-is) in reads_on _ _ _ _ _ e.calls.call on.chunk c.run.invariant.reads c.run.invariant.kept.input e.calls.is e.calls.once on.given (omega (arith, on.grows, on.counted)));
+      writes = counts_then _ _ _ c.run.invariant.writes e.calls.writes;
+      lines = counts_then _ _ _ c.run.invariant.lines e.calls.lines;
       yet = (let on = e.more (ap Ok c.in-Ok-More.field-0-is) in none_yet_on _ _ _ _ e.calls.call on.chunk c.run.invariant.yet e.calls.is e.calls.once on.given (omega (arith, on.grows, on.counted)));
       told = tells_then _ _ _ _ _ _ c.run.invariant.yet c.run.invariant.told e.told.0;
     }
@@ -83,8 +90,11 @@ returns-in-Ok-Done-clause-told g c = tells_then _ _ _ _ _ _ c.run.invariant.yet 
 pub returns-in-Err-clause-told : goal.returns-in-Err-clause-told
 returns-in-Err-clause-told g c = tells_then _ _ _ _ _ _ c.run.invariant.yet c.run.invariant.told c.in-Err.ensures.told.0
 
-pub returns-in-Err-clause-last : goal.returns-in-Err-clause-last
-returns-in-Err-clause-last g c = c.in-Err.ensures.calls.last
+pub returns-in-Ok-Done-clause-calls : goal.returns-in-Ok-Done-clause-calls
+returns-in-Ok-Done-clause-calls g c = run_calls _ _ _ _ _ _ _ _ _ _ c.run.invariant.reads c.run.invariant.writes c.run.invariant.lines c.run.invariant.kept.input c.in-Ok-Done.ensures.calls refl tt
+
+pub returns-in-Err-clause-calls : goal.returns-in-Err-clause-calls
+returns-in-Err-clause-calls g c = run_calls _ _ _ _ _ _ _ _ _ _ c.run.invariant.reads c.run.invariant.writes c.run.invariant.lines c.run.invariant.kept.input c.in-Err.ensures.calls refl c.in-Err.ensures.calls.last
 
 pub returns-in-Ok-Done-clause-completes_told : goal.returns-in-Ok-Done-clause-completes_told
 returns-in-Ok-Done-clause-completes_told g c = completes_told _ _ _ _ (returns-in-Ok-Done-clause-told g c) c.args.job _ (returns-in-Ok-Done-clause-completes g c)

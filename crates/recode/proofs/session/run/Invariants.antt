@@ -1,6 +1,6 @@
-use Rattle.std.proofs.Common.{◌≡◌, ◌-◌}
+use Rattle.std.proofs.Common.{◌≡◌, ◌-◌, length}
 use Rattle.recode_log.specs.Call.{passed_by}
-use Rattle.recode_log.specs.Counted.{failures_of, history_of}
+use Rattle.recode_log.specs.Counted.{CountsWrites, failures_of, history_of}
 use Rattle.recode.specs.Told.{TellWhatPassed, told_in}
 use Rattle.recode.specs.calls.Buffers.{AreEnough, KeepSizes}
 use Rattle.recode.specs.calls.SessionView.{view_of}
@@ -8,6 +8,7 @@ use Rattle.recode.specs.Devices.{devices_in}
 use Rattle.recode.specs.declared.session.Phase.TheVariants.{Open}
 use Rattle.recode.specs.Step.{HasRun}
 use Rattle.recode_log.specs.laws.Told.{NoneYet}
+use Rattle.recode.proofs.TellLemmas.{ReadsSome}
 use Rattle.recode.proofs.session.run.Given as goal
 
 abbrev pub invariant-run : goal.invariant-run
@@ -21,6 +22,9 @@ invariant-run g l = record {
   reader_count : failures_of l.reader ≡ failures_of l.initial.reader;
   writer_count : failures_of l.writer ≡ failures_of l.initial.writer;
   log_count : failures_of l.log ≡ failures_of l.initial.log;
+  reads : ReadsSome (history_of l.initial.reader) (history_of l.reader) (length l.initial.buffers.input.now);
+  writes : CountsWrites l.initial.writer l.writer;
+  lines : CountsWrites l.initial.log l.log;
   yet : NoneYet (passed_by (history_of l.initial.reader)) (passed_by (history_of l.reader));
   told : TellWhatPassed (devices_in l.initial.reader l.initial.writer l.initial.log) (devices_in l.reader l.writer l.log)
       (told_in g.R.Read.remaining g.W.Write.contents g.L.Write.contents l.initial.reader l.initial.writer l.initial.log)

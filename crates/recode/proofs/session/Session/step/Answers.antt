@@ -1,5 +1,5 @@
 use Rattle.std.proofs.lemmas.List.{nil_from_length}
-use Rattle.std.proofs.Common.{◌≡◌, ◌≤◌, [], ap, arith, length, rules, take, Err}
+use Rattle.std.proofs.Common.{◌≡◌, ◌≤◌, [], ap, arith, length, refl, rules, sym, take, Err}
 use Rattle.std.proofs.lemmas.Bool.{ne_eqb, eqb-true}
 use Rattle.recode_log.specs.Call.{passed_by}
 use Rattle.recode_log.specs.Counted.{history_of, inner_of}
@@ -9,8 +9,9 @@ use Rattle.recode.specs.calls.Writers.{is_end}
 use Rattle.recode.proofs.GrowLemmas.{Gave-one, GaveToEnd-one}
 use Rattle.recode.proofs.StepLemmas.{stops_unread, stops_refused, stops_under}
 use Rattle.recode.proofs.LatencyLemmas.{finishes, steps_on}
+use Rattle.recode_log.specs.laws.Counts.{counts_none}
 use Rattle.recode_log.specs.laws.Told.{ended_before, reads_one, taken_none}
-use Rattle.recode.proofs.TellLemmas.{step_calls, last_of_writers}
+use Rattle.recode.proofs.TellLemmas.{last_of_writers, not_of_reader}
 use Rattle.recode.proofs.TraceLemmas.{handed_on}
 use Rattle.recode.proofs.session.Session.step.Given.{Over}
 use Rattle.recode.proofs.session.Session.step.Goals.{After-read}
@@ -76,18 +77,28 @@ returns-then-read-eq0-clause-told g c =
 -- The calls.
 
 pub returns-in_default-clause-calls : goal.returns-in_default-clause-calls
-returns-in_default-clause-calls g c = step_calls _ _ _ _ c.read.result c.read.new.buf _ _ c.read.ensures.call c.read.auto.buf (record { earlier = _; room = _; ends = c.in_default.ensures.call })
+returns-in_default-clause-calls g c =
+    record { call = _; once = c.in_default.ensures.call; is = c.read.auto.buf; failed = refl; writes = counts_none _; lines = counts_none _; last = record { earlier = _; room = _; ends = c.in_default.ensures.call } }
 
 pub returns-then-read-self-clause-calls : goal.returns-then-read-self-clause-calls
-returns-then-read-self-clause-calls g c = step_calls _ _ _ _ c.read.result c.read.new.buf _ _ c.read.ensures.call c.read.auto.buf tt
+returns-then-read-self-clause-calls g c = record { call = _; once = c.in-Ok.ensures.call; is = c.read.auto.buf; failed = refl; writes = counts_none _; lines = counts_none _; last = tt }
 
 pub returns-in_err-write_chunk-clause-calls : goal.returns-in_err-write_chunk-clause-calls
 returns-in_err-write_chunk-clause-calls g c =
     let e = c.in_err-write_chunk.ensures.failures in
-    step_calls _ _ _ _ c.read.result c.read.new.buf _ _ c.read.ensures.call c.read.auto.buf (handed_on _ _ _ c.from_residual.ensures.1 (last_of_writers {T = Unit {0}} (Err _) _ _ _ e.not_other (search rules)))
+    let same = c.from_residual.ensures.1 in
+    record {
+      call = _;
+      once = c.in-Ok.ensures.call;
+      is = c.read.auto.buf;
+      failed = sym (not_of_reader (Unit {0}) _ _ same e.not_reader);
+      writes = search rules;
+      lines = search rules;
+      last = handed_on _ _ _ same (last_of_writers {T = Unit {0}} (Err _) _ _ _ e.not_other (search rules));
+    }
 
 pub returns-then-read-eq0-clause-calls : goal.returns-then-read-eq0-clause-calls
-returns-then-read-eq0-clause-calls g c = step_calls _ _ _ _ c.read.result c.read.new.buf _ _ c.read.ensures.call c.read.auto.buf tt
+returns-then-read-eq0-clause-calls g c = record { call = _; once = c.in-Ok.ensures.call; is = c.read.auto.buf; failed = refl; writes = search rules; lines = search rules; last = tt }
 
 pub returns-else-read-eq0-clause-calls : goal.returns-else-read-eq0-clause-calls
-returns-else-read-eq0-clause-calls g c = step_calls _ _ _ _ c.read.result c.read.new.buf _ _ c.read.ensures.call c.read.auto.buf tt
+returns-else-read-eq0-clause-calls g c = record { call = _; once = c.in-Ok.ensures.call; is = c.read.auto.buf; failed = refl; writes = search rules; lines = search rules; last = tt }

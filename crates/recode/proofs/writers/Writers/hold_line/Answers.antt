@@ -1,6 +1,7 @@
 use Rattle.std.proofs.Common.{[], ◌∷◌, rules}
 use Rattle.recode.specs.calls.Held.{item_of, log_line_of}
 use Rattle.recode.proofs.WriterLemmas.{hands_after, hands_fault, holds_line, none_held}
+use Rattle.recode_log.specs.laws.Counts.{counts_none}
 use Rattle.recode_log.specs.laws.Told.{taken_none}
 use Rattle.recode.proofs.writers.Writers.hold_line.Goals as goal
 
@@ -15,7 +16,7 @@ returns g c =
       hands = hands_after e.hands (record {
         ok = holds;
         err = λ p any. tt;
-        failures = search rules;
+        failures = search (rules, counts_none);
         told = record { output = taken_none _ _; log = taken_none _ _ };
       });
     }

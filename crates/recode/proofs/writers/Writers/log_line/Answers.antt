@@ -1,6 +1,7 @@
 use Rattle.std.proofs.Common.{[], ◌∷◌, ◌∙◌, ap, ◌++◌, rules, take}
 use Rattle.recode.specs.calls.Held.{held_line_bytes, item_of}
 use Rattle.recode.proofs.WriterLemmas.{hands_after, hands_fault, lines_part, none_held, ok_map, writes_lines}
+use Rattle.recode_log.specs.laws.Counts.{counts_none}
 use Rattle.recode_log.specs.laws.Told.{taken_by, taken_none}
 use Rattle.recode.specs.declared.job.Fault.TheVariants.{Log}
 use Rattle.recode.proofs.TellLemmas.{last_failed}
@@ -18,6 +19,6 @@ returns-clause-hands g c =
     hands_after e.hands (record {
       ok = ok_map c.deliver.result c.deliver.ensures.ok (λ q. writes_lines _ _ _ line _ _ c.args.line none is q.2);
       err = λ p any. lines_part _ _ _ _ line _ _ c.args.line _ _ none is _ _ c.deliver.ensures.fault c.deliver.ensures.err;
-      failures = record { writer = search rules; log = search rules; not_reader = search rules; not_other = search rules; same = search rules; last = last_failed Log _ _ _ c.deliver.ensures.fault c.deliver.ensures.failed };
+      failures = record { writer = search rules; log = search rules; not_reader = search rules; not_other = search rules; output_calls = search (rules, counts_none); log_calls = search (rules, counts_none); same = search rules; last = last_failed Log _ _ _ c.deliver.ensures.fault c.deliver.ensures.failed };
       told = record { output = taken_none _ _; log = taken_by _ _ _ _ _ _ _ _ c.deliver.ensures.ok c.deliver.ensures.err };
     })

@@ -2,6 +2,7 @@ use Rattle.std.proofs.Common.{◌++◌, ◌∙◌, ap, map, rules, take}
 use Rattle.encoding_mem.specs.Coding.{reference_bytes}
 use Rattle.encoding_mem.specs.Items.{Byte}
 use Rattle.recode.proofs.WriterLemmas.{delivers_part, hands_after, hands_fault, holds, none_held, ok_map, delivers_more}
+use Rattle.recode_log.specs.laws.Counts.{counts_none}
 use Rattle.recode_log.specs.laws.Told.{taken_by, taken_none}
 use Rattle.recode.specs.declared.job.Fault.TheVariants.{Write}
 use Rattle.recode.proofs.TellLemmas.{last_failed}
@@ -20,7 +21,7 @@ returns-in_ok-deliver_held g c =
       hands = hands_after e.hands (record {
         ok = ok_map c.deliver.result c.deliver.ensures.ok (λ q. delivers_more _ _ _ _ held held _ e.none.line none none (rw is at q.2));
         err = λ p any. delivers_part _ _ _ _ _ held _ _ _ _ e.none.line none is _ _ c.deliver.ensures.fault c.deliver.ensures.err;
-        failures = record { writer = search rules; log = search rules; not_reader = search rules; not_other = search rules; same = search rules; last = last_failed Write _ _ _ c.deliver.ensures.fault c.deliver.ensures.failed };
+        failures = record { writer = search rules; log = search rules; not_reader = search rules; not_other = search rules; output_calls = search (rules, counts_none); log_calls = search (rules, counts_none); same = search rules; last = last_failed Write _ _ _ c.deliver.ensures.fault c.deliver.ensures.failed };
         told = record { output = taken_by _ _ _ _ _ _ _ _ c.deliver.ensures.ok c.deliver.ensures.err; log = taken_none _ _ };
       });
     }
@@ -30,7 +31,7 @@ returns-else-len-self g c = record {
   hands = record {
     ok = holds _ _ _ _ _ (c.put_all-self.ensures.prefix ∙ ap (λ x. take c.args.self.now.held c.args.self.now.buffer.now ++ x) c.write_reference-len.ensures.reference);
     err = λ p any. tt;
-    failures = search rules;
+    failures = search (rules, counts_none);
     told = record { output = taken_none _ _; log = taken_none _ _ };
   };
 }
