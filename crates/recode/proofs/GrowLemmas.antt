@@ -2,7 +2,7 @@
 use Rattle.std.proofs.Common.{◌≡◌, List, [], ◌∷◌, ◌++◌, ℕ, refl, sym, ap, ◌∙◌, append_assoc, append-nil}
 use Rattle.std.specs.List.{concat}
 use Rattle.std.proofs.lemmas.List.Folds.{concat-append}
-use Rattle.recode.specs.Devices.{Gave, GaveToEnd, Grew}
+use Rattle.recode.specs.Devices.{Gave, GaveThen, GaveToEnd, Grew}
 
 pub Grew-nil : (a : List ℕ) → Grew a a []
 Grew-nil a = sym (append-nil a)
@@ -24,10 +24,10 @@ Gave-one a b s e = (s ∷ [], e, append-nil s)
 pub GaveToEnd-one : (a b : List (List ℕ)) (s : List ℕ) → b ≡ a ++ (s ∷ []) → s ≡ [] → GaveToEnd a b s
 GaveToEnd-one a b s e none = ([], e ∙ ap (λ x. a ++ (x ∷ [])) none, sym none)
 
-pub GaveToEnd-after : (a b c : List (List ℕ)) (s t : List ℕ) → Gave a b s → GaveToEnd b c t → GaveToEnd a c (s ++ t)
-GaveToEnd-after a b c s t p q = (
+pub GaveThen-after : (a b c : List (List ℕ)) (s t last : List ℕ) → Gave a b s → GaveThen b c t last → GaveThen a c (s ++ t) last
+GaveThen-after a b c s t last p q = (
   p.0 ++ q.0,
-  q.1 ∙ ap (λ l. l ++ (q.0 ++ ([] ∷ []))) p.1 ∙ append_assoc a p.0 (q.0 ++ ([] ∷ [])) ∙ ap (λ l. a ++ l) (sym (append_assoc p.0 q.0 ([] ∷ []))),
+  q.1 ∙ ap (λ l. l ++ (q.0 ++ (last ∷ []))) p.1 ∙ append_assoc a p.0 (q.0 ++ (last ∷ [])) ∙ ap (λ l. a ++ l) (sym (append_assoc p.0 q.0 (last ∷ []))),
   concat-append p.0 q.0 ∙ ap (λ l. l ++ concat q.0) p.2 ∙ ap (λ l. s ++ l) q.2,
 )
 

@@ -1,6 +1,6 @@
 -- How a step's parts make its clauses. What is left if a conversion failed.
-use Rattle.std.proofs.Common.{Err, Ok, ◌⊎◌, ◌≡◌, ℕ, ◌+◌, ◌≤◌, ◌<◌, add-zero, arith, length-append, append_assoc, List, [], ◌++◌, length, Bool, true, false, refl, sym, ap, ◌∙◌, subst, append-nil, take, inl, inr}
-use Rattle.recode.proofs.GrowLemmas.{Gave-nil, Gave-trans, GaveToEnd-after, GaveToEnd-is, Grew-trans}
+use Rattle.std.proofs.Common.{Err, Ok, ◌⊎◌, ◌≡◌, ℕ, ◌+◌, ◌≤◌, ◌<◌, add-zero, arith, length-append, append_assoc, List, [], ◌∷◌, ◌++◌, length, Bool, true, false, refl, sym, ap, ◌∙◌, subst, append-nil, take, inl, inr}
+use Rattle.recode.proofs.GrowLemmas.{Gave-nil, Gave-one, Gave-trans, GaveThen-after, GaveToEnd-is, Grew-trans}
 use Rattle.encoding_mem.specs.Items.{Item}
 use Rattle.recode.specs.State.{State, to_write}
 use Rattle.recode.specs.Devices.{CountsFault, Devices, Failures, Gave, GaveToEnd, Grew, KeepsWritten, Written}
@@ -32,17 +32,17 @@ keeps_all w = record { output = refl; log = refl }
 pub stops_unread : (a b : List (List ℕ)) (w : Written) (n m : Failures) (limit : ℕ) (s : State) → b ≡ a → s.counts.read ≤ limit
     → Stops (record { reads = a; written = w; failures = n }) (record { reads = b; written = w; failures = m }) limit s Read
 stops_unread a b w n m limit s p within = record {
-  read = record { input = []; refused = []; ended = false; given = ([], p ∙ sym (append-nil a), refl); end = λ h. cc; none = λ h. cc; spared = λ h. refl };
+  read = record { input = []; refused = []; ended = false; given = ([], p ∙ sym (append-nil a), refl); end = λ h. cc; spared = λ h. refl; last = λ is. absurd (cc) };
   within = omega (arith, within);
   limited = λ is. absurd (cc);
   pays = nothing_under w s.policy Read false (to_write s) (λ t i c is. absurd (cc));
   untouched = λ h. (refl, keeps_all w);
 }
 
-pub stops_refused : (a b : List (List ℕ)) (w : Written) (n m : Failures) (limit : ℕ) (s : State) (chunk : List ℕ) → Gave a b chunk → s.counts.read ≤ limit → limit < s.counts.read + length chunk
+pub stops_refused : (a b : List (List ℕ)) (w : Written) (n m : Failures) (limit : ℕ) (s : State) (chunk : List ℕ) → b ≡ a ++ (chunk ∷ []) → s.counts.read ≤ limit → limit < s.counts.read + length chunk
     → Stops (record { reads = a; written = w; failures = n }) (record { reads = b; written = w; failures = m }) limit s TooLong
 stops_refused a b w n m limit s chunk p within past = record {
-  read = record { input = []; refused = chunk; ended = false; given = p; end = λ h. cc; none = λ h. cc; spared = λ h. absurd (h refl) };
+  read = record { input = []; refused = chunk; ended = false; given = Gave-one a b chunk p; end = λ h. cc; spared = λ h. absurd (h refl); last = λ is. ([], p, refl) };
   within = omega (arith, within);
   limited = λ is. past;
   pays = nothing_under w s.policy TooLong false (to_write s) (λ t i c is. absurd (cc));
@@ -53,7 +53,7 @@ stops_refused a b w n m limit s chunk p within past = record {
 pub stops_under : (before after : Devices) (limit : ℕ) (last : Bool) (s : State) (chunk : List ℕ) (f : Fault) → Gave before.reads after.reads chunk → (last ≡ true → GaveToEnd before.reads after.reads chunk)
     → of_other {T = Unit {0}} (Err f) ≡ 0 → s.counts.read + length chunk ≤ limit → WritesPrefixFor before.written after.written s.policy f last (λ r. to_write s (chunk ++ r)) → Stops before after limit s f
 stops_under before after limit last s chunk f p e writing within q = record {
-  read = record { input = chunk; refused = []; ended = last; given = rw (append-nil chunk) p; end = e; none = λ h. refl; spared = λ h. refl };
+  read = record { input = chunk; refused = []; ended = last; given = rw (append-nil chunk) p; end = e; spared = λ h. refl; last = λ is. absurd (omega (arith, rw is at writing)) };
   within = within;
   limited = λ is. absurd (omega (arith, rw is at writing));
   pays = q;
@@ -118,7 +118,7 @@ goes_on_more a b c limit s s1 s2 p q = record {
 pub goes_on_finish : (a b c : Devices) (limit : ℕ) (s s1 s2 : State) → HasRun a b limit s s1 → Finishes b c limit s1 s2 → Finishes a c limit s s2
 goes_on_finish a b c limit s s1 s2 p q = record {
   chunk = p.chunk ++ q.chunk;
-  given = GaveToEnd-after a.reads b.reads c.reads p.chunk q.chunk p.given q.given;
+  given = GaveThen-after a.reads b.reads c.reads p.chunk q.chunk [] p.given q.given;
   counted = omega (arith, p.counted, q.counted, length-append p.chunk q.chunk);
   within = q.within;
   pays = record {
@@ -144,9 +144,9 @@ goes_on_stop a b c limit s s1 f p q = record {
     refused = q.read.refused;
     ended = q.read.ended;
     given = subst (Gave a.reads c.reads) (sym (append_assoc p.chunk q.read.input q.read.refused)) (Gave-trans a.reads b.reads c.reads p.chunk (q.read.input ++ q.read.refused) p.given q.read.given);
-    end = λ h. GaveToEnd-after a.reads b.reads c.reads p.chunk q.read.input p.given (q.read.end h);
-    none = q.read.none;
+    end = λ h. GaveThen-after a.reads b.reads c.reads p.chunk q.read.input [] p.given (q.read.end h);
     spared = q.read.spared;
+    last = λ is. GaveThen-after a.reads b.reads c.reads p.chunk q.read.input q.read.refused p.given (q.read.last is);
   };
   within = omega (arith, p.counted, length-append p.chunk q.read.input, q.within);
   limited = λ is. omega (arith, p.counted, length-append p.chunk (q.read.input ++ q.read.refused), ap length (append_assoc p.chunk q.read.input q.read.refused), q.limited is);
@@ -206,7 +206,7 @@ module _ (before after : Devices) (flushed : Written) (log : List ℕ) (m : Fail
       let w = k.converted.whole in
       let all : List TaggedByte = tagged (trace j k.input) in
       record {
-        read = record { input = k.input; refused = []; ended = true; given = subst (Gave before.reads after.reads) (sym (append-nil k.input)) (GaveToEnd-is before.reads after.reads k.input k.given); end = λ h. k.given; none = λ h. refl; spared = λ h. refl };
+        read = record { input = k.input; refused = []; ended = true; given = subst (Gave before.reads after.reads) (sym (append-nil k.input)) (GaveToEnd-is before.reads after.reads k.input k.given); end = λ h. k.given; spared = λ h. refl; last = λ is. absurd (rw is at cause) };
         within = w.within;
         limited = λ is. absurd (rw is at cause);
         taken = all;

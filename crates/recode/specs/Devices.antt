@@ -25,9 +25,13 @@ pub record KeepsWritten (before after : Written) : Type 0 where
 abbrev pub Gave : (before after : List (List ℕ)) (bytes : List ℕ) → Type 0
 Gave before after bytes = (reads : List (List ℕ)) × (after ≡ before ++ reads) × (concat reads ≡ bytes)
 
--- calls of the reader gave these bytes, and the last of them gave none: the end
+-- calls of the reader gave these bytes, and then one gave those
+abbrev pub GaveThen : (before after : List (List ℕ)) (bytes last : List ℕ) → Type 0
+GaveThen before after bytes last = (reads : List (List ℕ)) × (after ≡ before ++ (reads ++ (last ∷ []))) × (concat reads ≡ bytes)
+
+-- calls of the reader gave these bytes, and then one gave none: the end
 abbrev pub GaveToEnd : (before after : List (List ℕ)) (bytes : List ℕ) → Type 0
-GaveToEnd before after bytes = (reads : List (List ℕ)) × (after ≡ before ++ (reads ++ ([] ∷ []))) × (concat reads ≡ bytes)
+GaveToEnd before after bytes = GaveThen before after bytes []
 
 -- What calls of the reader gave is of these bytes: they begin with it, and it is all of them if the last call gave none.
 pub record IsOf (before after : List (List ℕ)) (x : List ℕ) : Type 0 where

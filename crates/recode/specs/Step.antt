@@ -14,7 +14,7 @@ use Rattle.recode.specs.Fault.{EndsAtFault, reader_failures}
 use Rattle.recode.specs.Job.{log_lines}
 use Rattle.recode.specs.Policy.{reference_form}
 use Rattle.recode.specs.State.{State, WillBeFaithful, to_write}
-use Rattle.recode.specs.Devices.{Devices, Gave, GaveToEnd, Grew, KeepsWritten, Written}
+use Rattle.recode.specs.Devices.{Devices, Gave, GaveThen, GaveToEnd, Grew, KeepsWritten, Written}
 use Rattle.recode.specs.TaggedByte.{TaggedByte, Wrote, IsPrefix, tagged}
 use Rattle.recode.specs.calls.TraceToWrite.{AreSound}
 use Rattle.recode.specs.Work.{TakesAtLeast, TakesCalls}
@@ -89,16 +89,16 @@ pub record Finishes (before after : Devices) (limit : ℕ) (s s' : State) : Type
   pub least : TakesAtLeast (3 * (s'.counts.bad - s.counts.bad) + 2 * min 1 (length chunk) + 2) s.counts s'.counts
   pub sound : AreSound s'.decoder.pending s'.counts
 
--- What was read when a fault came: bytes that were counted, then bytes that were refused, which `TooLong` does alone;
--- and whether their end was read.
+-- What was read when a fault came: bytes that were counted, then bytes that were refused, which `TooLong` does alone, to all
+-- that the last call gave; and whether their end was read.
 pub record WasRead (before after : List (List ℕ)) (fault : Fault) : Type 0 where
   pub input : List ℕ
   pub refused : List ℕ
   pub ended : Bool
   pub given : Gave before after (input ++ refused)
   pub end : ended ≡ true → GaveToEnd before after input
-  pub none : ended ≡ true → refused ≡ []
   pub spared : fault ≢ TooLong → refused ≡ []
+  pub last : fault ≡ TooLong → GaveThen before after input refused
 
 -- What was written is a prefix of what was still to be written for the bytes that were read and counted, and any bytes
 -- to come (none if the end was read). If the policy stopped it, what was written is all of that, up to the line of the

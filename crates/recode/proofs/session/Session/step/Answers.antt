@@ -21,7 +21,7 @@ pub returns-in_default-clause-fault : goal.returns-in_default-clause-fault
 returns-in_default-clause-fault g c = stops_unread _ _ _ _ _ _ _ (passed_failed _ _ _ c.in_default.ensures.call) (search rules)
 
 pub returns-then-read-self-clause-fault : goal.returns-then-read-self-clause-fault
-returns-then-read-self-clause-fault g c = stops_refused _ _ _ _ _ _ _ _ (Gave-one _ _ _ (passed_one _ _ _ _ c.in-Ok.ensures.call)) (search rules)
+returns-then-read-self-clause-fault g c = stops_refused _ _ _ _ _ _ _ _ (passed_one _ _ _ _ c.in-Ok.ensures.call) (search rules)
     (omega (arith, c.in-Ok.ensures.bound.1, c.if-read-self.true))
 
 pub returns-in_err-write_chunk-clause-fault : goal.returns-in_err-write_chunk-clause-fault
