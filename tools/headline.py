@@ -37,21 +37,21 @@ GROUPS = [
 CODECS = ("encoding_codecs/", "encoding_tables/", "encoding_front/specs/Codecs", "encoding_front/specs/EncodingTable", "encoding_mem/specs/Utf8")
 
 THEOREM = """
-For every valid job, every reader, writer and log, and all buffers that are enough, `recode::run` returns, and one of two holds.
+For every valid job, every reader, writer and log, and all buffers that are enough, `recode::run` returns, if each call of a device does and fewer than 2^64 - 1 of them have failed before, and one of two holds.
 
-- **Whole.** It returns a report. Calls of the reader gave an input, and the last of them gave none; the input is within the job's limit, and the policy stops nothing in it. What calls of the writer took grew by exactly the output that the job's definitions give for that input, and what calls of the log took by exactly its log. No call failed. The report has the input's length, its malformed sequences, its lost characters and its source encoding, and says `faithful` exactly if nothing is malformed and the output decodes to the input's text.
-- **A fault, with its cause.** `Read`, `Write` or `Log`: one call failed, and it was the last of that device. `TooLong`: what was read passes the limit. `Unmappable`: the policy stops, and all was written up to the line of the first lost character. What was written is a prefix, in the one order of output and log, of what is written for every input that begins with what was read; after `Read` and `TooLong` it is all that these bytes decide.
+- **Whole.** It returns a report, and no call failed. Reads gave an input, and one more gave nothing: the end. The input is within the job's limit, and the policy stops nothing in it. What calls of the writer took grew by exactly the output that the job's definitions give for that input, and what calls of the log took by exactly its log. The report has the input's length, the numbers of its malformed sequences and lost characters, and its source encoding, and says `faithful` exactly if nothing is malformed and the output decodes to the input's text.
+- **A fault, with its cause.** `Read`, `Write` or `Log`: one call failed, of that device, and was its last; no other failed. `TooLong`: what was read passes the limit, and not before the last read. `Unmappable`: the policy stops, and all was written up to the first lost character's line, with it. What was written is a prefix, in the one order of output and log, of what is written for every input that begins with what was read (but for a read that was refused), or, if the end was read, for that input. After `Read` it is all that these bytes decide, after `TooLong` all that those before the last read decide.
 
-The reader is called by reads alone, each with room of the whole input buffer, until one gives no bytes or a fault comes; it is not called after that.
+The reader is called by reads alone, each with room of the whole input buffer. Each but the last gave some bytes: so none comes after the end or after a failed one.
 
-All this is said of files, pipes and standard streams as of devices in memory: of the calls that were made of them, and what these passed.
+It holds of files, pipes and standard streams as it does of devices in memory: it speaks of the calls that were made of them, and of what these passed.
 """
 
 CHAIN = """
 | From | What it adds to what it calls | Contract |
 |---|---|---|
 | `recode::run` | the theorem above | [session.rt](../crates/recode/src/session.rt) |
-| `recode::convert` | Flushes both writers; status 0 if nothing was lost, 1 if something was, 4 after a fault, whose message then ends the log (`Converts`, `Breaks`) | [conversion.rt](../crates/recode/src/conversion.rt) |
+| `recode::convert` | Flushes both writers; status 0 if the run was faithful, 1 if not, 4 after a fault, whose message then ends the log (`Converts`, `Breaks`) | [conversion.rt](../crates/recode/src/conversion.rt) |
 | `recode::program` | Reads the words, loads the indexes that the two encodings need, makes job and buffers; status 2 or 3, with a message, if there is no valid job: then nothing is read | [entry.rt](../crates/recode/src/entry.rt) |
 | `recode_system::answer` | The words of a command line as text; the files of the system as the source of indexes | [command_line.rt](../crates/recode_system/src/command_line.rt) |
 | `main` of `recode_cli` | Hands standard input, output and error to `answer`, and its status to the system; no contract | [main.rt](../crates/recode_cli/src/main.rt) |
@@ -59,22 +59,24 @@ CHAIN = """
 
 TRUSTED = """
 - The prover, its standard library and its two compilers; the system, and that a call of a stream passes what it says.
-- `Recorded` of `recode_log`: that each of its three methods calls the device once and puts into the history what the device answered. Its lines are few ([recorded.rt](../crates/recode_log/src/recorded.rt)); tests with devices that count their calls try them. The prover's own proofs cannot choose another history; a proof by hand could, so `make lint` names each that there is.
+- `Recorded` of `recode_log`: that each of its three methods calls the device once and puts into the history what the device answered. Its lines are few ([recorded.rt](../crates/recode_log/src/recorded.rt)); tests with devices that count their calls try them. `run` has no other way to a device, of which it knows no more than that it is a reader or a writer. The prover's own proofs cannot choose another history; a proof by hand could, so `make lint` names each that there is.
 - `main` of `recode_cli`, a few lines with no contract.
 - That calls of devices return: if one does not, `run` does not either.
 - That these definitions say what the Encoding Standard says. They are executed: `make definitions` compares them with a plain program that follows the steps of the standard, the pieces of every input of up to two bytes in each of the 40 encodings, longer ones at random, what is written for every scalar value, whole jobs with output, log and verdict, and the records of the theorem themselves on outcomes that are right and on outcomes that are wrong in one place. The gate does a sample, in which nothing differs; a run of all has not been seen to its end yet. Rows worked by hand stand in `specs/examples` of each crate.
 - That the indexes are those of the standard: they were accepted (`IsValidJob`), and are what their files say.
+- That this page is what the prover has proved: `tools/headline.py` copies clauses and definitions from the sources, and `make lint` compares it.
 """
 
 HOW_TO_READ = """
-- `ensures NAME { .. }` is what the function promises. `reads_of` has the bytes that each call of the reader gave that did not fail, and `written_in` those that calls of the writer and of the log took, from the first call on. `Counted` keeps this history of its calls for clauses alone; it takes no memory. What a device tells of its own bytes, if it does, is the same (`completes_told`, `fails_told`).
+- `ensures NAME { .. }` is what the function promises. `reads_of` has the bytes that each call of the reader gave that did not fail, and `written_in` those that calls of the writer and of the log took, from the first call on. `Counted` keeps this history of its calls for clauses alone; it takes no memory. What a device tells of its own bytes, if it does, is the same: that say other clauses, which are not shown (`told`, `completes_told`, `fails_told`).
 - `x.old` is what a parameter refers to before the call, `x.new` after it, `x.now` if the call does not change it; `x.entry` is the value that was passed, `result` what is returned.
 - `IfOk result (λ p. ..)` says the rest of `p` if the result is `Ok p`, and `IfErr` of the error. `A → B` is *if A then B*, `A × B` *A and B*, `A ⊎ B` *A or B*, `A ↔ B` *A exactly if B*, `¬ A` *not A*, `(x : A) → ..` *for each x*, `(x : A) × ..` *there is an x*. `⊥` is false, `Unit {0}` true, and `IsTrue b` says that the Boolean b is `true`.
 - `record R .. where` names each of its parts, and holds if all of them do. **A part that is data means *there is***: that `Completes` has a part `input : List ℕ` says that there is an input of which its other parts are true. A `data` lists what a value can be. `abbrev` and `unfoldable` begin definitions alike. The first equation that fits counts. `≡` is equality, `∷` puts one element before a list, `++` joins two, `p.0` and `p.1` are the parts of a pair.
 - A *piece* is a sequence of bytes that is decoded as one: well-formed, with the scalar values of its characters, or malformed. A *trace* is what a conversion writes, as items in their one order: bytes of the output, and lines of the log.
 - A byte is a number below 256, a character its scalar value. In comments, bytes of encodings and code points (U+) are hexadecimal, other numbers decimal. `slice_index list k` is the element at k, and 0 past the end; `slice_range list from to` has those from `from` to below `to`; `digits 16 true n` are the hexadecimal digits of n in capitals, with no zero before them.
-- The premises: `IsValidJob` says that the indexes of the two encodings were accepted, and that the limit is at most 2^48 (`Job::is_valid` tests it); `AreEnough` that the input buffer has room for a byte and the others for a character, and that the text in between and what is read back have one form (`Buffers::is_enough`); and `HaveFailedAtMost` that at most 2^64 - 2 calls of each device have failed before (`Counted::failures`).
-- What the clauses do not say: that a reader who takes byte order marks finds none at the start of the output.
+- Bytes *decide* a piece if it is the same whatever bytes follow. A *set* is what ISO-2022-JP is switched to by an escape; all other encodings have one, `Ascii`.
+- The premises: `IsValidJob` says that the job's tables hold no index with a fault, that those of the source and of the output encoding are there, and that the limit is at most 2^48 (`Job::is_valid` tests it); `AreEnough` that the input buffer has room for a byte and the others for a character, and that the two buffers of text, the pivot between decoder and encoder and that of what is read back, have one form (`Buffers::is_enough`); and `HaveFailedAtMost` that at most 2^64 - 2 calls of each device have failed before (`Counted::failures`).
+- What the clauses do not say. How calls of different devices follow one another, but for the order of output and log that a fault shows: since any call may fail, a run that writes in another order shows it at some fault. What a call that failed was offered. How many writes there are, and how many bytes each has; that no writer is flushed in between; that one is flushed at the end (`convert` does so). How much was decided and not yet written at `Write` and `Log`. What stands in the buffers afterwards. That a reader who takes byte order marks finds none at the start of the output; that what a writer had taken before the run fits what it took then.
 """
 
 WORK = ", on the work: the number of calls of decoders and encoders that a report has is bounded from below and from above. That this number is the number of calls is read off the code, where each call counts itself"
@@ -117,6 +119,19 @@ def table(seen):
         yield ""
 
 
+def parts_of(lines):
+    """The fields of a struct, or the variants of an enum, that begins with these lines."""
+    body = []
+    for line in lines[1:]:
+        if line.startswith("}"):
+            break
+        text = line.strip()
+        if text and not text.startswith(("//", "#[", "ghost ")):
+            body.append(re.sub(r"^pub(\([a-z]+\))? ", "", text))
+    parts = re.split(r",\s*(?![^{(<]*[})>])", " ".join(body).strip(" ,"))
+    return "%d of them" % len(parts) if len(parts) > 12 else ", ".join("`%s`" % part.strip() for part in parts)
+
+
 def type_rows(modules):
     """A row for each type of the code that these modules of the prover declare."""
     rows = []
@@ -125,13 +140,14 @@ def type_rows(modules):
         path = "crates/%s/src/%s.rt" % (crate, "/".join(place))
         if not os.path.isfile(os.path.join(TOP, path)):
             continue
-        doc = []
-        for number, line in enumerate(reference.read(os.path.join(TOP, path)).split("\n"), 1):
+        doc, source_lines = [], reference.read(os.path.join(TOP, path)).split("\n")
+        for number, line in enumerate(source_lines, 1):
             if line.startswith("///"):
                 doc.append(line[3:].strip())
             elif re.match(r"pub(?:\(crate\))? (?:struct|enum) %s\b" % name, line):
                 said = re.split(r"(?<=\.) ", " ".join(doc))[0].replace("|", "\\|")
-                rows.append("| `%s` | %s | [%s:%d](../%s#L%d) |" % (name, said, os.path.basename(path), number, path, number))
+                parts = parts_of(source_lines[number - 1 :]).replace("|", "\\|")
+                rows.append("| `%s` | %s | %s | [%s:%d](../%s#L%d) |" % (name, said, parts, os.path.basename(path), number, path, number))
             elif not line.startswith("#["):
                 doc = []
     return sorted(rows)
@@ -174,12 +190,12 @@ def page():
     all_seen, library, types = closure(words_of(clauses + premises), found, imports)
     lines = ["# The headline", "", "<!-- Written by tools/headline.py from the sources; do not edit. -->", "", "## The theorem", THEOREM.rstrip("\n"), ""]
     lines += ["## In the prover's words", "", "Of `recode::run` ([%s](../%s)), if these conditions hold:" % (place, place.replace(":", "#L")), ""]
-    lines += ["    " + line for line in premises] + ["", "it promises:", ""] + ["    " + line for line in clauses] + [""]
+    lines += ["    " + line for line in premises] + ["", "it promises (with the bound on the work, below, and that the buffers keep their sizes):", ""] + ["    " + line for line in clauses] + [""]
     lines += ["This stands on %d definitions, %d lines, in %d files; with what the conditions stand on, on %d definitions, %d lines, in %d files; and on %d words of the standard library. That it returns is the prover's check of each loop." % (count(seen) + count(all_seen) + (len(library),)), ""]
     lines += ["## How to read it", HOW_TO_READ.rstrip("\n"), "", "## What is trusted", TRUSTED.rstrip("\n"), ""]
     lines += ["## From the theorem to the program", CHAIN.rstrip("\n"), ""]
     lines += ["## The definitions, down to pieces and coding", ""] + list(source(all_seen))
-    lines += ["### Types of the code", "", "| Type | What it is | Place |", "|---|---|---|"] + type_rows(types) + [""]
+    lines += ["### Types of the code", "", "| Type | What it is | Its parts | Place |", "|---|---|---|---|"] + type_rows(types) + [""]
     lines += ["## The catalogue of codecs", "", "Each can be checked alone, beside its section of the standard.", ""]
     lines += table({d: hop for d, hop in all_seen.items() if not shown(d)})
     lines += ["## Theorems beside it", ""]

@@ -190,8 +190,8 @@ impl<'t> Session<'t> {
 }
 
 /// Converts the whole input of a job, step by step, and returns the report on it. It takes at most
-/// as many steps as the limit has bytes, and one more. Each reads once, with room of the whole input
-/// buffer; the reader is not called again after a read that gave no bytes, nor after a fault.
+/// as many steps as the limit has bytes, and one more. Each reads once, with room of the whole
+/// input buffer; the reader is not called again after a read that gave no bytes, nor after a fault.
 ///
 /// - `Ok`: the input was read to its end, and is within the limit. Exactly its output and its log
 ///   were written. They depend on the input and the job alone: not on how reads are cut, on the
