@@ -20,7 +20,8 @@ fn main() -> io::Result<()> {
         input.consume(read);
         offset += read;
         if let DecoderResult::Malformed(length, after) = result {
-            eprintln!("{}: {length} bytes are malformed", offset - usize::from(length) - usize::from(after));
+            let start = offset - usize::from(length) - usize::from(after);
+            eprintln!("malformed: {length} from offset {start} on");
             text.push('\u{FFFD}');
         }
         // Whole lines, or, if a line is as long as the room, what there is of it.
