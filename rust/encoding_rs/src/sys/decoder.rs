@@ -125,7 +125,7 @@ impl Decoder {
         let handle = self.handle.get_mut().unwrap_or_else(PoisonError::into_inner);
         let mut progress = raw::Progress::default();
         let status = export(handle, src.as_ptr(), src.len(), dst, room, last, &mut progress);
-        assert_eq!(status, raw::OK, "the library decodes: status");
+        assert!(status == raw::OK, "the library does not decode: status {status}");
         let result = match progress.outcome {
             raw::INPUT_EMPTY => DecoderResult::InputEmpty,
             raw::OUTPUT_FULL => DecoderResult::OutputFull,
@@ -166,6 +166,9 @@ fn to_utf8(at_error: OnMalformed) -> raw::Decode<u8> {
 
 /// Panics unless a decoder or an encoder was made.
 pub(super) fn made(status: u8) {
-    assert_ne!(status, raw::NO_MEMORY, "memory was refused for a decoder or an encoder");
-    assert_eq!(status, raw::OK, "the library makes a decoder or an encoder: status");
+    match status {
+        raw::OK => {}
+        raw::NO_MEMORY => panic!("memory was refused for a decoder or an encoder"),
+        _ => panic!("the library makes no decoder or encoder: status {status}"),
+    }
 }

@@ -98,7 +98,7 @@ impl Encoder {
         let handle = self.0.get_mut().unwrap_or_else(PoisonError::into_inner);
         let mut progress = raw::EncoderProgress::default();
         let status = export(handle, src.as_ptr(), src.len(), dst, room, last, &mut progress);
-        assert_eq!(status, raw::OK, "the library encodes: status");
+        assert!(status == raw::OK, "the library does not encode: status {status}");
         let result = match progress.outcome {
             raw::INPUT_EMPTY => EncoderResult::InputEmpty,
             raw::OUTPUT_FULL => EncoderResult::OutputFull,
