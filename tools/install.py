@@ -177,10 +177,12 @@ def remove(folder):
 
 
 def sources(place, folder):
-    """The files of a folder of the repository, as far as it has them, with their place."""
+    """The files of a folder of the repository, as far as it has them, with their place. Cargo's settings, which are for tests
+    on Debian, are left out."""
     tracked = subprocess.run(["git", "ls-files", place], cwd=TOP, capture_output=True, text=True, check=True)
     for path in tracked.stdout.split("\n")[:-1]:
-        copied(path, os.path.join(folder, path), 0o644)
+        if "/.cargo/" not in path:
+            copied(path, os.path.join(folder, path), 0o644)
 
 
 def python_module(folder):
