@@ -7,9 +7,10 @@ The programs run by a table of command lines (`command_lines.py`), on random inp
 converts, too (`sample.py`), with memory refused (`refused_memory.py`), with hostile index texts (`hostile_indexes.py`)
 and on hostile streams (`hostile_streams.py`), and `recode-places` on the logs of runs (`places.py`). The library for C is
 built, loaded and called (`c_interface.py`). What is stored is compared with what plain programs say (`stored.py`), and
-what the definitions give with what such a program gives (`compare_definitions.py`).
+what the definitions give with what such a program gives (`compare_definitions.py`). The crate for Rust is tested over the
+library that was built (`rust_crate.py`).
 Each of these steps counts as one more in the last line. Two of them run at a time, since the machine of the gate has
-two processors. The status is 0 if nothing failed.
+two processors; the last is alone. The status is 0 if nothing failed.
 """
 
 import concurrent.futures
@@ -31,6 +32,7 @@ import hostile_indexes
 import hostile_streams
 import places
 import refused_memory
+import rust_crate
 import sample
 import stored
 
@@ -49,6 +51,8 @@ STEPS = [
     ("library for C", c_interface.faults),
     ("definitions", compare_definitions.faults),
 ]
+# What wants the library that a step has built.
+LAST = ("crate for Rust", rust_crate.faults)
 
 
 def ci():
@@ -81,6 +85,8 @@ def tried_all():
                 yield name, *run.result()
             except concurrent.futures.process.BrokenProcessPool as fault:
                 yield name, "", [str(fault)]
+    name, faults = LAST
+    yield name, *tried(faults)
 
 
 def main():

@@ -8,9 +8,9 @@ It is the programs, the library for C with its header, its file for pkg-config a
 their completion in bash, and the index texts. What is called as `recode` and `recode-places` are commands that hand the
 folder of these to the programs.
 
-The archive, `out/jillapun-VERSION-x86_64-linux.tar.gz`, has the Python module and the licences too, and the wheel if `make
-wheel` has made one: it is for machines without `rt`. All finds the others by its own place, so it can be unpacked anywhere.
-It is the same, byte by byte, for the same files.
+The archive, `out/jillapun-VERSION-x86_64-linux.tar.gz`, has the Python module, the crate for Rust and the licences too, and
+the wheel if `make wheel` has made one: it is for machines without `rt`. All finds the others by its own place, so it can be
+unpacked anywhere. It is the same, byte by byte, for the same files.
 """
 
 import argparse
@@ -84,6 +84,7 @@ README = """Jillapun {version}, for Linux on x86-64: text encodings, by the Enco
     lib/pkgconfig                    PKG_CONFIG_PATH for `pkg-config --cflags --libs jillapun`
     python                           the module for Python, if it is here: PYTHONPATH, over lib/libjillapun.so
     jillapun-*.whl                   the module with library and indexes for `pip install`, if it is here
+    rust/encoding_rs                 the crate for Rust, over lib/libjillapun.a: `cargo doc` there has its pages
     share/recode/indexes             the indexes of the standard: `jillapun_tables_new` loads them
     COPYRIGHT, LICENSE-*             the licences
 
@@ -175,11 +176,17 @@ def remove(folder):
             os.rmdir(path)
 
 
-def python_module(folder):
-    """The Python module, as far as the repository has it."""
-    tracked = subprocess.run(["git", "ls-files", "python/jillapun"], cwd=TOP, capture_output=True, text=True, check=True)
+def sources(place, folder):
+    """The files of a folder of the repository, as far as it has them, with their place. Cargo's settings, which are for tests
+    on Debian, are left out."""
+    tracked = subprocess.run(["git", "ls-files", place], cwd=TOP, capture_output=True, text=True, check=True)
     for path in tracked.stdout.split("\n")[:-1]:
-        copied(path, os.path.join(folder, path), 0o644)
+        if "/.cargo/" not in path:
+            copied(path, os.path.join(folder, path), 0o644)
+
+
+def python_module(folder):
+    sources("python/jillapun", folder)
 
 
 def commit_time():
@@ -214,6 +221,7 @@ def archive():
     with tempfile.TemporaryDirectory() as folder:
         install(folder, "${pcfiledir}/../..")
         python_module(folder)
+        sources("rust/encoding_rs", folder)
         for wheel in glob.glob(os.path.join(TOP, "out", "jillapun-%s-*.whl" % version)):
             copied(wheel, os.path.join(folder, os.path.basename(wheel)), 0o644)
         for licence in LICENCES:

@@ -24,6 +24,7 @@
 - Each source file but a crate's root begins with a line that says what it is for (`//!`).
 - No function is proved by hand but those that `HAND_PROOFS` names: such a proof could choose a history of devices.
 - `include/jillapun.h` is what `tools/c_header.py` writes, and man/jillapun.3 says what it says (`tools/c_manual.py`).
+- The crate for Rust declares the library as the header does (`tools/rust_crate.py`).
 - The patches of docs/examples apply.
 - README.md and the man pages say what the help says (`tools/usage.py`), and README.md has fewer than 120 lines.
 """
@@ -46,6 +47,7 @@ import edit_record
 import edits_table
 import headline
 import reference
+import rust_crate
 import usage
 
 TOP = os.path.join(os.path.dirname(os.path.abspath(__file__)), "..")
@@ -317,6 +319,7 @@ CHECKS = (
     headline.faults,
     c_header.faults,
     c_manual.faults,
+    rust_crate.header_faults,
 )
 
 
