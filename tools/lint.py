@@ -25,7 +25,8 @@
 - No function is proved by hand but those that `HAND_PROOFS` names: such a proof could choose a history of devices.
 - `include/jillapun.h` is what `tools/c_header.py` writes, and man/jillapun.3 says what it says (`tools/c_manual.py`).
 - The patches of docs/examples apply.
-- README.md and the man pages say what the help says (`tools/usage.py`), and README.md has fewer than 120 lines.
+- README.md and the man pages say what the help says (`tools/usage.py`, `tools/python_manual.py`), and README.md has
+  fewer than 120 lines.
 """
 
 import collections
@@ -45,6 +46,7 @@ import edit_files
 import edit_record
 import edits_table
 import headline
+import python_manual
 import reference
 import usage
 
@@ -317,6 +319,7 @@ CHECKS = (
     headline.faults,
     c_header.faults,
     c_manual.faults,
+    python_manual.faults,
 )
 
 
