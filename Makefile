@@ -47,6 +47,7 @@ doc:
 usage:
 	@python3 tools/usage.py
 	@python3 tools/c_manual.py
+	@python3 tools/python_manual.py
 
 # The edits that the gate leaves out, each of which the prover or a run must refuse: those that were not tried on the code as
 # it is. What came of each is kept at once, and goes into docs/STATUS.md. For a release, since it can take hours: it can be

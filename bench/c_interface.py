@@ -1,13 +1,13 @@
 #!/usr/bin/env python3
 """Measures the library for C: see docs/PERFORMANCE.md.
 
-    python3 bench/c_interface.py [--rounds N] [--megabytes N] [--write] [WORD..]
+    python3 bench/c_interface.py [--rounds N] [--megabytes N] [--short] [--write] [WORD..]
 
 `jillapun_convert` from memory to memory, called through the Python package, and `jillapun_converter_step`, into a room of
 64 KiB that is used again, beside `recode` and, where cargo and the crate are there, a program over encoding_rs, on the
 inputs of `programs.py`; and texts of 20 bytes beside Python's own codecs.
 It wants `recode` built (`make build`) and the library (`make c`, or JILLAPUN_LIBRARY). With words it measures the
-workloads that have one of them in their names.
+workloads that have one of them in their names; with --short the texts of 20 bytes alone, which want only the library.
 
 What counts is processor time: of the calling thread for a call, of a whole run for a program, which reads its input and
 its indexes and writes to /dev/null. Rounds of two sides take turns, and a ratio is the median of the ratios of neighbours,
@@ -41,8 +41,13 @@ SHORT = [
     ("Japanese, UTF-8", "日本語テキスa ", "utf-8", "utf-8"),
     ("Western, windows-1252", "vingt octets déjà là", "windows-1252", "cp1252"),
     ("Japanese, Shift_JIS", "日本語のテキスト十字", "shift_jis", "cp932"),
+    ("Japanese, EUC-JP", "日本語のテキスト十字", "euc-jp", "euc_jp"),
+    ("Japanese, ISO-2022-JP", "日本語テキスト", "iso-2022-jp", "iso2022_jp"),
     ("Chinese, gb18030", "二十个字节的中文文本", "gb18030", "gb18030"),
+    ("Chinese, GBK", "二十个字节的中文文本", "gbk", "gbk"),
 ]
+# The calls of a round of these, and how many rounds there are for one of the workloads.
+CALLS, TIMES = 300, 20
 
 
 class Call:
@@ -148,7 +153,7 @@ def timed(work, count):
     return (time.thread_time() - start) / count * 1e6
 
 
-def least(works, rounds, count=300):
+def least(works, rounds, count=CALLS):
     """The least processor time of a call of each, in microseconds, of rounds that take turns: whatever disturbs a call
     makes it longer."""
     return [min(times) for times in zip(*([timed(work, count) for work in works] for _ in range(rounds)))]
@@ -168,9 +173,10 @@ def short_rows(given):
             lambda: data.decode(codec, "replace"),
             lambda: jillapun.encode(text, label),
             lambda: text.encode(codec, "xmlcharrefreplace"),
+            lambda: jillapun.convert(data, label, "utf-8"),
             lambda: bare.convert_all(*words),
         ]
-        yield [title, *("%.1f" % spent for spent in least(works, 20 * given.rounds))]
+        yield [title, *("%.2f" % spent for spent in least(works, TIMES * given.rounds))]
 
 
 def shown(rows):
@@ -184,22 +190,28 @@ def main():
     parser.add_argument("--rounds", type=int, default=15)
     parser.add_argument("--megabytes", type=int, default=8)
     parser.add_argument("--program", default=programs.RECODE)
+    parser.add_argument("--short", action="store_true")
     parser.add_argument("--write", action="store_true")
     parser.add_argument("words", nargs="*")
     given = parser.parse_args()
     given.linear = False
     about = programs.machine(given)
     print(about, flush=True)
-    with tempfile.TemporaryDirectory(dir="/dev/shm" if os.path.isdir("/dev/shm") else None) as work:
-        whole = list(shown(whole_rows(given, work)))
+    if not given.short:
+        with tempfile.TemporaryDirectory(dir="/dev/shm" if os.path.isdir("/dev/shm") else None) as work:
+            whole = list(shown(whole_rows(given, work)))
+        if given.write:
+            head = ["Workload", "`jillapun_convert`", "by steps"]
+            for name in ("recode", "encoding_rs"):
+                head += [name, "to " + name, "by steps, to " + name]
+            programs.write(PAGE, "c interface", about + "\n\n" + programs.table(head[: len(whole[0])], whole))
     short = list(shown(short_rows(given)))
     if given.write:
-        head = ["Workload", "`jillapun_convert`", "by steps"]
-        for name in ("recode", "encoding_rs"):
-            head += [name, "to " + name, "by steps, to " + name]
-        programs.write(PAGE, "c interface", about + "\n\n" + programs.table(head[: len(whole[0])], whole))
-        head = ["20 bytes", "`jillapun.decode`", "Python", "`jillapun.encode`", "Python", "`jillapun_convert` alone"]
-        programs.write(PAGE, "short texts", programs.table(head, short))
+        about = "%s; Python %s, the least of %d rounds of %d calls." % (
+            about.rpartition("; ")[0], sys.version.split()[0], TIMES * given.rounds, CALLS)  # fmt: skip
+        head = ["20 bytes", "`jillapun.decode`", "Python", "`jillapun.encode`", "Python", "`jillapun.convert`"]
+        text = programs.table([*head, "`jillapun_convert` alone"], short)
+        programs.write(PAGE, "short texts", about + "\n\n" + text)
 
 
 if __name__ == "__main__":

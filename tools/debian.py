@@ -9,7 +9,7 @@ It writes these to `out/debian`, by `dpkg-deb`; they are the same, byte by byte,
   two conflict.
 - jillapun-data: the index texts.
 - libjillapun0 and libjillapun-dev: the library for C, and its header, archive, file for pkg-config and man page.
-- python3-jillapun: the Python package, with its command.
+- python3-jillapun: the Python package, with its command, the command's man page and completion.
 """
 
 import gzip
@@ -182,11 +182,12 @@ def spread(top, folders):
 
 
 def add_python(folder):
-    """The Python package, and its command, which bash completes."""
+    """The Python package, and its command, which has a man page and which bash completes."""
     with tempfile.TemporaryDirectory() as copy:
         install.python_module(copy)
         shutil.copytree(os.path.join(copy, "python", "jillapun"), os.path.join(folder, PYTHON))
     install.written(COMMAND, os.path.join(folder, "usr/bin/jillapun"), 0o755)
+    squeezed(os.path.join(TOP, "man/jillapun.1"), os.path.join(folder, "usr/share/man/man1/jillapun.1.gz"))
     completion = os.path.join(folder, "usr/share/bash-completion/completions/jillapun")
     install.copied("completions/jillapun.bash", completion, 0o644)
 

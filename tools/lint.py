@@ -26,7 +26,8 @@
 - `include/jillapun.h` is what `tools/c_header.py` writes, and man/jillapun.3 says what it says (`tools/c_manual.py`).
 - The crate for Rust declares the library as the header does (`tools/rust_crate.py`).
 - The patches of docs/examples apply.
-- README.md and the man pages say what the help says (`tools/usage.py`), and README.md has fewer than 120 lines.
+- README.md and the man pages say what the help says (`tools/usage.py`, `tools/python_manual.py`), and README.md has
+  fewer than 120 lines.
 """
 
 import collections
@@ -46,6 +47,7 @@ import edit_files
 import edit_record
 import edits_table
 import headline
+import python_manual
 import reference
 import rust_crate
 import usage
@@ -320,6 +322,7 @@ CHECKS = (
     c_header.faults,
     c_manual.faults,
     rust_crate.header_faults,
+    python_manual.faults,
 )
 
 

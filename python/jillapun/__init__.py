@@ -17,7 +17,7 @@ is done by a library that is proved, `libjillapun.so`; this package needs nothin
 - `Indexes`: the indexes of encodings, from another folder than that of the installation. `name`, `output_name`: labels.
 
 A label that no encoding has raises `UnknownLabel`, which is a `LookupError`. Calls from several threads at once are
-made at once: Python's lock is let go while the library works.
+made at once: Python's lock is let go while the library works, unless it decodes or encodes at most 1 KiB.
 """
 
 from ._files import convert_file

@@ -14,66 +14,15 @@ from . import _library as c
 from ._files import convert_with
 from ._names import shown
 from ._results import Faults
-from ._terminal import Parser, Terminal, Unsaid, complain, is_heard, unheard
-
-USAGE = """\
-jillapun [convert] --from LABEL --to LABEL [OPTION ...] FILE ...
-       jillapun places --from LABEL --to LABEL [OPTION ...] FILE ...
-       jillapun which [OPTION ...] FILE ...
-       jillapun labels
-"""
-
-AFTER_HELP = """\
-The other commands: places says by line and column what a conversion would lose, which how each
-encoding reads a file, labels lists the encodings. Each has a help of its own. A file with the name
-of a command is ./NAME.
-
-Without --into a file is replaced by its conversion if nothing is lost. Otherwise it stays as it
-was, and the status is 1: --lossy replaces it all the same, and so does --backup, which keeps the
-original. A link is followed. Owner (if it may be set), permissions and extended attributes stay,
-the time is that of the change, and other hard links of the file keep what it was.
-
-With --into a file in FOLDER that has the same name is replaced, as cp does, whatever is lost. If it
-is the file that is converted, by whatever path, it is treated as without --into. Files of which one
-would replace another, or its output, are refused, and nothing is written.
-
-Standard output has a line for each loss, NAME: bad OFFSET LENGTH or NAME: lost INDEX SCALAR, with
-the numbers of the log of recode. In a name a control, or what can't be seen, stands as its number,
-as <U+001B>.
-
-Exit status, the greatest of all files:
-  0  all were converted, and nothing was lost
-  1  something was lost, or a file was not replaced, since something would have been
-  2  the command line was refused
-  3  an index is missing or faulty
-  4  reading or writing failed, or with --unmappable stop a character has no bytes; what the output
-     was to replace is as it was
-"""
+from ._terminal import Terminal, Unsaid, complain, is_heard, unheard
+from ._words import convert_parser
 
 # The words of a loss, by its kind.
 WORDS = {c.BAD: "bad", c.LOST: "lost"}
 
 
 def words_of(arguments: List[str]) -> argparse.Namespace:
-    parser = Parser(
-        prog="jillapun",
-        usage=USAGE,
-        description="Converts files from one encoding to another.",
-        epilog=AFTER_HELP,
-        formatter_class=argparse.RawDescriptionHelpFormatter,
-    )
-    parser.add_argument("--from", dest="source", metavar="LABEL", required=True, help="the encoding of the files")
-    parser.add_argument("--to", dest="target", metavar="LABEL", required=True, help="the encoding that is wanted")
-    parser.add_argument("--into", metavar="FOLDER", help="where the files are put; else each takes its own place")
-    parser.add_argument(
-        "--lossy", action="store_true", help="replace a file by its conversion even if something is lost"
-    )
-    parser.add_argument("--backup", metavar="SUFFIX", help="keep each file that is replaced, as its name and SUFFIX")
-    parser.add_argument("--mark", choices=("sniff", "remove", "keep"), default="sniff", help="byte order marks")
-    policies = "decimal", "hexadecimal", "stop"
-    parser.add_argument("--unmappable", choices=policies, default="decimal", help="characters without bytes")
-    parser.add_argument("--indexes", metavar="FOLDER", help="the folder of the index texts")
-    parser.add_argument("files", metavar="FILE", nargs="+")
+    parser = convert_parser()
     words = parser.parse_args(arguments)
     if words.into == "":
         parser.error("argument --into: no folder is named")

@@ -5,11 +5,13 @@ are handed what has its type already: bytes, structures, references, numbers wit
 are an `int` in C, too.
 """
 
+import ctypes
+import re
 from functools import lru_cache
 from typing import Any, Optional, Tuple
 
 from . import _library as c
-from ._indexes import Indexes, handle_of, number_of
+from ._indexes import Indexes, handle_of, name_of, number_of
 
 # An input or a text so short, in bytes, is first tried by a call that makes no list of what is lost.
 SHORT = 1 << 10
@@ -20,32 +22,53 @@ LENGTHS: Any = [c.Size.from_param(length) for length in range(SHORT + 1)]
 NO_LIMIT: Any = c.Long.from_param(c.NO_LIMIT)
 
 
-def _export(name: str) -> Any:
+def _export(library: ctypes.CDLL, name: str) -> Any:
     """An export that returns a status, with no parameter declared."""
-    call = c.library[name]
+    call = library[name]
     call.restype = c.Byte
     return call
 
 
-decode_all, encode_all, convert_all = map(_export, ("jillapun_decode", "jillapun_encode", "jillapun_convert"))
+# Of a short text Python's lock is kept: to let it go and take it back takes as long as the text.
+_locked = ctypes.PyDLL(c.library._name, handle=c.library._handle)
+decode_short, encode_short = _export(_locked, "jillapun_decode"), _export(_locked, "jillapun_encode")
+convert_all = _export(c.library, "jillapun_convert")
 
-# The encodings that write some characters as bytes that read back as another: only `convert_all` tells whether all read back.
-_FOLDING = frozenset(map(number_of, ("shift_jis", "euc-jp", "iso-2022-jp", "gb18030", "gbk")))
+# The characters that an encoding writes as bytes that read back as another. `encode_short` does not tell of them, but
+# `convert_all` does.
+FOLDED = {
+    "Shift_JIS": "\xa5\u203e\u2212",
+    "EUC-JP": "\xa5\u203e\u2212",
+    "ISO-2022-JP": "\u2212\uff61-\uff9f",
+    "gb18030": "\ue78d-\ue796\ue81e\ue826\ue82b\ue82c\ue832\ue843\ue854\ue864",
+    "GBK": "\ue78d-\ue796\ue81e\ue826\ue82b\ue82c\ue832\ue843\ue854\ue864",
+}
 
-_UTF_8 = number_of("utf-8")
+
+def _tables(indexes: Optional[Indexes]) -> Tuple[Any, bool]:
+    """A handle of tables as the two words that it is. By the calling convention of x86-64, for which the library is, they
+    go into the registers that the handle would go into, and to hand over a structure takes Python a tenth of a call."""
+    handle = handle_of(indexes)
+    return ctypes.c_void_p.from_param(handle.at), handle.is_open
 
 
 @lru_cache(maxsize=1 << 8)
 def decoding(encoding: str, mark: str, indexes: Optional[Indexes]) -> Tuple[Any, ...]:
-    """The first arguments of `decode_all`."""
+    """The first arguments of `decode_short`."""
     number, at_mark = number_of(encoding), c.MARKS[mark]
-    return handle_of(indexes), number, at_mark
+    return (*_tables(indexes), number, at_mark)
 
 
 @lru_cache(maxsize=1 << 8)
 def encoding_to(encoding: str, unmappable: str, indexes: Optional[Indexes]) -> Tuple[Any, ...]:
-    """The first arguments of `encode_all`, and, where it does not tell whether all reads back, those of `convert_all`."""
-    number, policy = number_of(encoding), c.POLICIES[unmappable]
-    tables = handle_of(indexes)
-    whole = (tables, _UTF_8, number, c.MARKS["keep"], policy, NO_LIMIT)
-    return tables, number, whole if number in _FOLDING else None
+    """The first arguments of `encode_short`, and what finds a character that it does not tell of, if there is one."""
+    number, _ = number_of(encoding), c.POLICIES[unmappable]
+    folded = FOLDED.get(name_of(number))
+    return (*_tables(indexes), number, re.compile("[%s]" % folded).search if folded else None)
+
+
+@lru_cache(maxsize=1 << 8)
+def converting(source: str, target: str, mark: str, unmappable: str, indexes: Optional[Indexes]) -> Tuple[Any, ...]:
+    """The first arguments of `convert_all`."""
+    words = number_of(source), number_of(target), c.MARKS[mark], c.POLICIES[unmappable]
+    return (*_tables(indexes), *words)

@@ -1,59 +1,19 @@
 """The commands beside the conversion: `which`, `places` and `labels`."""
 
-import argparse
 import os
 from typing import Callable, Dict, Hashable, Iterable, List
 
-from . import _library as c
 from ._indexes import Indexes, name, name_of
 from ._labels import LABELS
 from ._names import shown
 from ._places import places_in
 from ._results import IndexesMissing, JillapunError, UnknownLabel
-from ._terminal import Parser, Terminal, Unsaid, complain, is_heard, unheard
+from ._terminal import Terminal, Unsaid, complain, is_heard, unheard
 from ._which import Reading, Which, which
-
-_WHICH = """\
-For each of the 40 encodings the number of malformed sequences that a file has in it. Encodings that
-read the file alike stand in one line. Below it are the first lines of the file that are not all
-printable ASCII, or its first lines, as the first of these encodings read them. In them a control,
-or what can't be seen, stands as its number, as <U+001B>.
-
-No encoding is guessed. A count of 0 is no proof: in windows-1252 and others any bytes are a text.
-Replacement has at most one malformed sequence, and stands last.
-
-Exit status, the greatest of all files: 0; 2 if the command line was refused; 3 if an index is
-missing or faulty; 4 if reading failed, or nothing can be told.
-"""
-
-_PLACES = """\
-Reads files, writes none, and prints NAME:LINE:COLUMN and what is lost there, for each malformed
-sequence and each character without bytes in the output encoding. A column is a character, and a
-malformed sequence counts as one.
-
-Exit status, the greatest of all files:
-  0  nothing is malformed, and all characters have bytes
-  1  something would be lost
-  2  the command line was refused
-  3  an index is missing or faulty
-  4  reading failed, or nothing can be told
-"""
+from ._words import labels_parser, places_parser, which_parser
 
 # How many columns of a line are shown.
 _WIDTH = 64
-
-
-def _number(word: str) -> int:
-    if not (word.isascii() and word.isdigit()):
-        raise argparse.ArgumentTypeError("%r is no number" % word)
-    return int(word)
-
-
-def _parser(name: str, description: str, epilog: str) -> Parser:
-    form = argparse.RawDescriptionHelpFormatter
-    parser = Parser(prog="jillapun " + name, description=description, epilog=epilog, formatter_class=form)
-    parser.add_argument("--indexes", metavar="FOLDER", help="the folder of the index texts")
-    return parser
 
 
 def _for_each(paths: List[str], tell: Callable[[str, Terminal, Indexes], int], folder: str) -> int:
@@ -105,13 +65,7 @@ def _by_readings(found: Which, most: int, lines: int) -> Iterable[str]:
 
 def tell_which(arguments: List[str]) -> int:
     """The facts of files."""
-    parser = _parser("which", "Says how each encoding reads a file.", _WHICH)
-    parser.add_argument("--lines", metavar="N", type=_number, default=3, help="how many lines are shown, 3 by default")
-    parser.add_argument(
-        "--most", metavar="N", type=_number, default=24, help="as how many encodings at most read them, 24 by default"
-    )
-    parser.add_argument("files", metavar="FILE", nargs="+")
-    words = parser.parse_args(arguments)
+    words = which_parser().parse_args(arguments)
 
     def tell(path: str, terminal: Terminal, indexes: Indexes) -> int:
         size = os.path.getsize(path) or 1
@@ -126,12 +80,7 @@ def tell_which(arguments: List[str]) -> int:
 
 def tell_places(arguments: List[str]) -> int:
     """What would be lost in files, and where."""
-    parser = _parser("places", "Says where a conversion would lose something.", _PLACES)
-    parser.add_argument("--from", dest="source", metavar="LABEL", required=True, help="the encoding of the files")
-    parser.add_argument("--to", dest="target", metavar="LABEL", required=True, help="the encoding that is wanted")
-    parser.add_argument("--mark", choices=list(c.MARKS), default="sniff", help="byte order marks")
-    parser.add_argument("files", metavar="FILE", nargs="+")
-    words = parser.parse_args(arguments)
+    words = places_parser().parse_args(arguments)
     try:
         name(words.source), name(words.target)
     except UnknownLabel as fault:
@@ -151,7 +100,7 @@ def tell_places(arguments: List[str]) -> int:
 
 def tell_labels(arguments: List[str]) -> int:
     """The encodings, each with its labels."""
-    Parser(prog="jillapun labels", description="Lists the encodings and their labels.").parse_args(arguments)
+    labels_parser().parse_args(arguments)
     if not is_heard():
         return 4
     labels: Dict[Hashable, List[str]] = {name_of(number): [] for number in range(40)}

@@ -4,8 +4,8 @@ import sys
 from typing import List, Optional, Tuple, cast
 
 from . import _library as c
-from ._bare import LENGTHS, NO_LIMIT, SHORT, convert_all, decode_all, decoding, encode_all, encoding_to
-from ._indexes import Indexes, handle_of, number_of
+from ._bare import LENGTHS, NO_LIMIT, SHORT, convert_all, converting, decode_short, decoding, encode_short, encoding_to
+from ._indexes import Indexes
 from ._results import Converted, Decoded, Encoded, Fault, Faults, Lost, Report, Stopped, faults_in, refuse
 from ._rooms import rooms
 from ._steps import Conversion
@@ -15,6 +15,9 @@ _UTF_8 = "utf-8"
 # How long an input is of which all text has room: in UTF-8 a byte gives three at most.
 _ALL_ROOM = 1 << 16
 
+# The statuses with which a conversion has an output.
+_DONE = (c.OK, c.LOSSY, c.STOPPED)
+
 _take, _give = rooms.free.pop, rooms.free.append
 
 # This makes a named tuple in half the time.
@@ -23,29 +26,29 @@ _new = tuple.__new__
 
 def _run(
     data: bytes, source: str, target: str, mark: str, unmappable: str, limit: int, indexes: Optional[Indexes]
-) -> Tuple[bool, bytes, List[Fault]]:
-    """Whether nothing was lost, the output and the faults. If the input is short and all has room, one call does it,
+) -> Tuple[bytes, List[Fault], bool]:
+    """The output, the faults, and whether nothing was lost. If the input is short and all has room, one call does it,
     which takes less time than steps."""
     if len(data) <= _ALL_ROOM:
-        words = number_of(source), number_of(target), c.MARKS[mark], c.POLICIES[unmappable]
+        words = converting(source, target, mark, unmappable, indexes)
         most = NO_LIMIT if limit == c.NO_LIMIT else c.Long(limit)
-        tables, room = handle_of(indexes), rooms.take()
-        status = convert_all(tables, *words, most, data, c.Size(len(data)), *room.whole)
-        is_done = status in (c.OK, c.LOSSY, c.STOPPED)
+        length = LENGTHS[len(data)] if len(data) <= SHORT else c.Size(len(data))
+        room = rooms.take()
+        status = convert_all(*words, most, data, length, *room.whole)
+        is_done = status in _DONE
         if is_done:
-            report = room.report
-            output, place, scalar = room.bytes[: report.written], report.index, report.scalar
-            faults = list(faults_in(room.losses[: report.losses * c.LOSS.size])) if report.losses else []
-        rooms.give(room)
+            output = room.bytes[: room.report.written]
+            faults = list(faults_in(room.losses[: room.report.losses * c.LOSS.size])) if status else []
+        _give(room)
         if status == c.STOPPED:
-            raise Stopped(Lost(place, chr(scalar)), output, faults)
+            raise Stopped(cast(Lost, faults[-1]), output, faults)
         if is_done:
-            return status == c.OK, output, faults
+            return output, faults, status == c.OK
     conversion, told = Conversion(source, target, mark, unmappable, limit, indexes), Faults(keep=sys.maxsize)
     if len(data) > limit:
         refuse(c.TOO_LONG)
     output = conversion.put(data, True, told)
-    return cast(Report, conversion.report).faithful, output, told.kept
+    return output, told.kept, cast(Report, conversion.report).faithful
 
 
 def decode(data: bytes, encoding: str, *, mark: str = "remove", indexes: Optional[Indexes] = None) -> Decoded:
@@ -58,7 +61,7 @@ def decode(data: bytes, encoding: str, *, mark: str = "remove", indexes: Optiona
     >>> decode(b"A\\x83\\x6e\\xff", "shift_jis")
     Decoded(text='Aハ�', faults=[Bad(offset=3, length=1)])
     """
-    tables, number, at_mark = decoding(encoding, mark, indexes)
+    at, is_open, number, at_mark = decoding(encoding, mark, indexes)
     given = data if type(data) is bytes else c.bytes_of(data)
     if len(given) <= SHORT:
         # What follows is written for speed: most texts are short and lose nothing.
@@ -67,12 +70,12 @@ def decode(data: bytes, encoding: str, *, mark: str = "remove", indexes: Optiona
         except IndexError:
             room = rooms.take()
         place, size, told, written, made = room.short
-        if not decode_all(tables, number, at_mark, given, LENGTHS[len(given)], place, size, told):
+        if not decode_short(at, is_open, number, at_mark, given, LENGTHS[len(given)], place, size, told):
             text = made[: written.value].decode()
             _give(room)
             return _new(Decoded, (text, []))
         _give(room)
-    _, output, faults = _run(given, encoding, _UTF_8, mark, "decimal", c.NO_LIMIT, indexes)
+    output, faults, _ = _run(given, encoding, _UTF_8, mark, "decimal", c.NO_LIMIT, indexes)
     return Decoded(output.decode(), faults)  # type: ignore[arg-type]
 
 
@@ -85,32 +88,20 @@ def encode(text: str, encoding: str, *, unmappable: str = "decimal", indexes: Op
     >>> encode("é 日", "windows-1252")
     Encoded(data=b'\\xe9 &#26085;', faults=[Lost(index=2, character='日')], faithful=False)
     """
-    tables, number, whole = encoding_to(encoding, unmappable, indexes)
+    at, is_open, number, folded = encoding_to(encoding, unmappable, indexes)
     given = str.encode(text)
-    if len(given) <= SHORT:
+    if len(given) <= SHORT and not (folded and folded(text)):
         try:
             room = _take()
         except IndexError:
             room = rooms.take()
-        length = LENGTHS[len(given)]
-        if whole:
-            tables, utf_8, number, keep, policy, most = whole
-            place, size, losses, count, told = room.whole
-            status = convert_all(
-                tables, utf_8, number, keep, policy, most, given, length, place, size, losses, count, told
-            )
-            end = room.report.written
-        else:
-            place, size, told, written, _ = room.short
-            status = encode_all(tables, number, given, length, place, size, told)
-            end = written.value
-        if not status:
-            data = room.bytes[:end]
+        place, size, told, written, made = room.short
+        if not encode_short(at, is_open, number, given, LENGTHS[len(given)], place, size, told):
+            data = made[: written.value]
             _give(room)
             return _new(Encoded, (data, [], True))
         _give(room)
-    is_faithful, data, faults = _run(given, _UTF_8, encoding, "keep", unmappable, c.NO_LIMIT, indexes)
-    return Encoded(data, faults, is_faithful)  # type: ignore[arg-type]
+    return _new(Encoded, _run(given, _UTF_8, encoding, "keep", unmappable, c.NO_LIMIT, indexes))
 
 
 def convert(
@@ -132,5 +123,4 @@ def convert(
     Converted(output=b'caf\\xc3\\xa9', faults=[], faithful=True)
     """
     most, given = c.limit_of(limit), c.bytes_of(data)
-    is_faithful, output, faults = _run(given, source, target, mark, unmappable, most, indexes)
-    return Converted(output, faults, is_faithful)
+    return _new(Converted, _run(given, source, target, mark, unmappable, most, indexes))

@@ -129,8 +129,8 @@ def which(
     Reading(encodings=['gb18030', 'GBK'], bad=0, lines=['茅 鏃ユ湰'])
     """
     if isinstance(source, (str, os.PathLike)):
-        with builtins.open(source, "rb") as file:
-            return which(cast(BinaryIO, file), lines=lines, indexes=indexes, progress=progress)
+        with builtins.open(source, "rb") as opened:
+            return which(opened, lines=lines, indexes=indexes, progress=progress)
     file = cast(BinaryIO, source if hasattr(source, "read") else io.BytesIO(c.bytes_of(source)))
     readers, sample = [_Reader(name, indexes) for name in NAMES], _Sample()
     read = _put_all(file, [sample.add, *(reader.take for reader in readers)], progress)

@@ -292,20 +292,23 @@ COUNTED = """
 import collections, ctypes
 counts = collections.Counter()
 
-class Library(ctypes.CDLL):
-    def __getitem__(self, name):
-        kind = self._FuncPtr
+def counting(library):
+    class Library(library):
+        def __getitem__(self, name):
+            kind = self._FuncPtr
 
-        class Counted(kind):
-            _flags_, _restype_ = kind._flags_, kind._restype_
+            class Counted(kind):
+                _flags_, _restype_ = kind._flags_, kind._restype_
 
-            def __call__(self, *words):
-                counts[name] += 1
-                return kind.__call__(self, *words)
+                def __call__(self, *words):
+                    counts[name] += 1
+                    return kind.__call__(self, *words)
 
-        return Counted((name, self))
+            return Counted((name, self))
 
-ctypes.CDLL = Library
+    return Library
+
+ctypes.CDLL, ctypes.PyDLL = counting(ctypes.CDLL), counting(ctypes.PyDLL)
 import jillapun
 
 def counted(call, *words, **options):
@@ -327,18 +330,22 @@ class Counts(unittest.TestCase):
         return [ast.literal_eval(line) for line in ran.stdout.splitlines()]
 
     def test_nothing_is_lost(self) -> None:
-        """One call, which makes no list, unless only the verdict says that all reads back."""
+        """One call, which makes no list if the text is short."""
         found = self.counts("decode, b'abc', 'utf-8'", "decode, b'\\x83\\x6e', 'sjis', mark='sniff'")
         self.assertEqual(found, [{"decode": 1}] * 2)
         found = self.counts("encode, 'é', 'l1'", "encode, 'é', 'utf-8', unmappable='stop'")
         self.assertEqual(found, [{"encode": 1}] * 2)
-        found = self.counts("encode, 'a', 'sjis'", "convert, b'a', 'l1', 'utf-8'", "decode, b'a' * 1025, 'utf-8'")
+        found = self.counts(*("encode, '日', '%s'" % label for label in jillapun._bare.FOLDED))
+        self.assertEqual(found, [{"encode": 1}] * 5)
+        longer = "decode, b'a' * 1025, 'utf-8'", "encode, '日' * 342, 'sjis'"
+        found = self.counts("convert, b'a', 'l1', 'utf-8'", *longer)
         self.assertEqual(found, [{"convert": 1}] * 3)
 
     def test_something_is_lost(self) -> None:
-        """One call more."""
+        """One call more, unless a character is written as another."""
         found = self.counts("decode, b'\\xff', 'utf-8'", "encode, '日', 'l1', unmappable='hexadecimal'")
         self.assertEqual(found, [{"decode": 1, "convert": 1}, {"encode": 1, "convert": 1}])
+        self.assertEqual(self.counts("encode, '¥', 'sjis'", "encode, 'ｱ', 'csiso2022jp'"), [{"convert": 1}] * 2)
 
 
 class Short(unittest.TestCase):
@@ -350,14 +357,25 @@ class Short(unittest.TestCase):
         """Where all that has bytes is told to read back, it does: each character of the standard's indexes by itself, and
         all, by parts, with what comes before."""
         for name in self.ENCODINGS:
-            if not jillapun._bare.encoding_to(name, "decimal", None)[2]:
-                text = self.characters(name)
-                for start in range(0, len(text), 300):
-                    part = text[start : start + 300]
-                    data, faults, faithful = jillapun.encode(part, name)
-                    self.assertEqual((faults, faithful), ([], True))
-                    self.assertEqual(jillapun.decode(data, jillapun.output_name(name), mark="keep"), (part, []), name)
-                    self.assertEqual(jillapun.convert(part.encode(), "utf-8", name, mark="keep"), (data, [], True))
+            folded = jillapun._bare.encoding_to(name, "decimal", None)[3]
+            text = "".join(character for character in self.characters(name) if not (folded and folded(character)))
+            for start in range(0, len(text), 300):
+                part = text[start : start + 300]
+                data, faults, faithful = jillapun.encode(part, name)
+                self.assertEqual((faults, faithful), ([], True))
+                self.assertEqual(jillapun.decode(data, jillapun.output_name(name), mark="keep"), (part, []), name)
+                self.assertEqual(jillapun.convert(part.encode(), "utf-8", name, mark="keep"), (data, [], True))
+
+    def test_folded(self) -> None:
+        """Of all characters, those that an encoding writes as others are the ones for which the verdict is asked."""
+        every = "".join(map(chr, [*range(0xD800), *range(0xE000, 0x110000)]))
+        for label in jillapun._bare.FOLDED:
+            folded = jillapun._bare.encoding_to(label, "decimal", None)[3]
+            lost = {fault.index for fault in jillapun.encode(every, label).faults}
+            kept = [character for index, character in enumerate(every) if index not in lost and not folded(character)]
+            self.assertEqual(jillapun.encode("".join(kept), label)[1:], ([], True))
+            for character in filter(folded, every):
+                self.assertEqual(jillapun.encode(character, label)[1:], ([], False), (label, character))
 
     def characters(self, name: str) -> str:
         """The characters of all bytes and pairs of bytes that an encoding has bytes for; some, if it has them for all."""
@@ -376,7 +394,7 @@ class Short(unittest.TestCase):
                 for mark in ("remove", "sniff", "keep"):
                     output, faults, _ = jillapun.convert(data, name, "utf-8", mark=mark)
                     self.assertEqual(jillapun.decode(data, name, mark=mark), (output.decode(), faults))
-            for text in ("", "abc", "é", "日本", "¥‾−", "\x0e\x1b", "\ufeffa", "\ufffd", "a" * 1023 + "é"):
+            for text in ("", "abc", "é", "日本", "¥‾−", "aｱ", "\ue78d", "\x0e\x1b", "\ufeffa", "\ufffd", "a" * 1023 + "é"):
                 for policy in ("decimal", "hexadecimal"):
                     wanted = jillapun.convert(text.encode(), "utf-8", name, mark="keep", unmappable=policy)
                     self.assertEqual(jillapun.encode(text, name, unmappable=policy), wanted)
