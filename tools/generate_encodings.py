@@ -351,7 +351,7 @@ def lists_of_files():
 
 def lists_for_c():
     lines = [
-        "//! The encodings and the kinds of index, in the order of their numbers.",
+        "//! The encodings, in the order of their numbers, and the kinds of index.",
         "",
         "use encoding_front::Encoding;",
         "use encoding_tables::IndexKind;",

@@ -5,7 +5,8 @@ use Rattle.std.proofs.lemmas.Slice.Eq.{bytes_eq-Decides}
 use Rattle.std.proofs.lemmas.Bool.{cases_eq}
 use Rattle.std.specs.Str.{bytes_eq}
 use Rattle.encoding_tables.specs.FileNames.{file_name_of}
-use Rattle.encoding_tables.specs.Kinds.{number, index_size, is_ranges}
+use Rattle.encoding_tables.specs.Kinds.{index_size, is_ranges}
+use Rattle.encoding_tables.specs.calls.Slots.{slot_of}
 use Rattle.encoding_tables.specs.IndexLists.{IndexLists, has}
 use Rattle.encoding_index.specs.IndexText.{text_list, text_rows}
 use Rattle.encoding_index.specs.Loads.{KeepsOtherKinds, Loads, load_fault, table_fault, text_fault}
@@ -27,27 +28,27 @@ use Rattle.jillapun_c.specs.declared.index_files.FileFault.{FileFault}
 use Rattle.jillapun_c.specs.declared.index_files.IndexFile.{IndexFile}
 use Rattle.jillapun_c.specs.declared.lists.TheConstants.{KINDS}
 
-again : (kind : IndexKind) → get_or KINDS (number kind) Ibm866 ≡ kind
+again : (kind : IndexKind) → get_or KINDS (slot_of kind) Ibm866 ≡ kind
 again Ibm866 = refl
 again _ = refl
 
-number_is_small : (kind : IndexKind) → number kind < 34
-number_is_small Ibm866 = omega arith
-number_is_small _ = omega arith
+slot_is_small : (kind : IndexKind) → slot_of kind < 34
+slot_is_small Ibm866 = omega arith
+slot_is_small _ = omega arith
 
--- the files of the kinds below that number have other names
+-- the files of the kinds below that slot have other names
 abbrev OthersBelow : ℕ → List ℕ → Type 0
-OthersBelow n name = (kind : IndexKind) → number kind < n → file_name_of kind ≢ name
+OthersBelow n name = (kind : IndexKind) → slot_of kind < n → file_name_of kind ≢ name
 
 pub passes_kind : (n : ℕ) (name file : List ℕ) → OthersBelow n name → file ≡ file_name_of (get_or KINDS n Ibm866) → bytes_eq file name ≡ false → OthersBelow (n + 1) name
-passes_kind n name file before is_file differs kind below same = elim (cases_eq (number kind) n) [
+passes_kind n name file before is_file differs kind below same = elim (cases_eq (slot_of kind) n) [
   | inl here ↦ not_from_Decides (bytes_eq file name) (bytes_eq-Decides file name) differs
       (is_file ∙ ap (λ m. file_name_of (get_or KINDS m Ibm866)) (sym here) ∙ ap file_name_of (again kind) ∙ same)
   | inr apart ↦ before kind (omega (arith, below, apart)) same
 ]
 
 pub no_kind : (n : ℕ) (name : List ℕ) → 34 ≤ n → OthersBelow n name → (kind : IndexKind) → file_name_of kind ≢ name
-no_kind n name all below kind = below kind (omega (arith, all, number_is_small kind))
+no_kind n name all below kind = below kind (omega (arith, all, slot_is_small kind))
 
 -- ---- one file more
 

@@ -1,4 +1,4 @@
-//! The encodings and the kinds of index, in the order of their numbers.
+//! The encodings, in the order of their numbers, and the kinds of index.
 
 // Written by tools/generate_encodings.py from tools/encodings.toml; do not edit.
 
