@@ -21,7 +21,7 @@ LINES = os.path.join(TOP, "tools", "headline_lines")
 
 # The clauses of `recode::run` that are the theorem, and the laws that stand beside it.
 CLAUSES = ("completes", "fails", "failures", "calls")
-LAWS = ("steps_add_up", "decided_pieces_are_converted", "calls_are_a_conversion", "runs_agree", "read_back")
+LAWS = ("steps_add_up", "decided_pieces_are_converted", "calls_are_a_conversion", "runs_agree", "parts_are_the_whole", "read_back")
 
 # What the definitions of each crate are about, in the order to read them in.
 GROUPS = [

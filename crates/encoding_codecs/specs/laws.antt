@@ -19,6 +19,7 @@ pub mod Iso2022Jp
 pub mod Iso2022JpSteps
 pub mod JisForms
 pub mod JisSteps
+pub mod Parts
 pub mod Pointers
 pub mod ShiftJis
 pub mod ShiftJisSteps

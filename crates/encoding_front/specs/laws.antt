@@ -3,6 +3,7 @@ pub mod Calls
 pub mod Encoder
 pub mod Encodings
 pub mod Input
+pub mod Parts
 pub mod Seeking
 pub mod Stream
 pub mod ReportedCharacter

@@ -10,6 +10,7 @@ ghost use Rattle.encoding_mem.specs.Coding.{AllMapped, lost_count, mapped_bytes,
 ghost use Rattle.encoding_mem.specs.Coding.{output, reference_bytes, whole_from};
 ghost use Rattle.encoding_mem.specs.calls.Decoding.{TakesSoon};
 ghost use Rattle.encoding_mem.specs.calls.EncoderCalls.{Encodes};
+ghost use Rattle.encoding_mem.specs.Parts.{EndsInCut, IsCutByte, StandsAlone};
 ghost use Rattle.encoding_mem.specs.Piece.{ArePieces, AreWellFormed, malformed_count};
 ghost use Rattle.encoding_mem.specs.Piece.{sizes, text};
 ghost use Rattle.encoding_mem.specs.calls.ReadCalls.{KeepsVerdict, IsNotUnmappable};
@@ -26,9 +27,10 @@ ghost use Rattle.encoding_front.specs.calls.DecoderCall.{TextCall};
 ghost use Rattle.encoding_front.specs.calls.Encoder.{Encoded, EncoderState, Replaces, coding_in};
 ghost use Rattle.encoding_front.specs.EncodingTable.{encoding_name};
 ghost use Rattle.encoding_front.specs.Encodings.{HasLabel, KeepsCharacters, coding_of};
+ghost use Rattle.encoding_front.specs.Encodings.{is_ascii_compatible_of};
 ghost use Rattle.encoding_front.specs.Encodings.{output_encoding_of, pieces_of};
 ghost use Rattle.encoding_front.specs.Encodings.{set_pieces_of};
-ghost use Rattle.encoding_front.specs.Marks.{marked_pieces, marked_text};
+ghost use Rattle.encoding_front.specs.Marks.{marked_pieces, marked_text, source_of};
 ghost use Rattle.encoding_front.specs.calls.Stream.{DecoderView};
 ghost use Rattle.encoding_front.specs.declared.coder_result.CoderResult.{CoderResult};
 ghost use Rattle.encoding_front.specs.declared.mark.Mark.{Mark};
@@ -230,4 +232,17 @@ pub fn both_at_once()
         → AreAcceptedTables t → decoded ≡ encode_utf8_all (marked_text t mark from x)
         → output Decimal (coding_of t to) (chars decoded)
         ≡ output Decimal (coding_of t to) (marked_text t mark from x) }
+{}
+
+/// An input may be cut behind any byte below 30, as a line feed is, if its encoding is compatible
+/// with ASCII. By any indexes that were accepted, the byte stands alone: it is a piece by itself,
+/// and what follows it is read as from the start. The first part may begin with a byte order mark,
+/// which says the encoding of all parts.
+pub fn inputs_can_be_cut()
+    ensures alone { (t : IndexLists) (e : Encoding) (a : ℕ) → AreAcceptedTables t
+        → is_ascii_compatible_of e ≡ true → IsCutByte a → StandsAlone (pieces_of t e) a }
+    ensures marked { (t : IndexLists) (mark : Mark) (e : Encoding) (x y : List ℕ)
+        → AreAcceptedTables t → EndsInCut x → is_ascii_compatible_of (source_of mark e x).0 ≡ true
+        → marked_pieces t mark e (x ++ y)
+        ≡ marked_pieces t mark e x ++ pieces_of t (source_of mark e x).0 y }
 {}

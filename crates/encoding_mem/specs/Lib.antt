@@ -2,6 +2,7 @@ pub mod Piece
 pub mod Event
 pub mod Pieces
 pub mod Decided
+pub mod Parts
 pub mod Coding
 pub mod Items
 pub mod Utf8

@@ -2,6 +2,7 @@
 pub mod Texts
 pub mod SampleCoding
 pub mod Piece
+pub mod Parts
 pub mod Utf8
 pub mod Event
 pub mod Writing

@@ -2,6 +2,7 @@
 pub mod Utf8Decide
 pub mod Piece
 pub mod Pieces
+pub mod Parts
 pub mod Event
 pub mod Writing
 pub mod UnitRun

@@ -3,6 +3,7 @@ pub mod EachByte
 pub mod EachByteReadBack
 pub mod Kinds
 pub mod OptionCases
+pub mod Parts
 pub mod Pointers
 pub mod Ranges
 pub mod RangeRuns

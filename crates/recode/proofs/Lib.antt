@@ -10,6 +10,7 @@ pub mod StepLemmas
 pub mod RunLemmas
 pub mod ToldLemmas
 pub mod InputLemmas
+pub mod PartLemmas
 pub mod PivotLemmas
 pub mod LatencyLemmas
 pub mod LoadLemmas

@@ -1,5 +1,5 @@
 -- From steps to runs.
-use Rattle.std.proofs.Common.{◌≡◌, ℕ, ◌+◌, ◌*◌, ◌≤◌, ◌-◌, ◌↔◌, true, IsTrue, List, [], ◌++◌, length, sym, ◌∙◌, ap, subst, arith, append-nil, min}
+use Rattle.std.proofs.Common.{◌≡◌, ℕ, ◌+◌, ◌*◌, ◌≤◌, true, List, [], ◌++◌, length, sym, ◌∙◌, ap, subst, arith, append-nil}
 use Rattle.encoding_mem.specs.Piece.{AreWellFormed}
 use Rattle.encoding_mem.specs.Coding.{AllMapped}
 use Rattle.encoding_front.specs.Encodings.{KeepsCharacters}

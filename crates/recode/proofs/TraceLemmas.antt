@@ -9,6 +9,7 @@ use Rattle.recode_log.specs.Line.{line_bytes}
 use Rattle.recode.specs.laws.Items.{output_bytes-append, log_bytes-append, output_bytes-bytes, log_bytes-bytes, output_bytes-lines, log_bytes-lines, tagged-append, lost_line_count-append, written_spared, spared_nil, spared_bytes}
 use Rattle.recode.specs.Devices.{Grew, Written}
 use Rattle.recode.specs.TaggedByte.{TaggedByte, Line, output_bytes, log_bytes, Wrote, tagged}
+use Rattle.recode.specs.Parts.{noted}
 use Rattle.recode.specs.Policy.{up_to_loss, written_under, reference_form}
 use Rattle.recode.specs.WrittenItems.{WritesPrefix, WritesItemsFor, WritesPrefixFor, IsLeft, IsSpared, bad_line_count, lost_line_count, StopsAtLoss}
 use Rattle.recode.specs.declared.job.Fault.{Fault}
@@ -172,12 +173,6 @@ pub output_bytes-trace : (ref : Reference) (e : Coding) (s : EscapeState) (offse
 output_bytes-trace ref e s offset i ps = output_bytes-tagged (trace_from ref e s offset i ps) ∙ item_bytes-trace ref e s offset i ps
 
 -- The log: the lines that items have.
-abbrev pub noted : List Item → List LogLine
-noted [] = []
-noted (Byte b ∷ s) = noted s
-noted (MalformedAt offset size ∷ s) = Bad offset size ∷ noted s
-noted (LostAt i c ∷ s) = Lost i c ∷ noted s
-
 log_bytes-line : (line : List ℕ) (s : List Item) → log_bytes (map Line line ++ tagged s) ≡ line ++ log_bytes (tagged s)
 log_bytes-line line s = log_bytes-append (map Line line) (tagged s) ∙ ap (λ x. x ++ log_bytes (tagged s)) (log_bytes-lines line)
 
@@ -187,7 +182,7 @@ log_bytes-noted (Byte b ∷ s) = log_bytes-noted s
 log_bytes-noted (MalformedAt offset size ∷ s) = log_bytes-line (line_bytes (Bad offset size)) s ∙ ap (λ x. line_bytes (Bad offset size) ++ x) (log_bytes-noted s)
 log_bytes-noted (LostAt i c ∷ s) = log_bytes-line (line_bytes (Lost i c)) s ∙ ap (λ x. line_bytes (Lost i c) ++ x) (log_bytes-noted s)
 
-noted-append : (s t : List Item) → noted (s ++ t) ≡ noted s ++ noted t
+pub noted-append : (s t : List Item) → noted (s ++ t) ≡ noted s ++ noted t
 noted-append [] t = refl
 noted-append (Byte b ∷ s) t = noted-append s t
 noted-append (MalformedAt offset size ∷ s) t = ap (λ x. Bad offset size ∷ x) (noted-append s t)

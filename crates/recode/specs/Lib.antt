@@ -12,6 +12,7 @@ pub mod Session
 pub mod Converter
 pub mod ReadBackJobs
 pub mod Runs
+pub mod Parts
 pub mod Latency
 pub mod Conversion
 pub mod RunsTold

@@ -1,6 +1,7 @@
 -- Worked rows: what the definitions of `specs/` come to on inputs that a reader can work by hand.
 pub mod Devices
 pub mod Jobs
+pub mod Parts
 pub mod WrittenItems
 pub mod Slices
 pub mod IndexFaults

@@ -32,6 +32,8 @@ ghost use Rattle.recode.specs.Converter.{ConverterView, ConvertsPart, ConvertedS
 ghost use Rattle.recode.specs.Converter.{IsFreshConverter, IsReportButCalls, IsWhole, owes};
 ghost use Rattle.recode.specs.Job.{trace, whole_trace};
 ghost use Rattle.recode.specs.Job.{RunsThrough, lines_up_to_loss};
+ghost use Rattle.recode.specs.Parts.{AddsUp, AreFaithful, AreOfWhole, AreParts, CanBeCut, later};
+ghost use Rattle.recode.specs.Parts.{later_lines, lines_of, moved, moved_line, unwritten};
 ghost use Rattle.recode.specs.Policy.{reference_form};
 ghost use Rattle.recode.specs.Latency.{HasReached};
 ghost use Rattle.recode.specs.ReadBackJobs.{back, in_utf8};
@@ -377,4 +379,63 @@ pub fn calls_are_a_conversion()
     ensures report { (j : Job) (bytes : List ℕ) (items : List Item) (v : ConverterView)
         (p : Report) → ConvertedSoFar j true bytes [] items v → IsWhole v → ReportsOn v.state p
         → IsReportButCalls j bytes p }
+{}
+
+/// An input is cut behind a byte below 30, as a line feed is, if its encoding and the output
+/// encoding are compatible with ASCII (`CanBeCut`). A part is what stands between two cuts: the
+/// first is converted as the whole would be, the others from the encoding that the first is in,
+/// with marks kept (`later`). What is written for the whole is what is written for the parts, one
+/// after another, moved: offsets and indexes count the bytes and the characters before the part. A
+/// part that the policy stops is the last. Nothing is lost of the whole exactly if nothing is lost
+/// of either part.
+pub fn parts_are_the_whole()
+    ensures job { (j : Job) (x : List ℕ) → IsValidJob j → IsValidJob (later j x) }
+    ensures pieces { (j : Job) (x y : List ℕ) → IsValidJob j → CanBeCut j x
+        → input_pieces j (x ++ y) ≡ input_pieces j x ++ input_pieces (later j x) y }
+    ensures text { (j : Job) (x y : List ℕ) → IsValidJob j → CanBeCut j x
+        → input_text j (x ++ y) ≡ input_text j x ++ input_text (later j x) y }
+    ensures runs_through { (j : Job) (x y : List ℕ) → IsValidJob j → CanBeCut j x
+        → RunsThrough j (x ++ y) ↔ (RunsThrough j x × RunsThrough (later j x) y) }
+    ensures trace { (j : Job) (x y : List ℕ) → IsValidJob j → CanBeCut j x → RunsThrough j x
+        → trace j (x ++ y) ≡ trace j x
+        ++ map (moved (length x) (length (input_text j x))) (trace (later j x) y) }
+    ensures stops { (j : Job) (x y : List ℕ) → IsValidJob j → CanBeCut j x
+        → j.policy ≡ Policy.Stop → 0 < lost_count (target_of j) (input_text j x)
+        → trace j (x ++ y) ≡ trace j x }
+    ensures output { (j : Job) (x y : List ℕ) → IsValidJob j → CanBeCut j x → RunsThrough j x
+        → output_of j (x ++ y) ≡ output_of j x ++ output_of (later j x) y }
+    ensures lines { (j : Job) (x y : List ℕ) → IsValidJob j → CanBeCut j x → RunsThrough j x
+        → lines_of j (x ++ y) ≡ lines_of j x
+        ++ map (moved_line (length x) (length (input_text j x))) (lines_of (later j x) y) }
+    ensures log { (j : Job) (x : List ℕ) → log_of j x ≡ flat_map line_bytes (lines_of j x) }
+    ensures verdict { (j : Job) (x y : List ℕ) → IsValidJob j → CanBeCut j x
+        → Faithful j (x ++ y) ↔ (Faithful j x × Faithful (later j x) y) }
+    ensures reports { (j : Job) (x y : List ℕ) (p q r : Report) → IsValidJob j → CanBeCut j x
+        → IsReport j x p → IsReport (later j x) y q → IsReport j (x ++ y) r → AddsUp p q r }
+{}
+
+/// An input of many parts, each of which but the last ends in a byte below 30: the first is x. The
+/// output is that of the first, then those of the others, each converted by itself, and so is the
+/// log, its lines moved. Nothing is lost of the whole exactly if nothing is lost of any part.
+pub fn many_parts_are_the_whole()
+    ensures output { (j : Job) (x : List ℕ) (parts : List (List ℕ)) → IsValidJob j → CanBeCut j x
+        → AreParts parts → RunsThrough j (x ++ concat parts)
+        → output_of j (x ++ concat parts)
+        ≡ output_of j x ++ flat_map (output_of (later j x)) parts }
+    ensures lines { (j : Job) (x : List ℕ) (parts : List (List ℕ)) → IsValidJob j → CanBeCut j x
+        → AreParts parts → RunsThrough j (x ++ concat parts)
+        → lines_of j (x ++ concat parts) ≡ lines_of j x
+        ++ later_lines (later j x) (length x) (length (input_text j x)) parts }
+    ensures verdict { (j : Job) (x : List ℕ) (parts : List (List ℕ)) → IsValidJob j
+        → CanBeCut j x → AreParts parts
+        → Faithful j (x ++ concat parts) ↔ (Faithful j x × AreFaithful (later j x) parts) }
+{}
+
+/// Two runs on the parts of an input, each with an output and a log of its own that were empty:
+/// joined, they are what a run on the whole writes. The lines of the second log are moved by the
+/// bytes that the first run read, and by the characters of its input's text.
+pub fn runs_on_parts_are_a_run()
+    ensures { (j : Job) (x y : List ℕ) (v w : Written) (p q : Report) → IsValidJob j
+        → CanBeCut j x → IsConverted unwritten v j x p → IsConverted unwritten w (later j x) y q
+        → AreOfWhole j x y v w p q }
 {}

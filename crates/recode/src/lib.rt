@@ -55,6 +55,7 @@ mod indexes;
 pub mod job;
 pub mod laws;
 mod listing;
+pub mod parts;
 pub mod session;
 mod verdict;
 mod writers;

@@ -121,3 +121,17 @@ planes = refl
 last_lead_of_four : pieces_gb18030 [] ranges (0xFE ∷ 0x30 ∷ 0x81 ∷ 0x30 ∷ 0xFF ∷ 0x30 ∷ []) ≡ malformed 4 ∷ malformed 1 ∷ well_formed 1 (0x30 ∷ []) ∷ []
 unfolding ranges pieces_in
 last_lead_of_four = refl
+
+-- behind 30 an input cannot be cut: these four bytes are one piece, and two of them another
+digit_inside : pieces_gb18030 sample_flat sample_rows (0x90 ∷ 0x30 ∷ 0x81 ∷ 0x30 ∷ []) ≡ well_formed 4 (0x10000 ∷ []) ∷ []
+unfolding sample_rows pieces_in
+digit_inside = refl
+
+cut_behind_digit : pieces_gb18030 sample_flat sample_rows (0x90 ∷ 0x30 ∷ []) ≡ malformed 2 ∷ []
+unfolding pieces_in
+cut_behind_digit = refl
+
+-- but behind 2F it can
+slash_inside : pieces_gb18030 sample_flat sample_rows (0x90 ∷ 0x30 ∷ 0x81 ∷ 0x2F ∷ 0x30 ∷ []) ≡ malformed 1 ∷ well_formed 1 (0x30 ∷ []) ∷ malformed 1 ∷ well_formed 1 (0x2F ∷ []) ∷ well_formed 1 (0x30 ∷ []) ∷ []
+unfolding sample_rows pieces_in
+slash_inside = refl

@@ -1,4 +1,4 @@
-use Rattle.std.proofs.Common.{Err, Ok, ◌≡◌, ◌<◌, ◌++◌, ◌∙◌, [], arith, length, length-append, length-take-le, map, refl, rules, sym, subst, take}
+use Rattle.std.proofs.Common.{Ok, ◌<◌, ◌++◌, ◌∙◌, [], arith, length, length-append, length-take-le, map, refl, rules, sym, take}
 use Rattle.std.proofs.lemmas.List.{length-map, take_rest}
 use Rattle.encoding_mem.specs.Items.{Byte}
 use Rattle.recode.specs.Converter.{found_items}
