@@ -11,7 +11,7 @@ from functools import lru_cache
 from typing import Any, Optional, Tuple
 
 from . import _library as c
-from ._indexes import Indexes, handle_of, name_of, number_of
+from ._indexes import Indexes, handle_of, indexes_of, name_of, number_of
 
 # An input or a text so short, in bytes, is first tried by a call that makes no list of what is lost.
 SHORT = 1 << 10
@@ -34,8 +34,8 @@ _locked = ctypes.PyDLL(c.library._name, handle=c.library._handle)
 decode_short, encode_short = _export(_locked, "jillapun_decode"), _export(_locked, "jillapun_encode")
 convert_all = _export(c.library, "jillapun_convert")
 
-# The characters that an encoding writes as bytes that read back as another. `encode_short` does not tell of them, but
-# `convert_all` does.
+# The characters that an encoding writes as bytes that read back as another, by the standard's indexes. `encode_short` does
+# not tell of them, but `convert_all` does.
 FOLDED = {
     "Shift_JIS": "\xa5\u203e\u2212",
     "EUC-JP": "\xa5\u203e\u2212",
@@ -61,10 +61,13 @@ def decoding(encoding: str, mark: str, indexes: Optional[Indexes]) -> Tuple[Any,
 
 @lru_cache(maxsize=1 << 8)
 def encoding_to(encoding: str, unmappable: str, indexes: Optional[Indexes]) -> Tuple[Any, ...]:
-    """The first arguments of `encode_short`, and what finds a character that it does not tell of, if there is one."""
+    """The first arguments of `encode_short`, and what finds a character that it does not tell of, if there is one. By other
+    indexes than the standard's each text may have one."""
     number, _ = number_of(encoding), c.POLICIES[unmappable]
     folded = FOLDED.get(name_of(number))
-    return (*_tables(indexes), number, re.compile("[%s]" % folded).search if folded else None)
+    if folded is not None:
+        folded = "[%s]" % folded if indexes_of(indexes).have_standard_folds else ""
+    return (*_tables(indexes), number, None if folded is None else re.compile(folded).search)
 
 
 @lru_cache(maxsize=1 << 8)

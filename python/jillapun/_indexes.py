@@ -1,6 +1,7 @@
 """Labels of encodings, and the indexes that they need."""
 
 import ctypes
+import hashlib
 import os
 import threading
 from functools import lru_cache
@@ -11,6 +12,11 @@ from . import _library as c
 from ._results import IndexesMissing, UnknownLabel
 
 PathLike = Union[str, "os.PathLike[str]"]
+
+# The index texts that decide which characters the encodings with folds write as others, and the SHA-256 of them in a row,
+# as the Encoding Standard has them.
+FOLDING = ("jis0208", "jis0212", "iso-2022-jp-katakana", "gb18030", "gb18030-ranges")
+FOLDING_SHA256 = "af0916d563269263f7f339a6d151e4e3d0c3af456d140f6eb067059034f2aabb"
 
 
 @lru_cache(maxsize=None)
@@ -69,6 +75,9 @@ class Indexes:
             place = Path(folder) if folder is not None else default_folder()
             texts = {path.name: path.read_bytes() for path in sorted(place.glob("index-*.txt"))}
         self.handle = _loaded(texts)
+        folding = b"".join(texts.get("index-%s.txt" % kind, b"") for kind in FOLDING)
+        # Whether characters are written as others where the standard's indexes have it so.
+        self.have_standard_folds = hashlib.sha256(folding).hexdigest() == FOLDING_SHA256
 
 
 def _loaded(texts: Mapping[str, bytes]) -> c.Tables:
@@ -91,12 +100,17 @@ _lock = threading.Lock()
 _defaults: Dict[str, Indexes] = {}
 
 
-def handle_of(indexes: Optional[Indexes]) -> c.Tables:
-    """The handle of these indexes, or of those of the default folder, which are loaded when they are first wanted."""
+def indexes_of(indexes: Optional[Indexes]) -> Indexes:
+    """These indexes, or those of the default folder, which are loaded when they are first wanted."""
     if indexes is not None:
-        return indexes.handle
+        return indexes
     if "default" not in _defaults:
         with _lock:
             if "default" not in _defaults:
                 _defaults["default"] = Indexes()
-    return _defaults["default"].handle
+    return _defaults["default"]
+
+
+def handle_of(indexes: Optional[Indexes]) -> c.Tables:
+    """The handle of these indexes, or of those of the default folder."""
+    return indexes_of(indexes).handle

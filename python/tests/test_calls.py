@@ -15,7 +15,7 @@ from unittest import mock
 
 import cases
 import jillapun
-from jillapun import _texts
+from jillapun import _indexes, _texts
 from jillapun._labels import LABELS
 from jillapun._rooms import Rooms
 
@@ -376,6 +376,20 @@ class Short(unittest.TestCase):
             self.assertEqual(jillapun.encode("".join(kept), label)[1:], ([], True))
             for character in filter(folded, every):
                 self.assertEqual(jillapun.encode(character, label)[1:], ([], False), (label, character))
+
+    def test_other_indexes(self) -> None:
+        """By indexes that are not the standard's, the verdict is asked for each text."""
+        texts = {path.name: path.read_bytes() for path in _indexes.default_folder().glob("index-*.txt")}
+        self.assertTrue(jillapun.Indexes(texts=texts).have_standard_folds)
+        rows = texts["index-gb18030.txt"].decode().splitlines(keepends=True)
+        texts["index-gb18030.txt"] = "".join(row for row in rows if "\t0xE5E5\t" not in row).encode()
+        other = jillapun.Indexes(texts={**texts, "index-jis0208.txt": texts["index-jis0208.txt"] + b"# the same rows\n"})
+        self.assertFalse(other.have_standard_folds)
+        for label in jillapun._bare.FOLDED:
+            self.assertTrue(jillapun._bare.encoding_to(label, "decimal", other)[3]("a"))
+            for text in ("a", "\u65e5", "\u2212", "\ue78d", "\ue5e5"):
+                wanted = jillapun.convert(text.encode(), "utf-8", label, mark="keep", indexes=other)
+                self.assertEqual(jillapun.encode(text, label, indexes=other), wanted)
 
     def characters(self, name: str) -> str:
         """The characters of all bytes and pairs of bytes that an encoding has bytes for; some, if it has them for all."""
