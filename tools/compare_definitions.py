@@ -11,8 +11,8 @@ which has a whole input at once; over the index texts of `indexes`. Compared are
   every one), and of longer ones at random, made of the bytes at which the encodings' cases part;
 - what is written for scalars in each output encoding, from each set in force: of a sample (with `--all` of every scalar);
 - whole jobs at random: output, log, how the two are interleaved, verdict and counts;
-- the record of the theorem, `Completes`: it must hold of the outcome that the plain program gives, and of none that is wrong
-  in one place.
+- the records of the theorem of a whole run, `Completes` and `ReportsFewCalls`: they must hold of the outcome that the plain
+  program gives, and of none that is wrong in one place.
 
 What differs is printed, and the status is then 1.
 """
@@ -55,7 +55,8 @@ class Page:
     """The definitions of the page, with the standard's indexes and encodings in their words."""
 
     def __init__(self):
-        words = [word for line in headline.clause("recode", "run", "completes")[0] for word in WORD.findall(line)]
+        clauses = [line for name in ("completes", "work") for line in headline.clause("recode", "run", name)[0]]
+        words = [word for line in clauses for word in WORD.findall(line)]
         places = read(os.path.join(TOP, "crates", "encoding_labels", "src", "places.rt"))
         constants = {name: int(place) for name, place in re.findall(r"pub const (\w+): usize = (\d+);", places)}
         self.definitions = run_definitions.Definitions(words, [crate for crate, _ in headline.GROUPS], constants)
@@ -215,10 +216,11 @@ class Comparison:
         after, written_after = before + ((data,) if data else ()) + (outcome["last"],), Record(output=(0x21,) + outcome["output"], log=outcome["log"])
         report = Record(**{name: outcome[name] for name in ("read", "bad", "lost", "calls", "faithful")})
         report.encoding = self.page.encodings[outcome["encoding"]]
-        return self.page.definitions.holds_of(
+        is_whole = self.page.definitions.holds_of(
             "Completes", before, after, written, written_after, self.page.job(job, outcome["limit"]), report,
             given=Record(input=data),
         )  # fmt: skip
+        return is_whole and self.page.definitions.holds_of("ReportsFewCalls", report)
 
 
 def bytes_at_random(chance):

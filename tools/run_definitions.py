@@ -200,14 +200,14 @@ LIBRARY = {
 }
 
 
-def gave_to_end(before, after, data):
-    """Whether there are reads, with one more that gave none, after those before, and these bytes are theirs."""
+def gave_then(before, after, data, last):
+    """Whether there are reads, with one more that gave the last, after those before, and these bytes are theirs."""
     reads = after[len(before) :]
-    return after[: len(before)] == before and reads[-1:] == ((),) and sum(reads[:-1], ()) == data
+    return after[: len(before)] == before and reads[-1:] == (last,) and sum(reads[:-1], ()) == data
 
 
 # The definitions that say *there is*: how many arguments each takes, and whether there is.
-FOUND = {"GaveToEnd": (3, gave_to_end)}
+FOUND = {"GaveThen": (4, gave_then)}
 
 
 def minus(a, b):
