@@ -1,20 +1,17 @@
 -- An input converted part by part.
-use Rattle.std.proofs.Common.{◌≡◌, ℕ, ◌+◌, ◌<◌, Bool, Option, None, Some, ◌↔◌, inl, inr, true, false, List, [], ◌∷◌, ◌++◌, map, length, refl, sym, ◌∙◌, ap, subst, arith, append_assoc, append-nil, length-append}
-use Rattle.std.proofs.Math.Nat.{add_assoc}
+use Rattle.std.proofs.Common.{◌≡◌, ℕ, ◌+◌, ◌<◌, Bool, Option, None, Some, ◌↔◌, inl, inr, true, false, List, [], ◌∷◌, ◌++◌, map, length, refl, sym, ◌∙◌, ap, subst, arith, append-nil, length-append}
 use Rattle.std.proofs.lemmas.Grind.{flat_map-append}
 use Rattle.std.proofs.lemmas.List.{append_cancel_left, map-append}
 use Rattle.std.specs.List.{concat, flat_map}
 use Rattle.std.specs.Str.{all_scalars}
-use Rattle.encoding_mem.specs.Coding.{AllMapped, Coding, last_set, lost_count, open_from, output, reference_bytes, spelled, whole_from}
-use Rattle.encoding_mem.specs.Items.{Byte, Item, LostAt, MalformedAt, closing, form_items, item_bytes, open_items, trace_from}
+use Rattle.encoding_mem.specs.Coding.{AllMapped, Coding, last_set, lost_count, open_from, output, spelled, whole_from}
+use Rattle.encoding_mem.specs.Items.{Item, trace_from}
 use Rattle.encoding_mem.specs.Parts.{EndsInCut, StandsAlone}
-use Rattle.encoding_mem.specs.Piece.{AreWellFormed, Piece, malformed, malformed_count, sizes, text, well_formed}
+use Rattle.encoding_mem.specs.Piece.{AreWellFormed, Piece, malformed_count, text, well_formed}
 use Rattle.encoding_mem.specs.ReadBack.{ReadsAs}
 use Rattle.encoding_mem.specs.Stateless.{HasOneSet}
-use Rattle.encoding_mem.specs.declared.form.EscapeState.{EscapeState}
 use Rattle.encoding_mem.specs.declared.form.EscapeState.TheVariants.{Ascii}
-use Rattle.encoding_mem.specs.declared.form.Form.{Form}
-use Rattle.encoding_mem.specs.declared.form.Form.TheVariants.{Mapped, Unmapped}
+use Rattle.encoding_mem.specs.declared.form.Form.TheVariants.{Mapped}
 use Rattle.encoding_mem.specs.declared.reference.Reference.{Reference}
 use Rattle.encoding_mem.specs.laws.Agreement.{broken_never_reads, broken_stays, well_formed_parts}
 use Rattle.encoding_mem.specs.laws.EncoderCalls.{all_mapped-append}
@@ -28,112 +25,19 @@ use Rattle.encoding_front.specs.laws.Input.{marked_scalars, marked_whole}
 use Rattle.encoding_front.specs.laws.Parts.{ends_alone, one_set_for, parts_of, source_by_mark, source_if, source_is_ready, stands_alone_of, writes_of}
 use Rattle.recode_log.specs.Line.{line_bytes}
 use Rattle.recode_log.specs.declared.line.LogLine.{LogLine}
-use Rattle.recode_log.specs.declared.line.LogLine.TheVariants.{Bad, Lost}
 use Rattle.recode.specs.Job.{Faithful, IsValidJob, RunsThrough, input_pieces, input_text, output_of, output_pieces, source_in, target_of, trace, whole_trace}
 use Rattle.recode.specs.Devices.{Written}
 use Rattle.recode.specs.Parts.{AddsUp, AreFaithful, AreOfWhole, AreParts, CanBeCut, later, noted, lines_of, later_lines, moved, moved_line, unwritten}
-use Rattle.recode.specs.Policy.{reference_form, up_to_loss, written_under}
+use Rattle.recode.specs.Policy.{reference_form, written_under}
 use Rattle.recode.specs.Session.{IsConverted, IsReport}
 use Rattle.recode.specs.TaggedByte.{output_bytes, tagged}
-use Rattle.recode.specs.WrittenItems.{lost_line_count}
 use Rattle.recode.specs.declared.job.Job.{Job}
 use Rattle.recode.specs.declared.job.Policy.{Policy}
 use Rattle.recode.specs.declared.job.Report.{Report}
 use Rattle.recode.specs.laws.Items.{output_bytes-append, tagged-append, written_spared}
 use Rattle.recode.proofs.StopLemmas.{losts_of, mapped_where_faithful, output_where_mapped, runs_through, trace_where_spared}
-use Rattle.recode.proofs.TraceLemmas.{log_bytes-noted, noted-append, output_bytes-tagged, whole_from-append}
-
--- ---- items, counted on
-
-moved_bytes : (n m : ℕ) (bs : List ℕ) → map (moved n m) (map Byte bs) ≡ map Byte bs
-moved_bytes n m [] = refl
-moved_bytes n m (b ∷ bs) = ap (λ l. Byte b ∷ l) (moved_bytes n m bs)
-
-moved_form : (n m : ℕ) (ref : Reference) (i : ℕ) (f : Form) → form_items ref (m + i) f ≡ map (moved n m) (form_items ref i f)
-moved_form n m ref i (Mapped bs) = sym (moved_bytes n m bs)
-moved_form n m ref i (Unmapped c) = ap (λ l. LostAt (m + i) c ∷ l) (sym (moved_bytes n m (reference_bytes ref c)))
-
-moved_open : (n m : ℕ) (ref : Reference) (e : Coding) (s : EscapeState) (i k : ℕ) (t : List ℕ) → k ≡ m + i → open_items ref e s k t ≡ map (moved n m) (open_items ref e s i t)
-moved_open n m ref e s i k [] is = refl
-moved_open n m ref e s i k (c ∷ t) is =
-    let escape : List Item = map Byte (e.escape s (e.set s c)) in
-    let form : List Item = form_items ref i (e.form c) in
-    let more : List Item = open_items ref e (e.set s c) (i + 1) t in
-    ap (λ l. l ++ (form_items ref k (e.form c) ++ open_items ref e (e.set s c) (k + 1) t)) (sym (moved_bytes n m (e.escape s (e.set s c))))
-    ∙ ap (λ q. map (moved n m) escape ++ (form_items ref q (e.form c) ++ open_items ref e (e.set s c) (k + 1) t)) is
-    ∙ ap (λ l. map (moved n m) escape ++ (l ++ open_items ref e (e.set s c) (k + 1) t)) (moved_form n m ref i (e.form c))
-    ∙ ap (λ l. map (moved n m) escape ++ (map (moved n m) form ++ l)) (moved_open n m ref e (e.set s c) (i + 1) (k + 1) t (omega (arith, is)))
-    ∙ ap (λ l. map (moved n m) escape ++ l) (sym (map-append (moved n m) form more))
-    ∙ sym (map-append (moved n m) escape (form ++ more))
-
-moved_trace : (n m : ℕ) (ref : Reference) (e : Coding) (s : EscapeState) (o i p k : ℕ) (ps : List Piece) → p ≡ n + o → k ≡ m + i → trace_from ref e s p k ps ≡ map (moved n m) (trace_from ref e s o i ps)
-moved_trace n m ref e s o i p k [] is also = sym (moved_bytes n m (e.escape s Ascii))
-moved_trace n m ref e s o i p k (well_formed size cs ∷ ps) is also =
-    ap (λ l. l ++ trace_from ref e (last_set e s cs) (p + size) (k + length cs) ps) (moved_open n m ref e s i k cs also)
-    ∙ ap (λ l. map (moved n m) (open_items ref e s i cs) ++ l) (moved_trace n m ref e (last_set e s cs) (o + size) (i + length cs) (p + size) (k + length cs) ps (omega (arith, is)) (omega (arith, also)))
-    ∙ sym (map-append (moved n m) (open_items ref e s i cs) (trace_from ref e (last_set e s cs) (o + size) (i + length cs) ps))
-moved_trace n m ref e s o i p k (malformed size ∷ ps) is also =
-    ap (λ q. MalformedAt q size ∷ (open_items ref e s k (0xFFFD ∷ []) ++ trace_from ref e (e.set s 0xFFFD) (p + size) (k + 1) ps)) is
-    ∙ ap (λ l. MalformedAt (n + o) size ∷ (l ++ trace_from ref e (e.set s 0xFFFD) (p + size) (k + 1) ps)) (moved_open n m ref e s i k (0xFFFD ∷ []) also)
-    ∙ ap (λ l. MalformedAt (n + o) size ∷ (map (moved n m) (open_items ref e s i (0xFFFD ∷ [])) ++ l)) (moved_trace n m ref e (e.set s 0xFFFD) (o + size) (i + 1) (p + size) (k + 1) ps (omega (arith, is)) (omega (arith, also)))
-    ∙ ap (λ l. MalformedAt (n + o) size ∷ l) (sym (map-append (moved n m) (open_items ref e s i (0xFFFD ∷ [])) (trace_from ref e (e.set s 0xFFFD) (o + size) (i + 1) ps)))
-
-moved_output : (n m : ℕ) (s : List Item) → item_bytes (map (moved n m) s) ≡ item_bytes s
-moved_output n m [] = refl
-moved_output n m (Byte b ∷ s) = ap (λ l. b ∷ l) (moved_output n m s)
-moved_output n m (MalformedAt o size ∷ s) = moved_output n m s
-moved_output n m (LostAt i c ∷ s) = moved_output n m s
-
-moved_lines : (n m : ℕ) (s : List Item) → noted (map (moved n m) s) ≡ map (moved_line n m) (noted s)
-moved_lines n m [] = refl
-moved_lines n m (Byte b ∷ s) = moved_lines n m s
-moved_lines n m (MalformedAt o size ∷ s) = ap (λ l. Bad (n + o) size ∷ l) (moved_lines n m s)
-moved_lines n m (LostAt i c ∷ s) = ap (λ l. Lost (m + i) c ∷ l) (moved_lines n m s)
-
-moved_cut : (n m : ℕ) (s : List Item) → up_to_loss (map (moved n m) s) ≡ map (moved n m) (up_to_loss s)
-moved_cut n m [] = refl
-moved_cut n m (Byte b ∷ s) = ap (λ l. Byte b ∷ l) (moved_cut n m s)
-moved_cut n m (MalformedAt o size ∷ s) = ap (λ l. MalformedAt (n + o) size ∷ l) (moved_cut n m s)
-moved_cut n m (LostAt i c ∷ s) = refl
-
-moved_under : (p : Policy) (n m : ℕ) (s : List Item) → written_under p (map (moved n m) s) ≡ map (moved n m) (written_under p s)
-moved_under Policy.Decimal n m s = refl
-moved_under Policy.Hexadecimal n m s = refl
-moved_under Policy.Stop n m s = moved_cut n m s
-
--- what stops stands whatever follows
-cut_is_last : (s t : List Item) → 0 < lost_line_count s → up_to_loss (s ++ t) ≡ up_to_loss s
-cut_is_last [] t h = absurd (omega (arith, h))
-cut_is_last (Byte b ∷ s) t h = ap (λ l. Byte b ∷ l) (cut_is_last s t h)
-cut_is_last (MalformedAt o size ∷ s) t h = ap (λ l. MalformedAt o size ∷ l) (cut_is_last s t h)
-cut_is_last (LostAt i c ∷ s) t h = refl
-
--- ---- targets with one set
-
-last_is_ascii : (e : Coding) → HasOneSet e → (s : EscapeState) (t : List ℕ) → s ≡ Ascii → last_set e s t ≡ Ascii
-last_is_ascii e one s [] is = is
-last_is_ascii e one s (c ∷ t) is = last_is_ascii e one (e.set s c) t (one.set s c)
-
--- nothing is written at the end
-closes_nothing : (e : Coding) → HasOneSet e → (s : EscapeState) → closing e s ≡ []
-closes_nothing e one s = ap (map Byte) (one.escape s Ascii)
-
-trace_parts : (ref : Reference) (e : Coding) → HasOneSet e → (s : EscapeState) (o i p k : ℕ) (ps qs : List Piece) → s ≡ Ascii → p ≡ o + sizes ps → k ≡ i + length (text ps)
-    → trace_from ref e s o i (ps ++ qs) ≡ trace_from ref e s o i ps ++ trace_from ref e Ascii p k qs
-trace_parts ref e one s o i p k [] qs is at also =
-    let same : o ≡ p = omega (arith, at) in
-    let likewise : i ≡ k = omega (arith, also) in
-    ap (λ q. trace_from ref e q o i qs) is
-    ∙ ap (λ q. trace_from ref e Ascii q i qs) same
-    ∙ ap (λ q. trace_from ref e Ascii p q qs) likewise
-    ∙ ap (λ l. l ++ trace_from ref e Ascii p k qs) (sym (closes_nothing e one s))
-trace_parts ref e one s o i p k (well_formed n cs ∷ ps) qs is at also =
-    let behind : k ≡ (i + length cs) + length (text ps) = omega (arith, also, length-append cs (text ps)) in
-    ap (λ l. open_items ref e s i cs ++ l) (trace_parts ref e one (last_set e s cs) (o + n) (i + length cs) p k ps qs (last_is_ascii e one s cs is) (omega (arith, at)) behind)
-    ∙ sym (append_assoc (open_items ref e s i cs) (trace_from ref e (last_set e s cs) (o + n) (i + length cs) ps) (trace_from ref e Ascii p k qs))
-trace_parts ref e one s o i p k (malformed n ∷ ps) qs is at also =
-    ap (λ l. MalformedAt o n ∷ (open_items ref e s i (0xFFFD ∷ []) ++ l)) (trace_parts ref e one (e.set s 0xFFFD) (o + n) (i + 1) p k ps qs (one.set s 0xFFFD) (omega (arith, at)) (omega (arith, also)))
-    ∙ ap (λ l. MalformedAt o n ∷ l) (sym (append_assoc (open_items ref e s i (0xFFFD ∷ [])) (trace_from ref e (e.set s 0xFFFD) (o + n) (i + 1) ps) (trace_from ref e Ascii p k qs)))
+use Rattle.recode.specs.laws.Parts.{cut_is_last, last_is_ascii, log_bytes-noted, moved_lines, moved_output, moved_trace, moved_twice, moved_under, noted-append, trace_parts}
+use Rattle.recode.proofs.TraceLemmas.{output_bytes-tagged, whole_from-append}
 
 -- the output
 output_parts : (ref : Reference) (e : Coding) → HasOneSet e → (t u : List ℕ) → output ref e (t ++ u) ≡ open_from ref e Ascii t ++ output ref e u
@@ -311,14 +215,6 @@ module _ (j : Job) (x y : List ℕ) (v : IsValidJob j) (c : CanBeCut j x) where
   }
 
 -- ---- more parts than two
-
--- what is counted on twice
-moved_twice : (n m a b : ℕ) (ls : List LogLine) → map (moved_line n m) (map (moved_line a b) ls) ≡ map (moved_line (n + a) (m + b)) ls
-moved_twice n m a b [] = refl
-moved_twice n m a b (Bad o size ∷ ls) =
-    ap (λ k. Bad k size ∷ map (moved_line n m) (map (moved_line a b) ls)) (sym (add_assoc n a o)) ∙ ap (λ l. Bad ((n + a) + o) size ∷ l) (moved_twice n m a b ls)
-moved_twice n m a b (Lost i c ∷ ls) =
-    ap (λ k. Lost k c ∷ map (moved_line n m) (map (moved_line a b) ls)) (sym (add_assoc m b i)) ∙ ap (λ l. Lost ((m + b) + i) c ∷ l) (moved_twice n m a b ls)
 
 module _ (j : Job) (x : List ℕ) (v : IsValidJob j) (c : CanBeCut j x) where
   abbrev rest : Job

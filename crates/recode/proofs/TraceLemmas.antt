@@ -7,6 +7,7 @@ use Rattle.encoding_mem.specs.declared.reference.Reference.{Reference}
 use Rattle.encoding_mem.specs.Items.{Item, Byte, MalformedAt, LostAt, item_bytes, open_items, form_items, trace_from}
 use Rattle.recode_log.specs.Line.{line_bytes}
 use Rattle.recode.specs.laws.Items.{output_bytes-append, log_bytes-append, output_bytes-bytes, log_bytes-bytes, output_bytes-lines, log_bytes-lines, tagged-append, lost_line_count-append, written_spared, spared_nil, spared_bytes}
+use Rattle.recode.specs.laws.Parts.{log_bytes-noted, noted-append}
 use Rattle.recode.specs.Devices.{Grew, Written}
 use Rattle.recode.specs.TaggedByte.{TaggedByte, Line, output_bytes, log_bytes, Wrote, tagged}
 use Rattle.recode.specs.Parts.{noted}
@@ -173,21 +174,6 @@ pub output_bytes-trace : (ref : Reference) (e : Coding) (s : EscapeState) (offse
 output_bytes-trace ref e s offset i ps = output_bytes-tagged (trace_from ref e s offset i ps) ∙ item_bytes-trace ref e s offset i ps
 
 -- The log: the lines that items have.
-log_bytes-line : (line : List ℕ) (s : List Item) → log_bytes (map Line line ++ tagged s) ≡ line ++ log_bytes (tagged s)
-log_bytes-line line s = log_bytes-append (map Line line) (tagged s) ∙ ap (λ x. x ++ log_bytes (tagged s)) (log_bytes-lines line)
-
-pub log_bytes-noted : (s : List Item) → log_bytes (tagged s) ≡ flat_map line_bytes (noted s)
-log_bytes-noted [] = refl
-log_bytes-noted (Byte b ∷ s) = log_bytes-noted s
-log_bytes-noted (MalformedAt offset size ∷ s) = log_bytes-line (line_bytes (Bad offset size)) s ∙ ap (λ x. line_bytes (Bad offset size) ++ x) (log_bytes-noted s)
-log_bytes-noted (LostAt i c ∷ s) = log_bytes-line (line_bytes (Lost i c)) s ∙ ap (λ x. line_bytes (Lost i c) ++ x) (log_bytes-noted s)
-
-pub noted-append : (s t : List Item) → noted (s ++ t) ≡ noted s ++ noted t
-noted-append [] t = refl
-noted-append (Byte b ∷ s) t = noted-append s t
-noted-append (MalformedAt offset size ∷ s) t = ap (λ x. Bad offset size ∷ x) (noted-append s t)
-noted-append (LostAt i c ∷ s) t = ap (λ x. Lost i c ∷ x) (noted-append s t)
-
 noted-bytes : (bs : List ℕ) → noted (map Byte bs) ≡ []
 noted-bytes [] = refl
 noted-bytes (b ∷ bs) = noted-bytes bs
