@@ -1,4 +1,5 @@
 -- From steps to runs.
+use Rattle.recode.proofs.TraceLemmas.{items_split}
 use Rattle.std.proofs.Common.{◌≡◌, ℕ, ◌+◌, ◌*◌, ◌≤◌, ◌-◌, ◌↔◌, true, IsTrue, List, [], ◌++◌, length, sym, ◌∙◌, ap, subst, arith, append-nil, min}
 use Rattle.encoding_mem.specs.Piece.{AreWellFormed, malformed_count}
 use Rattle.encoding_mem.specs.Coding.{AllMapped, lost_count}
@@ -24,7 +25,6 @@ use Rattle.recode.specs.declared.job.Report.{Report}
 use Rattle.recode.proofs.LatencyLemmas.{stands_run, wrote_decided}
 use Rattle.recode.proofs.StepLemmas.{HasStopped}
 use Rattle.recode.proofs.StopLemmas.{bads_of, losts_of, mapped_where_faithful, output_where_mapped, quiet_where_kept, trace_where_spared, whole_within}
-use Rattle.recode.proofs.WorkLemmas.{items_split}
 use Rattle.recode.specs.laws.Items.{output_bytes-append, log_bytes-append}
 
 -- nothing was lost if each piece is well-formed and each character has bytes, and only then

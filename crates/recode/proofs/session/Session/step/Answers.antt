@@ -6,12 +6,11 @@ use Rattle.recode_log.specs.Counted.{history_of, inner_of}
 use Rattle.recode_log.specs.laws.Calls.{passed_failed, passed_one}
 use Rattle.recode_log.specs.Told.{TellsReads}
 use Rattle.recode.specs.calls.Writers.{is_end}
-use Rattle.recode.proofs.GrowLemmas.{Gave-one, GaveToEnd-one}
+use Rattle.recode.proofs.TraceLemmas.{Gave-one, GaveToEnd-one, handed_on}
 use Rattle.recode.proofs.StepLemmas.{stops_unread, stops_refused, stops_under}
 use Rattle.recode.proofs.LatencyLemmas.{finishes, steps_on}
 use Rattle.recode_log.specs.laws.Told.{ended_before, reads_one, taken_none}
-use Rattle.recode.proofs.TellLemmas.{step_calls, last_of_writers}
-use Rattle.recode.proofs.TraceLemmas.{handed_on}
+use Rattle.recode.proofs.TellLemmas.{last_of_writers, step_calls}
 use Rattle.recode.proofs.session.Session.step.Given.{Over}
 use Rattle.recode.proofs.session.Session.step.Goals.{After-read}
 use Rattle.recode.proofs.session.Session.step.Goals as goal

@@ -26,11 +26,6 @@ returns-in_ok-deliver_held g c =
     }
 
 pub returns-else-len-self : goal.returns-else-len-self
-returns-else-len-self g c = record {
-  hands = record {
-    ok = holds _ _ _ _ _ (c.put_all-self.ensures.prefix ∙ ap (λ x. take c.args.self.now.held c.args.self.now.buffer.now ++ x) c.write_reference-len.ensures.reference);
-    err = tt;
-    failures = search rules;
-    told = record { output = taken_none _ _; log = taken_none _ _ };
-  };
-}
+returns-else-len-self g c =
+    let prefix = c.put_all-self.ensures.prefix ∙ ap (λ x. take c.args.self.now.held c.args.self.now.buffer.now ++ x) c.write_reference-len.ensures.reference in
+    record { hands = search (rules, prefix, holds, taken_none) }
