@@ -10,7 +10,7 @@ use Rattle.recode.specs.Devices.{Devices, Gave, GaveToEnd, Grew, IsOf}
 use Rattle.recode.specs.Fault.{EndsAtFault, EndsAtWriterFault, of_other}
 use Rattle.recode.specs.Step.{IsReadInto, StepCalls}
 use Rattle.recode_log.specs.Told.{TellsReads, TellsTaken}
-use Rattle.recode_log.specs.laws.Told.{NoneYet, flushed_none, taken_kept, reads_none, reads_after, reads_then, taken_none, taken_then}
+use Rattle.recode_log.specs.laws.Told.{NoneYet, flushed_none, taken_kept, reads_none, reads_after, reads_one, reads_then, taken_none, taken_then}
 use Rattle.recode.specs.Told.{Told, TellWhatPassed}
 use Rattle.recode.specs.declared.job.Fault.{Fault}
 use Rattle.recode.specs.declared.job.Fault.TheVariants.{Read}
@@ -105,6 +105,8 @@ pub step_calls : {T E : Type 0} (reader reader' writer log : List Call) (r : Res
     → IfErr answer (EndsAtFault reader' writer log) → StepCalls reader reader' writer log room answer
 step_calls reader reader' writer log (Ok n) buf room answer once size last = record { call = Passed (length buf) (take n buf); once = once; is = size; last = last }
 step_calls reader reader' writer log (Err e) buf room answer once size last = record { call = Failed (length buf); once = once; is = size; last = last }
+
+pub ruleset step_rules = (step_calls, reads_one, taken_none)
 
 module _ (d e : Devices) (t u : Told) (tells : TellWhatPassed d e t u) (j : Job) where
   pub completes_told : (p : Report) → Completes d.reads e.reads d.written e.written j p → CompletesTold d e t u j p

@@ -9,7 +9,7 @@ use Rattle.recode.specs.calls.Writers.{is_end}
 use Rattle.recode.proofs.TraceLemmas.{Gave-one, GaveToEnd-one, handed_on}
 use Rattle.recode.proofs.StepLemmas.{stops_unread, stops_refused, stops_under}
 use Rattle.recode.proofs.LatencyLemmas.{finishes, steps_on}
-use Rattle.recode_log.specs.laws.Told.{ended_before, reads_one, taken_none}
+use Rattle.recode_log.specs.laws.Told.{ended_before, reads_one}
 use Rattle.recode.proofs.TellLemmas.{last_of_writers, step_calls}
 use Rattle.recode.proofs.session.Session.step.Given.{Over}
 use Rattle.recode.proofs.session.Session.step.Goals.{After-read}
@@ -53,18 +53,9 @@ returns-then-read-eq0-clause-done g c e =
 reads : (g : Over) (c : After-read g) → TellsReads (passed_by (history_of c.args.reader.now)) (passed_by (history_of c.read.new.self)) (g.R.Read.remaining (inner_of c.args.reader.now)) (g.R.Read.remaining (inner_of c.read.new.self))
 reads g c = reads_one _ _ _ _ c.read.result c.read.new.buf c.read.ensures.call c.read.ensures.bytes c.read.ensures.bound (omega (arith, c.read.auto.buf, c.requires.buffers.input))
 
-pub returns-in_default-clause-told : goal.returns-in_default-clause-told
-returns-in_default-clause-told g c = (record { input = reads g (goal.at.returns-in_default-clause-told g c).After-read; output = taken_none _ _; log = taken_none _ _ }, λ is. cc)
-
-pub returns-then-read-self-clause-told : goal.returns-then-read-self-clause-told
-returns-then-read-self-clause-told g c = (record { input = reads g (goal.at.returns-then-read-self-clause-told g c).After-read; output = taken_none _ _; log = taken_none _ _ }, λ is. cc)
-
 pub returns-in_err-write_chunk-clause-told : goal.returns-in_err-write_chunk-clause-told
 returns-in_err-write_chunk-clause-told g c =
     (record { input = reads g (goal.at.returns-in_err-write_chunk-clause-told g c).After-read; output = search rules; log = search rules }, λ is. absurd (rw is at c.from_residual.ensures.1))
-
-pub returns-else-read-eq0-clause-told : goal.returns-else-read-eq0-clause-told
-returns-else-read-eq0-clause-told g c = (record { input = reads g (goal.at.returns-else-read-eq0-clause-told g c).After-read; output = search rules; log = search rules }, λ is. cc)
 
 pub returns-then-read-eq0-clause-told : goal.returns-then-read-eq0-clause-told
 returns-then-read-eq0-clause-told g c =
@@ -74,19 +65,7 @@ returns-then-read-eq0-clause-told g c =
 
 -- The calls.
 
-pub returns-in_default-clause-calls : goal.returns-in_default-clause-calls
-returns-in_default-clause-calls g c = step_calls _ _ _ _ c.read.result c.read.new.buf _ _ c.read.ensures.call c.read.auto.buf (record { earlier = _; room = _; ends = c.in_default.ensures.call })
-
-pub returns-then-read-self-clause-calls : goal.returns-then-read-self-clause-calls
-returns-then-read-self-clause-calls g c = step_calls _ _ _ _ c.read.result c.read.new.buf _ _ c.read.ensures.call c.read.auto.buf tt
-
 pub returns-in_err-write_chunk-clause-calls : goal.returns-in_err-write_chunk-clause-calls
 returns-in_err-write_chunk-clause-calls g c =
     let e = c.in_err-write_chunk.ensures.failures in
     step_calls _ _ _ _ c.read.result c.read.new.buf _ _ c.read.ensures.call c.read.auto.buf (handed_on _ _ _ c.from_residual.ensures.1 (last_of_writers {T = Unit {0}} (Err _) _ _ _ e.not_other (search rules)))
-
-pub returns-then-read-eq0-clause-calls : goal.returns-then-read-eq0-clause-calls
-returns-then-read-eq0-clause-calls g c = step_calls _ _ _ _ c.read.result c.read.new.buf _ _ c.read.ensures.call c.read.auto.buf tt
-
-pub returns-else-read-eq0-clause-calls : goal.returns-else-read-eq0-clause-calls
-returns-else-read-eq0-clause-calls g c = step_calls _ _ _ _ c.read.result c.read.new.buf _ _ c.read.ensures.call c.read.auto.buf tt
