@@ -57,6 +57,9 @@ pub returns-in_err-write_chunk-clause-told : goal.returns-in_err-write_chunk-cla
 returns-in_err-write_chunk-clause-told g c =
     (record { input = reads g (goal.at.returns-in_err-write_chunk-clause-told g c).After-read; output = search rules; log = search rules }, λ is. absurd (rw is at c.from_residual.ensures.1))
 
+pub returns-else-read-eq0-clause-told : goal.returns-else-read-eq0-clause-told
+returns-else-read-eq0-clause-told g c = (record { input = reads g (goal.at.returns-else-read-eq0-clause-told g c).After-read; output = search rules; log = search rules }, λ is. cc)
+
 pub returns-then-read-eq0-clause-told : goal.returns-then-read-eq0-clause-told
 returns-then-read-eq0-clause-told g c =
     let none : c.in-Ok.read ≡ 0 = c.if-read-eq0.true in
