@@ -22,7 +22,7 @@ use Rattle.recode.specs.declared.job.Report.{Report}
 use Rattle.recode.proofs.LatencyLemmas.{stands_run, wrote_decided}
 use Rattle.recode.proofs.StepLemmas.{HasStopped}
 use Rattle.recode.proofs.StopLemmas.{bads_of, losts_of, mapped_where_faithful, output_where_mapped, quiet_where_kept, trace_where_spared, whole_within}
-use Rattle.recode.proofs.WorkLemmas.{items_split}
+use Rattle.recode.proofs.TraceLemmas.{items_split}
 
 -- nothing was lost if each piece is well-formed and each character has bytes, and only then
 pub faithful_where_kept : (j : Job) (x : List ℕ) → IsValidJob j → KeepsCharacters j.to → AreWellFormed (input_pieces j x) → AllMapped (target_of j) (input_text j x) → Faithful j x

@@ -1,14 +1,15 @@
--- How what was written and what is still to be written compose. What the trace of a whole input is made of. If
--- the log is empty, and if a stop cut it short.
-use Rattle.std.proofs.Common.{arith, ◌<◌, ◌+◌, Result, Ok, Err, IfErr, IsErrAnd, Bool, true, ◌≡◌, ℕ, List, [], ◌∷◌, ◌++◌, map, take, drop, refl, ap, sym, ◌∙◌, subst, append_assoc, take-append-drop, length}
+-- What calls of devices passed in a row, and how what was written and what is still to be written compose. What the
+-- trace of a whole input is made of. If the log is empty, and if a stop cut it short.
+use Rattle.std.proofs.Common.{◌≡◌, List, [], ◌∷◌, ◌++◌, ℕ, refl, sym, ap, ◌∙◌, append_assoc, append-nil, arith, ◌<◌, ◌+◌, Result, Ok, Err, IfErr, IsErrAnd, Bool, true, map, take, drop, subst, take-append-drop, length}
+use Rattle.std.specs.List.{concat, flat_map}
+use Rattle.std.proofs.lemmas.List.Folds.{concat-append}
+use Rattle.recode.specs.Devices.{Gave, GaveThen, GaveToEnd, Grew, Written}
 use Rattle.std.proofs.lemmas.List.{map-append}
-use Rattle.recode.proofs.GrowLemmas.{Grew-nil, Grew-trans}
 use Rattle.encoding_mem.specs.declared.reference.Reference.{Reference}
 use Rattle.encoding_mem.specs.Items.{Item, Byte, MalformedAt, LostAt, item_bytes, open_items, form_items, trace_from}
 use Rattle.recode_log.specs.Line.{line_bytes}
 use Rattle.recode.specs.laws.Items.{output_bytes-append, log_bytes-append, output_bytes-bytes, log_bytes-bytes, output_bytes-lines, log_bytes-lines, tagged-append, lost_line_count-append, written_spared, spared_nil, spared_bytes}
 use Rattle.recode.specs.laws.Parts.{log_bytes-noted, noted-append}
-use Rattle.recode.specs.Devices.{Grew, Written}
 use Rattle.recode.specs.TaggedByte.{TaggedByte, Line, output_bytes, log_bytes, Wrote, tagged}
 use Rattle.recode.specs.Parts.{noted}
 use Rattle.recode.specs.Policy.{up_to_loss, written_under, reference_form}
@@ -20,7 +21,6 @@ use Rattle.encoding_mem.specs.Coding.{Coding, open_from, whole_from, last_set, r
 use Rattle.encoding_mem.specs.declared.form.EscapeState.{EscapeState}
 use Rattle.encoding_mem.specs.declared.form.EscapeState.TheVariants.{Ascii}
 use Rattle.recode.specs.declared.counts.Counts.{Counts}
-use Rattle.std.specs.List.{flat_map}
 use Rattle.encoding_mem.specs.Piece.{Piece, well_formed, malformed, text}
 use Rattle.encoding_mem.specs.laws.EncoderCalls.{item_bytes-append, item_bytes-bytes, item_bytes-open_items, last_set-append, open_from-append}
 use Rattle.encoding_mem.specs.declared.form.Form.{Form}
@@ -29,6 +29,37 @@ use Rattle.recode_log.specs.declared.line.LogLine.{LogLine}
 use Rattle.recode.specs.Job.{form_lines, lost_log_lines, log_lines, input_pieces, input_text, log_of, target_of, trace, lines_up_to_loss, whole_trace}
 use Rattle.recode_log.specs.declared.line.LogLine.TheVariants.{Bad, Lost}
 use Rattle.recode.specs.declared.job.Job.{Job}
+
+pub Grew-nil : (a : List ℕ) → Grew a a []
+Grew-nil a = sym (append-nil a)
+
+pub Grew-trans : (a b c s t : List ℕ) → Grew a b s → Grew b c t → Grew a c (s ++ t)
+Grew-trans a b c s t p q = q ∙ ap (λ l. l ++ t) p ∙ append_assoc a s t
+
+pub Gave-nil : (a : List (List ℕ)) → Gave a a []
+Gave-nil a = ([], sym (append-nil a), refl)
+
+pub Gave-trans : (a b c : List (List ℕ)) (s t : List ℕ) → Gave a b s → Gave b c t → Gave a c (s ++ t)
+Gave-trans a b c s t p q = (p.0 ++ q.0, q.1 ∙ ap (λ l. l ++ q.0) p.1 ∙ append_assoc a p.0 q.0, concat-append p.0 q.0 ∙ ap (λ l. l ++ concat q.0) p.2 ∙ ap (λ l. s ++ l) q.2)
+
+-- one call more
+pub Gave-one : (a b : List (List ℕ)) (s : List ℕ) → b ≡ a ++ (s ∷ []) → Gave a b s
+Gave-one a b s e = (s ∷ [], e, append-nil s)
+
+-- that gave none
+pub GaveToEnd-one : (a b : List (List ℕ)) (s : List ℕ) → b ≡ a ++ (s ∷ []) → s ≡ [] → GaveToEnd a b s
+GaveToEnd-one a b s e none = ([], e ∙ ap (λ x. a ++ (x ∷ [])) none, sym none)
+
+pub GaveThen-after : (a b c : List (List ℕ)) (s t last : List ℕ) → Gave a b s → GaveThen b c t last → GaveThen a c (s ++ t) last
+GaveThen-after a b c s t last p q = (
+  p.0 ++ q.0,
+  q.1 ∙ ap (λ l. l ++ (q.0 ++ (last ∷ []))) p.1 ∙ append_assoc a p.0 (q.0 ++ (last ∷ [])) ∙ ap (λ l. a ++ l) (sym (append_assoc p.0 q.0 (last ∷ []))),
+  concat-append p.0 q.0 ∙ ap (λ l. l ++ concat q.0) p.2 ∙ ap (λ l. s ++ l) q.2,
+)
+
+-- all of it is what was given
+pub GaveToEnd-is : (a b : List (List ℕ)) (s : List ℕ) → GaveToEnd a b s → Gave a b s
+GaveToEnd-is a b s p = (p.0 ++ ([] ∷ []), p.1, concat-append p.0 ([] ∷ []) ∙ append-nil (concat p.0) ∙ p.2)
 
 pub Wrote-nil : (w : Written) → Wrote w w []
 Wrote-nil w = record { output = Grew-nil w.output; lined = Grew-nil w.log }
@@ -156,6 +187,15 @@ output_bytes-tagged [] = refl
 output_bytes-tagged (Byte b ∷ t) = ap (λ x. b ∷ x) (output_bytes-tagged t)
 output_bytes-tagged (MalformedAt offset size ∷ t) = rw (output_bytes-append (map Line (line_bytes (LogLine.Bad offset size))) (tagged t), output_bytes-lines (line_bytes (LogLine.Bad offset size))) (output_bytes-tagged t)
 output_bytes-tagged (LostAt index scalar ∷ t) = rw (output_bytes-append (map Line (line_bytes (LogLine.Lost index scalar))) (tagged t), output_bytes-lines (line_bytes (LogLine.Lost index scalar))) (output_bytes-tagged t)
+
+-- items are bytes and lines
+split : (t : List Item) → length t ≡ length (item_bytes t) + bad_line_count t + lost_line_count t
+split [] = refl
+split (Byte b ∷ t) = omega (arith, split t)
+split (x ∷ t) = omega (arith, split t)
+
+pub items_split : (t : List Item) → length t ≡ length (output_bytes (tagged t)) + bad_line_count t + lost_line_count t
+items_split t = omega (arith, split t, ap length (output_bytes-tagged t))
 
 pub whole_from-append : (ref : Reference) (e : Coding) (s : EscapeState) (a b : List ℕ) → whole_from ref e s (a ++ b) ≡ open_from ref e s a ++ whole_from ref e (last_set e s a) b
 whole_from-append ref e s a b = rw (open_from-append ref e s a b, last_set-append e s a b) (append_assoc (open_from ref e s a) (open_from ref e (last_set e s a) b) (e.escape (last_set e (last_set e s a) b) Ascii))

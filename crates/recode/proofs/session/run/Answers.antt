@@ -4,12 +4,11 @@ use Rattle.recode.specs.calls.SessionView.{view_of}
 use Rattle.recode.specs.declared.job.Job.{Job}
 use Rattle.recode_log.specs.laws.Counts.{counts_none, counts_then}
 use Rattle.recode_log.specs.laws.Told.{none_yet}
-use Rattle.recode.proofs.TellLemmas.{none_yet_on, reads_on, reads_start, run_calls, tells_none, tells_then}
+use Rattle.recode.proofs.TellLemmas.{completes_told, fails_told, none_yet_on, reads_on, reads_start, run_calls, tells_none, tells_then}
 use Rattle.recode.proofs.WriterLemmas.{kept_enough, kept_on, kept_start}
 use Rattle.recode.proofs.LatencyLemmas.{new_settled}
 use Rattle.recode.proofs.StepLemmas.{goes_on_start, goes_on_more, goes_on_finish, goes_on_stop}
 use Rattle.recode.proofs.RunLemmas.{completes, fails, few_calls}
-use Rattle.recode.proofs.ToldLemmas.{completes_told, fails_told}
 use Rattle.recode.proofs.session.run.Goals as goal
 
 pub run-init : goal.run-init
