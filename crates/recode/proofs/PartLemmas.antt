@@ -1,5 +1,5 @@
 -- An input converted part by part.
-use Rattle.std.proofs.Common.{◌≡◌, ℕ, ◌+◌, ◌<◌, Bool, Option, None, Some, ◌↔◌, inl, inr, true, false, List, [], ◌∷◌, ◌++◌, map, length, refl, sym, ◌∙◌, ap, subst, arith, append-nil, length-append}
+use Rattle.std.proofs.Common.{◌≡◌, ℕ, ◌+◌, ◌<◌, Option, ◌↔◌, IsTrue, inl, inr, true, List, [], ◌∷◌, ◌++◌, map, length, refl, sym, ◌∙◌, ap, subst, arith, append-nil, length-append}
 use Rattle.std.proofs.lemmas.Grind.{flat_map-append}
 use Rattle.std.proofs.lemmas.List.{append_cancel_left, map-append}
 use Rattle.std.specs.List.{concat, flat_map}
@@ -17,14 +17,13 @@ use Rattle.encoding_mem.specs.laws.Agreement.{broken_never_reads, broken_stays, 
 use Rattle.encoding_mem.specs.laws.EncoderCalls.{all_mapped-append}
 use Rattle.encoding_mem.specs.laws.Losses.{lost_count-append}
 use Rattle.encoding_mem.specs.laws.Piece.{AreWellFormed-append, malformed_count-append, text-append}
-use Rattle.encoding_front.specs.Encodings.{mark_at_start, output_encoding_of}
+use Rattle.encoding_front.specs.Encodings.{is_ascii_compatible_of, mark_at_start, output_encoding_of}
 use Rattle.encoding_front.specs.Marks.{takes_mark_of}
 use Rattle.encoding_front.specs.declared.encoding.Encoding.{Encoding}
 use Rattle.encoding_front.specs.laws.Encodings.{agrees_or_breaks}
 use Rattle.encoding_front.specs.laws.Input.{marked_scalars, marked_whole}
 use Rattle.encoding_front.specs.laws.Parts.{ends_alone, one_set_for, parts_of, source_by_mark, source_if, source_is_ready, stands_alone_of, writes_of}
 use Rattle.recode_log.specs.Line.{line_bytes}
-use Rattle.recode_log.specs.declared.line.LogLine.{LogLine}
 use Rattle.recode.specs.Job.{Faithful, IsValidJob, RunsThrough, input_pieces, input_text, output_of, output_pieces, source_in, target_of, trace, whole_trace}
 use Rattle.recode.specs.Devices.{Written}
 use Rattle.recode.specs.Parts.{AddsUp, AreFaithful, AreOfWhole, AreParts, CanBeCut, later, noted, lines_of, later_lines, moved, moved_line, unwritten}
@@ -36,7 +35,7 @@ use Rattle.recode.specs.declared.job.Policy.{Policy}
 use Rattle.recode.specs.declared.job.Report.{Report}
 use Rattle.recode.specs.laws.Items.{output_bytes-append, tagged-append, written_spared}
 use Rattle.recode.proofs.StopLemmas.{losts_of, mapped_where_faithful, output_where_mapped, runs_through, trace_where_spared}
-use Rattle.recode.specs.laws.Parts.{cut_is_last, last_is_ascii, log_bytes-noted, moved_lines, moved_output, moved_trace, moved_twice, moved_under, noted-append, trace_parts}
+use Rattle.recode.specs.laws.Parts.{cut_is_last, last_is_ascii, log_bytes-noted, moved_lines, moved_none, moved_output, moved_trace, moved_twice, moved_under, noted-append, trace_parts}
 use Rattle.recode.proofs.TraceLemmas.{output_bytes-tagged, whole_from-append}
 
 -- the output
@@ -67,6 +66,9 @@ module _ (j : Job) (x y : List ℕ) (v : IsValidJob j) (c : CanBeCut j x) where
 
   one : HasOneSet (target_of j)
   one = one_set_for j.tables.now j.to c.target
+
+  later_valid : IsValidJob (later j x)
+  later_valid = later_is_valid j x v
 
   pub source_parts : source_in j (x ++ y) ≡ source_in j x
   source_parts = ap (λ s. s.0) (parts_of j.tables.now j.mark j.from x y v.tables c.ends c.source).0
@@ -154,46 +156,43 @@ module _ (j : Job) (x y : List ℕ) (v : IsValidJob j) (c : CanBeCut j x) where
   read_whole : output_pieces j (output ref (target_of j) (input_text j (x ++ y))) ≡ output_pieces j (output ref (target_of j) (input_text j x)) ++ output_pieces j (output ref (target_of j) (input_text (later j x) y))
   read_whole = ap (output_pieces j) whole_output ∙ read_parts (output ref (target_of j) (input_text (later j x) y))
 
-  together : Faithful j x → Faithful (later j x) y → Faithful j (x ++ y)
-  together f g =
-      let valid = later_is_valid j x v in
-      let first = mapped_where_faithful j x v f in
-      let second = mapped_where_faithful (later j x) y valid g in
-      let whole : AllMapped (target_of j) (input_text j (x ++ y)) = subst (AllMapped (target_of j)) (sym text_parts) (all_mapped-append (target_of j) (input_text j x) (input_text (later j x) y) first second) in
-      let is : output_pieces j (output_of j (x ++ y)) ≡ output_pieces j (output_of j x) ++ output_pieces j (output_of (later j x) y) =
+  -- what is read back of the whole is what is read back of each part
+  read_back : AllMapped (target_of j) (input_text j x) → AllMapped (target_of j) (input_text (later j x) y)
+      → output_pieces j (output_of j (x ++ y)) ≡ output_pieces j (output_of j x) ++ output_pieces j (output_of (later j x) y)
+  read_back first second =
+      let whole = subst (AllMapped (target_of j)) (sym text_parts) (all_mapped-append (target_of j) (input_text j x) (input_text (later j x) y) first second) in
       ap (output_pieces j) (output_where_mapped j (x ++ y) v whole) ∙ read_whole
       ∙ ap (λ l. output_pieces j l ++ output_pieces j (output ref (target_of j) (input_text (later j x) y))) (sym (output_where_mapped j x v first))
-      ∙ ap (λ l. output_pieces j (output_of j x) ++ output_pieces j l) (sym (output_where_mapped (later j x) y valid second)) in
+      ∙ ap (λ l. output_pieces j (output_of j x) ++ output_pieces j l) (sym (output_where_mapped (later j x) y later_valid second))
+
+  together : Faithful j x → Faithful (later j x) y → Faithful j (x ++ y)
+  together f g =
+      let is = read_back (mapped_where_faithful j x v f) (mapped_where_faithful (later j x) y later_valid g) in
       record {
         source = subst AreWellFormed (sym pieces_parts) (AreWellFormed-append (input_pieces j x) (input_pieces (later j x) y) f.source g.source);
         target = subst AreWellFormed (sym is) (AreWellFormed-append (output_pieces j (output_of j x)) (output_pieces j (output_of (later j x) y)) f.target g.target);
-        same = ap text is ∙ text-append (output_pieces j (output_of j x)) (output_pieces j (output_of (later j x) y)) ∙ ap (λ l. l ++ text (output_pieces j (output_of (later j x) y))) f.same ∙ ap (λ l. input_text j x ++ l) g.same ∙ sym text_parts;
+        same = ap text is ∙ text-append (output_pieces j (output_of j x)) (output_pieces j (output_of (later j x) y)) ∙ cc (f.same, g.same, text_parts);
       }
 
   apart : Faithful j (x ++ y) → Faithful j x × Faithful (later j x) y
   apart f =
       let e = target_of j in
-      let valid = later_is_valid j x v in
       let whole = mapped_where_faithful j (x ++ y) v f in
       let mapped = mapped_parts e (input_text j x) (input_text (later j x) y) (subst (AllMapped e) text_parts whole) in
       let source = well_formed_parts (input_pieces j x) (input_pieces (later j x) y) (subst AreWellFormed pieces_parts f.source) in
-      let one_is : output_of j x ≡ output ref e (input_text j x) = output_where_mapped j x v mapped.0 in
-      let other_is : output_of (later j x) y ≡ output ref e (input_text (later j x) y) = output_where_mapped (later j x) y valid mapped.1 in
-      let all_is : output_of j (x ++ y) ≡ output ref e (input_text j (x ++ y)) = output_where_mapped j (x ++ y) v whole in
-      let first : List Piece = output_pieces j (output ref e (input_text j x)) in
-      let second : List Piece = output_pieces j (output ref e (input_text (later j x) y)) in
-      let is : output_pieces j (output_of j (x ++ y)) ≡ first ++ second = ap (output_pieces j) all_is ∙ read_whole in
+      let is = read_back mapped.0 mapped.1 in
+      let first : List Piece = output_pieces j (output_of j x) in
+      let second : List Piece = output_pieces j (output_of (later j x) y) in
       let target = well_formed_parts first second (subst AreWellFormed is f.target) in
       let joined : text first ++ text second ≡ input_text j x ++ input_text (later j x) y = sym (text-append first second) ∙ ap text (sym is) ∙ f.same ∙ text_parts in
       elim ((agrees_or_breaks j.tables.now j.to v.tables).at_end ref (input_text j x) scalars) [
         | inl reads ↦
-            let rest : text second ≡ input_text (later j x) y = append_cancel_left (input_text j x) (text second) (input_text (later j x) y) (ap (λ l. l ++ text second) (sym reads.same) ∙ joined) in (
-              record { source = source.0; target = subst (λ l. AreWellFormed (output_pieces j l)) (sym one_is) target.0; same = ap (λ l. text (output_pieces j l)) one_is ∙ reads.same },
-              record { source = source.1; target = subst (λ l. AreWellFormed (output_pieces j l)) (sym other_is) target.1; same = ap (λ l. text (output_pieces j l)) other_is ∙ rest },
-            )
+            let same : text first ≡ input_text j x = ap (λ l. text (output_pieces j l)) (output_where_mapped j x v mapped.0) ∙ reads.same in
+            let rest = append_cancel_left (input_text j x) (text second) (input_text (later j x) y) (ap (λ l. l ++ text second) (sym same) ∙ joined) in
+            (record { source = source.0; target = target.0; same = same }, record { source = source.1; target = target.1; same = rest })
         | inr broken ↦
             let more : List ℕ = output ref e (input_text (later j x) y) in
-            let begun : output_of j (x ++ y) ≡ open_from ref e Ascii (input_text j x) ++ more = all_is ∙ ap (output ref e) text_parts ∙ output_parts ref e one (input_text j x) (input_text (later j x) y) in
+            let begun : output_of j (x ++ y) ≡ open_from ref e Ascii (input_text j x) ++ more = output_where_mapped j (x ++ y) v whole ∙ ap (output ref e) text_parts ∙ output_parts ref e one (input_text j x) (input_text (later j x) y) in
             let reads : ReadsAs (output_pieces j) (open_from ref e Ascii (input_text j x) ++ more) (input_text j x ++ input_text (later j x) y) =
             record { well_formed = subst (λ l. AreWellFormed (output_pieces j l)) begun f.target; same = ap (λ l. text (output_pieces j l)) (sym begun) ∙ f.same ∙ text_parts } in
             absurd (broken_never_reads (output_pieces j) _ _ (broken_stays (output_pieces j) (open_from ref e Ascii (input_text j x)) (input_text j x) more (input_text (later j x) y) broken) reads)
@@ -202,94 +201,68 @@ module _ (j : Job) (x y : List ℕ) (v : IsValidJob j) (c : CanBeCut j x) where
   pub faithful_parts : Faithful j (x ++ y) ↔ (Faithful j x × Faithful (later j x) y)
   faithful_parts = (apart, λ each. together each.0 each.1)
 
+  -- what two reports say of it
+  pub verdicts_say : (p q : Report) → (IsTrue p.faithful ↔ Faithful j x) → (IsTrue q.faithful ↔ Faithful (later j x) y) → Faithful j (x ++ y) ↔ (IsTrue p.faithful × IsTrue q.faithful)
+  verdicts_say p q one_says other = (λ f. let each = apart f in (one_says.1 each.0, other.1 each.1), λ each. together (one_says.0 each.0) (other.0 each.1))
+
   pub reports_of_parts : (p q r : Report) → IsReport j x p → IsReport (later j x) y q → IsReport j (x ++ y) r → AddsUp p q r
-  reports_of_parts p q r one_report other all = record {
-    read = all.read ∙ length-append x y ∙ omega (arith, one_report.read, other.read);
-    bad = all.bad ∙ ap malformed_count pieces_parts ∙ malformed_count-append (input_pieces j x) (input_pieces (later j x) y) ∙ omega (arith, one_report.bad, other.bad);
-    lost = all.lost ∙ lost_in_parts ∙ omega (arith, one_report.lost, other.lost);
-    encoding = all.encoding ∙ source_parts ∙ sym one_report.encoding;
-    faithful = (
-      λ told. let each = faithful_parts.0 (all.faithful.0 told) in (one_report.faithful.1 each.0, other.faithful.1 each.1),
-      λ each. all.faithful.1 (faithful_parts.1 (one_report.faithful.0 each.0, other.faithful.0 each.1)),
-    );
-  }
+  reports_of_parts p q r one_report other all =
+      let verdict = verdicts_say p q one_report.faithful other.faithful in
+      record {
+        read = omega (arith, all.read, length-append x y, one_report.read, other.read);
+        bad = omega (arith, all.bad, ap malformed_count pieces_parts, malformed_count-append (input_pieces j x) (input_pieces (later j x) y), one_report.bad, other.bad);
+        lost = omega (arith, all.lost, lost_in_parts, one_report.lost, other.lost);
+        encoding = all.encoding ∙ source_parts ∙ sym one_report.encoding;
+        faithful = (λ told. verdict.0 (all.faithful.0 told), λ each. all.faithful.1 (verdict.1 each));
+      }
 
 -- ---- more parts than two
 
-module _ (j : Job) (x : List ℕ) (v : IsValidJob j) (c : CanBeCut j x) where
-  abbrev rest : Job
-  rest = later j x
+are_parts : (x : List ℕ) (parts : List (List ℕ)) → EndsInCut x → AreParts parts → AreParts (x ∷ parts)
+are_parts x [] ends are = tt
+are_parts x (y ∷ parts) ends are = (ends, are)
 
-  rest_is_valid : IsValidJob rest
-  rest_is_valid = later_is_valid j x v
+-- what is said of a job's first part and those after it
+record AreWhole (j : Job) (x : List ℕ) (parts : List (List ℕ)) : Type 0 where
+  pub output : RunsThrough j (x ++ concat parts) → output_of j (x ++ concat parts) ≡ output_of j x ++ flat_map (output_of (later j x)) parts
+  pub lines : RunsThrough j (x ++ concat parts) → (n m : ℕ) → map (moved_line n m) (lines_of j (x ++ concat parts))
+      ≡ map (moved_line n m) (lines_of j x) ++ later_lines (later j x) (n + length x) (m + length (input_text j x)) parts
+  pub verdict : Faithful j (x ++ concat parts) ↔ (Faithful j x × AreFaithful (later j x) parts)
 
-  cut_behind : (y : List ℕ) → EndsInCut y → CanBeCut rest y
-  cut_behind y ends = record { ends = ends; source = c.source; target = c.target }
+are_whole : (j : Job) (x : List ℕ) (parts : List (List ℕ)) → IsValidJob j → is_ascii_compatible_of (source_in j x) ≡ true → is_ascii_compatible_of (output_encoding_of j.to) ≡ true → AreParts (x ∷ parts) → AreWhole j x parts
+are_whole j x [] v source target are = record {
+  output = λ through. ap (output_of j) (append-nil x) ∙ sym (append-nil (output_of j x));
+  lines = λ through n m. ap (λ l. map (moved_line n m) (lines_of j l)) (append-nil x) ∙ sym (append-nil (map (moved_line n m) (lines_of j x)));
+  verdict = (λ f. (subst (Faithful j) (append-nil x) f, tt), λ f. subst (Faithful j) (sym (append-nil x)) f.0);
+}
+are_whole j x (y ∷ parts) v source target are =
+    let c : CanBeCut j x = record { ends = are.0; source = source; target = target } in
+    let behind : List ℕ = y ++ concat parts in
+    let more = are_whole (later j x) y parts (later_is_valid j x v) source target are.1 in
+    let through = (runs_through_parts j x behind v c).0 in
+    let two = faithful_parts j x behind v c in
+    record {
+      output = λ all. output_of_parts j x behind v c (through all).0 ∙ ap (λ l. output_of j x ++ l) (more.output (through all).1);
+      lines = λ all n m.
+          ap (map (moved_line n m)) (two_lines j x behind v c (through all).0)
+          ∙ map-append (moved_line n m) (lines_of j x) (map (moved_line (length x) (length (input_text j x))) (lines_of (later j x) behind))
+          ∙ ap (λ l. map (moved_line n m) (lines_of j x) ++ l) (moved_twice n m (length x) (length (input_text j x)) (lines_of (later j x) behind) ∙ more.lines (through all).1 (n + length x) (m + length (input_text j x)));
+      verdict = (λ f. let each = two.0 f in (each.0, more.verdict.0 each.1), λ f. two.1 (f.0, more.verdict.1 f.1));
+    }
 
-  more_outputs : (y : List ℕ) (parts : List (List ℕ)) → AreParts (y ∷ parts) → RunsThrough rest (concat (y ∷ parts)) → output_of rest (concat (y ∷ parts)) ≡ flat_map (output_of rest) (y ∷ parts)
-  more_outputs y [] are through = ap (output_of rest) (append-nil y) ∙ sym (append-nil (output_of rest y))
-  more_outputs y (z ∷ parts) are through =
-      let cut = cut_behind y are.0 in
-      let each = (runs_through_parts rest y (concat (z ∷ parts)) rest_is_valid cut).0 through in
-      output_of_parts rest y (concat (z ∷ parts)) rest_is_valid cut each.0 ∙ ap (λ l. output_of rest y ++ l) (more_outputs z parts are.1 each.1)
+pub all_parts : (j : Job) (x : List ℕ) (parts : List (List ℕ)) → IsValidJob j → CanBeCut j x → AreParts parts → AreWhole j x parts
+all_parts j x parts v c are = are_whole j x parts v c.source c.target (are_parts x parts c.ends are)
 
-  more_lines : (n m : ℕ) (y : List ℕ) (parts : List (List ℕ)) → AreParts (y ∷ parts) → RunsThrough rest (concat (y ∷ parts)) → map (moved_line n m) (lines_of rest (concat (y ∷ parts))) ≡ later_lines rest n m (y ∷ parts)
-  more_lines n m y [] are through = ap (λ l. map (moved_line n m) (lines_of rest l)) (append-nil y) ∙ sym (append-nil (map (moved_line n m) (lines_of rest y)))
-  more_lines n m y (z ∷ parts) are through =
-      let cut = cut_behind y are.0 in
-      let each = (runs_through_parts rest y (concat (z ∷ parts)) rest_is_valid cut).0 through in
-      let behind : List LogLine = lines_of rest (concat (z ∷ parts)) in
-      ap (map (moved_line n m)) (two_lines rest y (concat (z ∷ parts)) rest_is_valid cut each.0)
-      ∙ map-append (moved_line n m) (lines_of rest y) (map (moved_line (length y) (length (input_text rest y))) behind)
-      ∙ ap (λ l. map (moved_line n m) (lines_of rest y) ++ l) (moved_twice n m (length y) (length (input_text rest y)) behind)
-      ∙ ap (λ l. map (moved_line n m) (lines_of rest y) ++ l) (more_lines (n + length y) (m + length (input_text rest y)) z parts are.1 each.1)
-
-  more_verdicts : (y : List ℕ) (parts : List (List ℕ)) → AreParts (y ∷ parts) → Faithful rest (concat (y ∷ parts)) ↔ AreFaithful rest (y ∷ parts)
-  more_verdicts y [] are = (λ f. (subst (Faithful rest) (append-nil y) f, tt), λ f. subst (Faithful rest) (sym (append-nil y)) f.0)
-  more_verdicts y (z ∷ parts) are =
-      let two = faithful_parts rest y (concat (z ∷ parts)) rest_is_valid (cut_behind y are.0) in
-      let more = more_verdicts z parts are.1 in
-      (λ f. let each = two.0 f in (each.0, more.0 each.1), λ f. two.1 (f.0, more.1 f.1))
-
-  pub outputs_of_many : (parts : List (List ℕ)) → AreParts parts → RunsThrough j (x ++ concat parts) → output_of j (x ++ concat parts) ≡ output_of j x ++ flat_map (output_of rest) parts
-  outputs_of_many [] are through = ap (output_of j) (append-nil x) ∙ sym (append-nil (output_of j x))
-  outputs_of_many (y ∷ parts) are through =
-      let each = (runs_through_parts j x (concat (y ∷ parts)) v c).0 through in
-      output_of_parts j x (concat (y ∷ parts)) v c each.0 ∙ ap (λ l. output_of j x ++ l) (more_outputs y parts are each.1)
-
-  pub lines_of_many : (parts : List (List ℕ)) → AreParts parts → RunsThrough j (x ++ concat parts) → lines_of j (x ++ concat parts) ≡ lines_of j x ++ later_lines rest (length x) (length (input_text j x)) parts
-  lines_of_many [] are through = ap (lines_of j) (append-nil x) ∙ sym (append-nil (lines_of j x))
-  lines_of_many (y ∷ parts) are through =
-      let each = (runs_through_parts j x (concat (y ∷ parts)) v c).0 through in
-      two_lines j x (concat (y ∷ parts)) v c each.0 ∙ ap (λ l. lines_of j x ++ l) (more_lines (length x) (length (input_text j x)) y parts are each.1)
-
-  pub verdicts_of_many : (parts : List (List ℕ)) → AreParts parts → Faithful j (x ++ concat parts) ↔ (Faithful j x × AreFaithful rest parts)
-  verdicts_of_many [] are = (λ f. (subst (Faithful j) (append-nil x) f, tt), λ f. subst (Faithful j) (sym (append-nil x)) f.0)
-  verdicts_of_many (y ∷ parts) are =
-      let two = faithful_parts j x (concat (y ∷ parts)) v c in
-      let more = more_verdicts y parts are in
-      (λ f. let each = two.0 f in (each.0, more.0 each.1), λ f. two.1 (f.0, more.1 f.1))
+pub lines_of_all : (j : Job) (x : List ℕ) (parts : List (List ℕ)) → AreWhole j x parts → RunsThrough j (x ++ concat parts) → lines_of j (x ++ concat parts) ≡ lines_of j x ++ later_lines (later j x) (length x) (length (input_text j x)) parts
+lines_of_all j x parts all through =
+    sym (moved_none (lines_of j (x ++ concat parts))) ∙ all.lines through 0 0
+    ∙ ap (λ l. l ++ later_lines (later j x) (length x) (length (input_text j x)) parts) (moved_none (lines_of j x))
 
 -- ---- the tests of callers
 
--- the source
+-- the source, by the mark that is found
 pub source_where_found : (j : Job) (x : List ℕ) (found : Option (Encoding × ℕ)) → found ≡ mark_at_start x → source_if (takes_mark_of j.mark j.from) j.from found ≡ source_in j x
 source_where_found j x found is = ap (source_if (takes_mark_of j.mark j.from) j.from) is ∙ sym (source_by_mark j.mark j.from x)
-
-pub taken_source : (j : Job) (x : List ℕ) (found : Option (Encoding × ℕ)) (pair : Encoding × ℕ) (f : Encoding) (t : Bool) → found ≡ mark_at_start x → found ≡ Some pair → f ≡ pair.0 → t ≡ takes_mark_of j.mark j.from f → t ≡ true → f ≡ source_in j x
-taken_source j x found pair f t is some same takes holds =
-    let taken : takes_mark_of j.mark j.from pair.0 ≡ true = ap (takes_mark_of j.mark j.from) (sym same) ∙ sym takes ∙ holds in
-    let chosen : source_if (takes_mark_of j.mark j.from) j.from (Some pair) ≡ pair.0 = rw taken refl in
-    same ∙ sym chosen ∙ ap (source_if (takes_mark_of j.mark j.from) j.from) (sym some) ∙ source_where_found j x found is
-
-pub untaken_source : (j : Job) (x : List ℕ) (found : Option (Encoding × ℕ)) (pair : Encoding × ℕ) (f : Encoding) (t : Bool) → found ≡ mark_at_start x → found ≡ Some pair → f ≡ pair.0 → t ≡ takes_mark_of j.mark j.from f → t ≡ false → j.from ≡ source_in j x
-untaken_source j x found pair f t is some same takes no_mark =
-    let taken : takes_mark_of j.mark j.from pair.0 ≡ false = ap (takes_mark_of j.mark j.from) (sym same) ∙ sym takes ∙ no_mark in
-    let chosen : source_if (takes_mark_of j.mark j.from) j.from (Some pair) ≡ j.from = rw taken refl in
-    sym chosen ∙ ap (source_if (takes_mark_of j.mark j.from) j.from) (sym some) ∙ source_where_found j x found is
-
-pub unmarked_source : (j : Job) (x : List ℕ) (found : Option (Encoding × ℕ)) → found ≡ mark_at_start x → found ≡ None → j.from ≡ source_in j x
-unmarked_source j x found is none = ap (source_if (takes_mark_of j.mark j.from) j.from) (sym none) ∙ source_where_found j x found is
 
 -- ---- runs on parts
 
@@ -297,17 +270,15 @@ pub runs_on_parts : (j : Job) (x y : List ℕ) (v w : Written) (p q : Report) �
 runs_on_parts j x y v w p q valid c one other =
     let k = length (input_text j x) in
     let ls = lines_of (later j x) y in
+    let through = one.whole.unstopped in
     record {
-      output = output_of_parts j x y valid c one.whole.unstopped ∙ ap (λ l. l ++ output_of (later j x) y) (sym one.whole.output) ∙ ap (λ l. v.output ++ l) (sym other.whole.output);
+      output = output_of_parts j x y valid c through ∙ cc (one.whole.output, other.whole.output);
       second = other.whole.logged ∙ log_bytes-noted (trace (later j x) y);
       log =
           log_bytes-noted (trace j (x ++ y))
-          ∙ ap (flat_map line_bytes) (two_lines j x y valid c one.whole.unstopped)
+          ∙ ap (flat_map line_bytes) (two_lines j x y valid c through)
           ∙ flat_map-append line_bytes (lines_of j x) (map (moved_line (length x) k) ls)
           ∙ ap (λ l. l ++ flat_map line_bytes (map (moved_line (length x) k) ls)) (sym (log_bytes-noted (trace j x)) ∙ sym one.whole.logged)
           ∙ ap (λ n. v.log ++ flat_map line_bytes (map (moved_line n k) ls)) (sym one.report.read);
-      faithful = (
-        λ f. let each = (faithful_parts j x y valid c).0 f in (one.report.faithful.1 each.0, other.report.faithful.1 each.1),
-        λ each. (faithful_parts j x y valid c).1 (one.report.faithful.0 each.0, other.report.faithful.0 each.1),
-      );
+      faithful = verdicts_say j x y valid c p q one.report.faithful other.report.faithful;
     }

@@ -99,6 +99,12 @@ module _ (n m : ℕ) where
   moved_twice a b (Bad o size ∷ ls) = cc (add_assoc n a o, moved_twice a b ls)
   moved_twice a b (Lost i c ∷ ls) = cc (add_assoc m b i, moved_twice a b ls)
 
+-- nothing before a part moves nothing
+pub moved_none : (ls : List LogLine) → map (moved_line 0 0) ls ≡ ls
+moved_none [] = refl
+moved_none (Bad o size ∷ ls) = ap (λ l. Bad o size ∷ l) (moved_none ls)
+moved_none (Lost i c ∷ ls) = ap (λ l. Lost i c ∷ l) (moved_none ls)
+
 -- ---- the lines among items
 
 -- the lines of joined items
