@@ -3,7 +3,6 @@ use Rattle.std.proofs.Common.{◌≡◌, ℕ, ◌+◌, ◌<◌, Option, ◌↔�
 use Rattle.std.proofs.lemmas.Grind.{flat_map-append}
 use Rattle.std.proofs.lemmas.List.{append_cancel_left, map-append}
 use Rattle.std.specs.List.{concat, flat_map}
-use Rattle.std.specs.Str.{all_scalars}
 use Rattle.encoding_mem.specs.Coding.{AllMapped, Coding, last_set, lost_count, open_from, output, spelled, whole_from}
 use Rattle.encoding_mem.specs.Items.{Item, trace_from}
 use Rattle.encoding_mem.specs.Parts.{EndsInCut, StandsAlone}
@@ -90,8 +89,7 @@ module _ (j : Job) (x y : List ℕ) (v : IsValidJob j) (c : CanBeCut j x) where
       let more : List Item = map (moved (length x) (length (input_text j x))) (whole_trace (later j x) y) in
       ap (written_under j.policy) whole_parts
       ∙ written_spared j.policy (whole_trace j x) more (runs_through j x through)
-      ∙ ap (λ l. l ++ written_under j.policy more) (sym (trace_where_spared j x (runs_through j x through)))
-      ∙ ap (λ l. trace j x ++ l) (moved_under j.policy (length x) (length (input_text j x)) (whole_trace (later j x) y))
+      ∙ cc (trace_where_spared j x (runs_through j x through), moved_under (length x) (length (input_text j x)) j.policy (whole_trace (later j x) y))
 
   pub stops_in_first : j.policy ≡ Policy.Stop → 0 < lost_count (target_of j) (input_text j x) → trace j (x ++ y) ≡ trace j x
   stops_in_first stops some =
@@ -125,10 +123,6 @@ module _ (j : Job) (x y : List ℕ) (v : IsValidJob j) (c : CanBeCut j x) where
     λ each stops. omega (arith, each.0 stops, each.1 stops, lost_in_parts),
   )
 
-  -- the verdict
-  scalars : all_scalars (input_text j x) ≡ true
-  scalars = marked_scalars j.tables.now j.mark j.from x v.tables
-
   -- the text of the first part ends in its last byte's character, and its output in that byte
   text_ends : (before : List ℕ) × (input_text j x ≡ before ++ c.ends.byte ∷ [])
   text_ends =
@@ -147,14 +141,11 @@ module _ (j : Job) (x y : List ℕ) (v : IsValidJob j) (c : CanBeCut j x) where
       let law : StandsAlone (output_pieces j) c.ends.byte = stands_alone_of j.tables.now (output_encoding_of j.to) c.ends.byte c.target v.tables c.ends.is_cut in
       subst (λ l. output_pieces j (l ++ w) ≡ output_pieces j l ++ output_pieces j w) (sym output_ends) (law.parts (open_from ref (target_of j) Ascii text_ends.0) w)
 
-  whole_output : output ref (target_of j) (input_text j (x ++ y)) ≡ output ref (target_of j) (input_text j x) ++ output ref (target_of j) (input_text (later j x) y)
-  whole_output =
-      ap (output ref (target_of j)) text_parts
-      ∙ output_parts ref (target_of j) one (input_text j x) (input_text (later j x) y)
-      ∙ ap (λ l. l ++ output ref (target_of j) (input_text (later j x) y)) (sym (output_is_open ref (target_of j) one (input_text j x)))
-
   read_whole : output_pieces j (output ref (target_of j) (input_text j (x ++ y))) ≡ output_pieces j (output ref (target_of j) (input_text j x)) ++ output_pieces j (output ref (target_of j) (input_text (later j x) y))
-  read_whole = ap (output_pieces j) whole_output ∙ read_parts (output ref (target_of j) (input_text (later j x) y))
+  read_whole =
+      let more : List ℕ = output ref (target_of j) (input_text (later j x) y) in
+      let joined = output_parts ref (target_of j) one (input_text j x) (input_text (later j x) y) in
+      ap (λ t. output_pieces j (output ref (target_of j) t)) text_parts ∙ ap (output_pieces j) (joined ∙ ap (λ l. l ++ more) (sym (output_is_open ref (target_of j) one (input_text j x)))) ∙ read_parts more
 
   -- what is read back of the whole is what is read back of each part
   read_back : AllMapped (target_of j) (input_text j x) → AllMapped (target_of j) (input_text (later j x) y)
@@ -185,7 +176,7 @@ module _ (j : Job) (x y : List ℕ) (v : IsValidJob j) (c : CanBeCut j x) where
       let second : List Piece = output_pieces j (output_of (later j x) y) in
       let target = well_formed_parts first second (subst AreWellFormed is f.target) in
       let joined : text first ++ text second ≡ input_text j x ++ input_text (later j x) y = sym (text-append first second) ∙ ap text (sym is) ∙ f.same ∙ text_parts in
-      elim ((agrees_or_breaks j.tables.now j.to v.tables).at_end ref (input_text j x) scalars) [
+      elim ((agrees_or_breaks j.tables.now j.to v.tables).at_end ref (input_text j x) (marked_scalars j.tables.now j.mark j.from x v.tables)) [
         | inl reads ↦
             let same : text first ≡ input_text j x = ap (λ l. text (output_pieces j l)) (output_where_mapped j x v mapped.0) ∙ reads.same in
             let rest = append_cancel_left (input_text j x) (text second) (input_text (later j x) y) (ap (λ l. l ++ text second) (sym same) ∙ joined) in
@@ -258,9 +249,7 @@ lines_of_all j x parts all through =
     sym (moved_none (lines_of j (x ++ concat parts))) ∙ all.lines through 0 0
     ∙ ap (λ l. l ++ later_lines (later j x) (length x) (length (input_text j x)) parts) (moved_none (lines_of j x))
 
--- ---- the tests of callers
-
--- the source, by the mark that is found
+-- the source of a job, by the mark that is found
 pub source_where_found : (j : Job) (x : List ℕ) (found : Option (Encoding × ℕ)) → found ≡ mark_at_start x → source_if (takes_mark_of j.mark j.from) j.from found ≡ source_in j x
 source_where_found j x found is = ap (source_if (takes_mark_of j.mark j.from) j.from) is ∙ sym (source_by_mark j.mark j.from x)
 

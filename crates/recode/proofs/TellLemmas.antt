@@ -1,6 +1,6 @@
 -- What the devices of a conversion tell after calls in a row, which call was the last, and what the clauses of a run
 -- and of a conversion say of devices that tell.
-use Rattle.std.proofs.Common.{◌≡◌, ◌⊎◌, ◌<◌, ℕ, List, [], ◌∷◌, ◌++◌, Option, Some, None, Result, Ok, Err, OnErr, IfErr, IsErrAnd, inl, inr, sym, ap, subst, ◌∙◌, append_assoc, append-nil, length, take, arith, rules}
+use Rattle.std.proofs.Common.{◌≡◌, ◌<◌, ℕ, List, [], ◌∷◌, ◌++◌, Option, Some, None, Result, Ok, Err, OnErr, IfErr, IsErrAnd, inl, inr, sym, ap, subst, ◌∙◌, append_assoc, append-nil, length, take, arith, rules}
 use Rattle.std.specs.Io.KnownBytes.{Appends, Consumes, IsAtEnd}
 use Rattle.std.specs.List.{All, concat}
 use Rattle.std.proofs.lemmas.List.{append_cancel_left, same_from_push}
@@ -31,39 +31,32 @@ use Rattle.recode.specs.declared.job.Report.{Report}
 pub taken_is : (a b : List ℕ) (t u : Option (List ℕ)) (bytes : List ℕ) → TellsTaken a b t u → Grew a b bytes → Appends t u bytes
 taken_is a b t u bytes h is = subst (Appends t u) (append_cancel_left a h.bytes bytes (sym h.took ∙ is)) h.held
 
--- what one call gave, if it gave some
-one_gave : (before after : List Call) (room : ℕ) (call : Call) → IsReadInto room call → after ≡ before ++ (call ∷ [])
-    → (passed_by after ≡ passed_by before) ⊎ ((bytes : List ℕ) × (passed_by after ≡ passed_by before ++ (bytes ∷ [])))
-one_gave before after room (Passed n bytes) is once = inr (bytes, passed_one before after n bytes once)
-one_gave before after room (Failed n) is once = inl (passed_failed before after n once)
-one_gave before after room (Flush failed) is once = absurd is
+-- a read that gave these is one that gave some
+one_gave : (before after : List Call) (room : ℕ) (call : Call) (chunk : List ℕ) → IsReadInto room call → after ≡ before ++ (call ∷ []) → Gave (passed_by before) (passed_by after) chunk → 0 < length chunk
+    → GaveSome room call × ((bytes : List ℕ) × (passed_by after ≡ passed_by before ++ (bytes ∷ [])) × (0 < length bytes))
+one_gave before after room (Passed n bytes) chunk is once gave some =
+    let one = passed_one before after n bytes once in
+    let all : gave.0 ≡ bytes ∷ [] = append_cancel_left (passed_by before) gave.0 (bytes ∷ []) (sym gave.1 ∙ one) in
+    let more : 0 < length bytes = omega (arith, some, ap length (sym gave.2 ∙ ap concat all ∙ append-nil bytes)) in
+    ((is, more), bytes, one, more)
+one_gave before after room (Failed n) chunk is once gave some =
+    let all : gave.0 ≡ [] = append_cancel_left (passed_by before) gave.0 [] (sym gave.1 ∙ passed_failed before after n once ∙ sym (append-nil (passed_by before))) in
+    absurd (omega (arith, some, ap length (sym gave.2 ∙ ap concat all)))
+one_gave before after room (Flush failed) chunk is once gave some = absurd is
 
 -- nor after one that gave some
 pub none_yet_on : (a : List (List ℕ)) (before after : List Call) (room : ℕ) (call : Call) (chunk : List ℕ) → NoneYet a (passed_by before) → IsReadInto room call → after ≡ before ++ (call ∷ [])
     → Gave (passed_by before) (passed_by after) chunk → 0 < length chunk → NoneYet a (passed_by after)
-none_yet_on a before after room call chunk yet is once gave some front e = elim (one_gave before after room call is once) [
-  | inl same ↦ yet front (sym same ∙ e)
-  | inr one ↦
-      let none : one.0 ≡ [] = (same_from_push (passed_by before) (a ++ front) one.0 [] (sym one.1 ∙ e ∙ sym (append_assoc a front ([] ∷ [])))).1 in
-      let all : gave.0 ≡ one.0 ∷ [] = append_cancel_left (passed_by before) gave.0 (one.0 ∷ []) (sym gave.1 ∙ one.1) in
-      omega (arith, some, ap length (sym gave.2 ∙ ap concat all ∙ append-nil one.0 ∙ none))
-]
+none_yet_on a before after room call chunk yet is once gave some front e =
+    let one = (one_gave before after room call chunk is once gave some).1 in
+    let none = same_from_push (passed_by before) (a ++ front) one.0 [] (sym one.1 ∙ e ∙ sym (append_assoc a front ([] ∷ []))) in
+    omega (arith, one.2, ap length none.1)
 
 -- reads with room for so many bytes, each of which gave some
 pub record ReadsSome (before after : List Call) (room : ℕ) : Type 0 where
   pub earlier : List Call
   pub calls : after ≡ before ++ earlier
   pub some : All (GaveSome room) earlier
-
--- a read that gave these is one
-gave_some : (before after : List Call) (room : ℕ) (call : Call) (chunk : List ℕ) → IsReadInto room call → after ≡ before ++ (call ∷ []) → Gave (passed_by before) (passed_by after) chunk → 0 < length chunk → GaveSome room call
-gave_some before after room (Passed n bytes) chunk is once gave some =
-    let all : gave.0 ≡ bytes ∷ [] = append_cancel_left (passed_by before) gave.0 (bytes ∷ []) (sym gave.1 ∙ passed_one before after n bytes once) in
-    (is, omega (arith, some, ap length (sym gave.2 ∙ ap concat all ∙ append-nil bytes)))
-gave_some before after room (Failed n) chunk is once gave some =
-    let all : gave.0 ≡ [] = append_cancel_left (passed_by before) gave.0 [] (sym gave.1 ∙ passed_failed before after n once ∙ sym (append-nil (passed_by before))) in
-    absurd (omega (arith, some, ap length (sym gave.2 ∙ ap concat all)))
-gave_some before after room (Flush failed) chunk is once gave some = absurd is
 
 pub reads_start : (calls : List Call) (room : ℕ) → ReadsSome calls calls room
 reads_start calls room = record { earlier = []; calls = sym (append-nil calls); some = All-nil (GaveSome room) }
@@ -73,7 +66,7 @@ pub reads_on : (a before after : List Call) (room room' : ℕ) (call : Call) (ch
 reads_on a before after room room' call chunk h same is once gave some = record {
   earlier = h.earlier ++ (call ∷ []);
   calls = once ∙ ap (λ l. l ++ (call ∷ [])) h.calls ∙ append_assoc a h.earlier (call ∷ []);
-  some = All-append (GaveSome room) h.earlier (call ∷ []) h.some (All-cons (GaveSome room) call [] (gave_some before after room call chunk (rw same at is) once gave some) (All-nil (GaveSome room)));
+  some = All-append (GaveSome room) h.earlier (call ∷ []) h.some (All-cons (GaveSome room) call [] (one_gave before after room call chunk (rw same at is) once gave some).0 (All-nil (GaveSome room)));
 }
 
 -- a fault that is handed on, which is not of the reader

@@ -6,10 +6,10 @@ use Rattle.std.proofs.lemmas.List.Folds.{concat-append}
 use Rattle.recode.specs.Devices.{Gave, GaveThen, GaveToEnd, Grew, Written}
 use Rattle.std.proofs.lemmas.List.{map-append}
 use Rattle.encoding_mem.specs.declared.reference.Reference.{Reference}
-use Rattle.encoding_mem.specs.Items.{Item, Byte, MalformedAt, LostAt, item_bytes, open_items, form_items, trace_from}
+use Rattle.encoding_mem.specs.Items.{Item, Byte, MalformedAt, LostAt, item_bytes, open_items, trace_from}
 use Rattle.recode_log.specs.Line.{line_bytes}
 use Rattle.recode.specs.laws.Items.{output_bytes-append, log_bytes-append, output_bytes-bytes, log_bytes-bytes, output_bytes-lines, log_bytes-lines, tagged-append, lost_line_count-append, written_spared, spared_nil, spared_bytes}
-use Rattle.recode.specs.laws.Parts.{log_bytes-noted, noted-append}
+use Rattle.recode.specs.laws.Parts.{log_bytes-noted, noted-cut, noted-trace}
 use Rattle.recode.specs.TaggedByte.{TaggedByte, Line, output_bytes, log_bytes, Wrote, tagged}
 use Rattle.recode.specs.Parts.{noted}
 use Rattle.recode.specs.Policy.{up_to_loss, written_under, reference_form}
@@ -17,7 +17,7 @@ use Rattle.recode.specs.WrittenItems.{WritesPrefix, WritesItemsFor, WritesPrefix
 use Rattle.recode.specs.declared.job.Fault.{Fault}
 use Rattle.recode.specs.declared.job.Fault.TheVariants.{Write, Log}
 use Rattle.recode.specs.declared.job.Policy.{Policy}
-use Rattle.encoding_mem.specs.Coding.{Coding, open_from, whole_from, last_set, reference_bytes}
+use Rattle.encoding_mem.specs.Coding.{Coding, open_from, whole_from, last_set}
 use Rattle.encoding_mem.specs.declared.form.EscapeState.{EscapeState}
 use Rattle.encoding_mem.specs.declared.form.EscapeState.TheVariants.{Ascii}
 use Rattle.recode.specs.declared.counts.Counts.{Counts}
@@ -213,33 +213,6 @@ item_bytes-trace ref e s offset i (malformed n ∷ ps) =
 pub output_bytes-trace : (ref : Reference) (e : Coding) (s : EscapeState) (offset i : ℕ) (ps : List Piece) → output_bytes (tagged (trace_from ref e s offset i ps)) ≡ whole_from ref e s (text ps)
 output_bytes-trace ref e s offset i ps = output_bytes-tagged (trace_from ref e s offset i ps) ∙ item_bytes-trace ref e s offset i ps
 
--- The log: the lines that items have.
-noted-bytes : (bs : List ℕ) → noted (map Byte bs) ≡ []
-noted-bytes [] = refl
-noted-bytes (b ∷ bs) = noted-bytes bs
-
-noted-form : (ref : Reference) (i : ℕ) (f : Form) → noted (form_items ref i f) ≡ form_lines i f
-noted-form ref i (Mapped bs) = noted-bytes bs
-noted-form ref i (Unmapped c) = ap (λ x. Lost i c ∷ x) (noted-bytes (reference_bytes ref c))
-
-noted-open : (ref : Reference) (e : Coding) (s : EscapeState) (i : ℕ) (t : List ℕ) → noted (open_items ref e s i t) ≡ lost_log_lines e i t
-noted-open ref e s i [] = refl
-noted-open ref e s i (c ∷ t) =
-    let rest : List Item = open_items ref e (e.set s c) (i + 1) t in
-    rw (noted-append (map Byte (e.escape s (e.set s c))) (form_items ref i (e.form c) ++ rest), noted-bytes (e.escape s (e.set s c)), noted-append (form_items ref i (e.form c)) rest, noted-form ref i (e.form c), noted-open ref e (e.set s c) (i + 1) t) refl
-
-pub noted-trace : (ref : Reference) (e : Coding) (s : EscapeState) (offset i : ℕ) (ps : List Piece) → noted (trace_from ref e s offset i ps) ≡ log_lines e offset i ps
-noted-trace ref e s offset i [] = noted-bytes (e.escape s Ascii)
-noted-trace ref e s offset i (well_formed n cs ∷ ps) =
-    rw (noted-append (open_items ref e s i cs) (trace_from ref e (last_set e s cs) (offset + n) (i + length cs) ps), noted-open ref e s i cs, noted-trace ref e (last_set e s cs) (offset + n) (i + length cs) ps) refl
-noted-trace ref e s offset i (malformed n ∷ ps) = ap (λ x. Bad offset n ∷ x)
-    (noted-append (open_items ref e s i (0xFFFD ∷ [])) (trace_from ref e (e.set s 0xFFFD) (offset + n) (i + 1) ps) ∙ rw (noted-open ref e s i (0xFFFD ∷ []), noted-trace ref e (e.set s 0xFFFD) (offset + n) (i + 1) ps) refl)
-
-pub log_bytes-trace : (ref : Reference) (e : Coding) (s : EscapeState) (offset i : ℕ) (ps : List Piece) → log_bytes (tagged (trace_from ref e s offset i ps)) ≡ flat_map line_bytes (log_lines e offset i ps)
-log_bytes-trace ref e s offset i ps = log_bytes-noted (trace_from ref e s offset i ps) ∙ ap (flat_map line_bytes) (noted-trace ref e s offset i ps)
-
--- If the log is empty.
-
 -- There is no line of the log exactly when no malformed sequence and no lost character was counted.
 pub none_logged : (s : List Item) → bad_line_count s ≡ 0 → lost_line_count s ≡ 0 → log_bytes (tagged s) ≡ []
 none_logged [] bad lost = refl
@@ -252,13 +225,6 @@ none_counted (Byte b ∷ s) h = none_counted s h
 none_counted (x ∷ s) h = absurd (cc)
 
 -- If a stop cut it short.
-
-noted-cut : (s : List Item) → noted (up_to_loss s) ≡ lines_up_to_loss (noted s)
-noted-cut [] = refl
-noted-cut (Byte b ∷ s) = noted-cut s
-noted-cut (MalformedAt offset size ∷ s) = ap (λ l. Bad offset size ∷ l) (noted-cut s)
-noted-cut (LostAt i c ∷ s) = refl
-
 pub log_at_loss : (j : Job) (x : List ℕ) → j.policy ≡ Policy.Stop → log_of j x ≡ flat_map line_bytes (lines_up_to_loss (log_lines (target_of j) 0 0 (input_pieces j x)))
 log_at_loss j x stops =
     ap (λ (p : Policy). log_bytes (tagged (written_under p (whole_trace j x)))) stops

@@ -1,5 +1,5 @@
 -- Laws of parts: items and lines that are moved, the lines among items, and the items of a text in two parts.
-use Rattle.std.proofs.Common.{◌≡◌, ℕ, ◌+◌, ◌<◌, List, [], ◌∷◌, ◌++◌, map, length, refl, sym, ap, arith, append_assoc, length-append}
+use Rattle.std.proofs.Common.{◌≡◌, ℕ, ◌+◌, ◌<◌, List, [], ◌∷◌, ◌++◌, map, length, refl, sym, ◌∙◌, ap, arith, append_assoc, length-append}
 use Rattle.std.proofs.Math.Nat.{add_assoc}
 use Rattle.std.proofs.lemmas.List.{map-append}
 use Rattle.std.specs.List.{flat_map}
@@ -15,6 +15,7 @@ use Rattle.encoding_mem.specs.declared.reference.Reference.{Reference}
 use Rattle.recode_log.specs.Line.{line_bytes}
 use Rattle.recode_log.specs.declared.line.LogLine.{LogLine}
 use Rattle.recode_log.specs.declared.line.LogLine.TheVariants.{Bad, Lost}
+use Rattle.recode.specs.Job.{form_lines, lines_up_to_loss, log_lines, lost_log_lines}
 use Rattle.recode.specs.Parts.{moved, moved_line, noted}
 use Rattle.recode.specs.Policy.{up_to_loss, written_under}
 use Rattle.recode.specs.TaggedByte.{Line, log_bytes, tagged}
@@ -125,6 +126,55 @@ log_bytes-noted [] = refl
 log_bytes-noted (Byte b ∷ s) = log_bytes-noted s
 log_bytes-noted (MalformedAt offset size ∷ s) = cc (log_bytes-line (line_bytes (Bad offset size)) s, log_bytes-noted s)
 log_bytes-noted (LostAt i c ∷ s) = cc (log_bytes-line (line_bytes (Lost i c)) s, log_bytes-noted s)
+
+-- bytes have no lines
+pub noted-bytes : (bs : List ℕ) → noted (map Byte bs) ≡ []
+noted-bytes [] = refl
+noted-bytes (b ∷ bs) = noted-bytes bs
+
+-- the lines of one character
+pub noted-form : (ref : Reference) (i : ℕ) (f : Form) → noted (form_items ref i f) ≡ form_lines i f
+noted-form ref i (Mapped bs) = noted-bytes bs
+noted-form ref i (Unmapped c) = ap (λ x. Lost i c ∷ x) (noted-bytes (reference_bytes ref c))
+
+-- the lines of a text are those of its lost characters
+pub noted-open : (ref : Reference) (e : Coding) (s : EscapeState) (i : ℕ) (t : List ℕ)
+    → noted (open_items ref e s i t) ≡ lost_log_lines e i t
+noted-open ref e s i [] = refl
+noted-open ref e s i (c ∷ t) =
+    let escape = e.escape s (e.set s c) in
+    let form = form_items ref i (e.form c) in
+    let rest = open_items ref e (e.set s c) (i + 1) t in
+    let behind = noted-open ref e (e.set s c) (i + 1) t in
+    cc (noted-append (map Byte escape) (form ++ rest), noted-append form rest, noted-bytes escape, noted-form ref i (e.form c))
+
+-- the lines of a trace are those of its pieces
+pub noted-trace : (ref : Reference) (e : Coding) (s : EscapeState) (offset i : ℕ) (ps : List Piece)
+    → noted (trace_from ref e s offset i ps) ≡ log_lines e offset i ps
+noted-trace ref e s offset i [] = noted-bytes (e.escape s Ascii)
+noted-trace ref e s offset i (well_formed n cs ∷ ps) =
+    let s' = last_set e s cs in
+    let rest = noted-trace ref e s' (offset + n) (i + length cs) ps in
+    let split = noted-append (open_items ref e s i cs) (trace_from ref e s' (offset + n) (i + length cs) ps) in
+    cc (noted-open ref e s i cs)
+noted-trace ref e s offset i (malformed n ∷ ps) =
+    let s' = e.set s 0xFFFD in
+    let rest = noted-trace ref e s' (offset + n) (i + 1) ps in
+    let split = noted-append (open_items ref e s i (0xFFFD ∷ [])) (trace_from ref e s' (offset + n) (i + 1) ps) in
+    cc (noted-open ref e s i (0xFFFD ∷ []))
+
+-- the log's bytes of a trace
+pub log_bytes-trace : (ref : Reference) (e : Coding) (s : EscapeState) (offset i : ℕ) (ps : List Piece)
+    → log_bytes (tagged (trace_from ref e s offset i ps)) ≡ flat_map line_bytes (log_lines e offset i ps)
+log_bytes-trace ref e s offset i ps =
+    log_bytes-noted (trace_from ref e s offset i ps) ∙ ap (flat_map line_bytes) (noted-trace ref e s offset i ps)
+
+-- the lines of items up to the first loss
+pub noted-cut : (s : List Item) → noted (up_to_loss s) ≡ lines_up_to_loss (noted s)
+noted-cut [] = refl
+noted-cut (Byte b ∷ s) = noted-cut s
+noted-cut (MalformedAt offset size ∷ s) = ap (λ l. Bad offset size ∷ l) (noted-cut s)
+noted-cut (LostAt i c ∷ s) = refl
 
 -- ---- two parts
 
