@@ -214,7 +214,7 @@ are_parts x [] ends are = tt
 are_parts x (y ∷ parts) ends are = (ends, are)
 
 -- what is said of a job's first part and those after it
-record AreWhole (j : Job) (x : List ℕ) (parts : List (List ℕ)) : Type 0 where
+pub record AreWhole (j : Job) (x : List ℕ) (parts : List (List ℕ)) : Type 0 where
   pub output : RunsThrough j (x ++ concat parts) → output_of j (x ++ concat parts) ≡ output_of j x ++ flat_map (output_of (later j x)) parts
   pub lines : RunsThrough j (x ++ concat parts) → (n m : ℕ) → map (moved_line n m) (lines_of j (x ++ concat parts))
       ≡ map (moved_line n m) (lines_of j x) ++ later_lines (later j x) (n + length x) (m + length (input_text j x)) parts
@@ -246,8 +246,9 @@ all_parts j x parts v c are = are_whole j x parts v c.source c.target (are_parts
 
 pub lines_of_all : (j : Job) (x : List ℕ) (parts : List (List ℕ)) → AreWhole j x parts → RunsThrough j (x ++ concat parts) → lines_of j (x ++ concat parts) ≡ lines_of j x ++ later_lines (later j x) (length x) (length (input_text j x)) parts
 lines_of_all j x parts all through =
-    sym (moved_none (lines_of j (x ++ concat parts))) ∙ all.lines through 0 0
-    ∙ ap (λ l. l ++ later_lines (later j x) (length x) (length (input_text j x)) parts) (moved_none (lines_of j x))
+    let n : 0 + length x ≡ length x = omega arith in
+    let m : 0 + length (input_text j x) ≡ length (input_text j x) = omega arith in
+    cc (moved_none (lines_of j (x ++ concat parts)), moved_none (lines_of j x), all.lines through 0 0)
 
 -- the source of a job, by the mark that is found
 pub source_where_found : (j : Job) (x : List ℕ) (found : Option (Encoding × ℕ)) → found ≡ mark_at_start x → source_if (takes_mark_of j.mark j.from) j.from found ≡ source_in j x

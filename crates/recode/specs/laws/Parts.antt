@@ -103,8 +103,8 @@ module _ (n m : ℕ) where
 -- nothing before a part moves nothing
 pub moved_none : (ls : List LogLine) → map (moved_line 0 0) ls ≡ ls
 moved_none [] = refl
-moved_none (Bad o size ∷ ls) = ap (λ l. Bad o size ∷ l) (moved_none ls)
-moved_none (Lost i c ∷ ls) = ap (λ l. Lost i c ∷ l) (moved_none ls)
+moved_none (Bad o size ∷ ls) = let same : 0 + o ≡ o = omega arith in cc (moved_none ls)
+moved_none (Lost i c ∷ ls) = let same : 0 + i ≡ i = omega arith in cc (moved_none ls)
 
 -- ---- the lines among items
 
