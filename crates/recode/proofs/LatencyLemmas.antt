@@ -1,7 +1,7 @@
 -- What was taken while the input goes on, and what that says of the output and the log.
 use Rattle.std.proofs.Common.{◌≡◌, ◌⊎◌, ℕ, suc, ◌+◌, ◌-◌, ◌≤◌, ◌<◌, Bool, true, false, List, [], ◌∷◌, ◌++◌, length, Some, refl, sym, ◌∙◌, ap, subst, arith, append_assoc, append-nil, length-append, add-zero, inl, inr, rules}
 use Rattle.std.specs.List.{flat_map}
-use Rattle.recode.proofs.GrowLemmas.{Gave-nil, Gave-trans, Grew-nil, Grew-trans}
+use Rattle.recode.proofs.TraceLemmas.{Gave-nil, Gave-trans, Grew-nil, Grew-trans, output_bytes-trace, whole_from-append}
 use Rattle.std.proofs.lemmas.Bool.{false≢true}
 use Rattle.std.proofs.lemmas.Grind.{flat_map-append}
 use Rattle.std.proofs.lemmas.List.{append_cancel_right}
@@ -32,8 +32,8 @@ use Rattle.recode.specs.declared.counts.Counts.{Counts}
 use Rattle.recode.specs.declared.job.Job.{Job}
 use Rattle.recode.specs.declared.job.Policy.{Policy}
 use Rattle.recode.specs.laws.Items.{log_bytes-append, tagged-append, output_bytes-append}
+use Rattle.recode.specs.laws.Parts.{log_bytes-trace}
 use Rattle.recode.proofs.VerdictLemmas.{both_ways}
-use Rattle.recode.proofs.TraceLemmas.{log_bytes-trace, output_bytes-trace, whole_from-append}
 
 pub advances_more : (d d1 d2 : List ℕ → List Piece) (e : Coding) (s s1 s2 : EscapeState) (c c1 c2 : Counts) → Advances d d1 e s s1 c c1 → Advances d1 d2 e s1 s2 c1 c2 → Advances d d2 e s s2 c c2
 advances_more d d1 d2 e s s1 s2 c c1 c2 p q =

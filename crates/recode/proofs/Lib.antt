@@ -1,14 +1,11 @@
 pub mod WriterLemmas
 pub mod TraceLemmas
-pub mod GrowLemmas
 pub mod TellLemmas
 pub mod VerdictLemmas
 pub mod CodecCallLemmas
-pub mod WorkLemmas
 pub mod StopLemmas
 pub mod StepLemmas
 pub mod RunLemmas
-pub mod ToldLemmas
 pub mod InputLemmas
 pub mod PartLemmas
 pub mod PivotLemmas

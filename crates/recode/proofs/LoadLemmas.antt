@@ -35,14 +35,11 @@ ranges_are_one Gb18030Ranges h = refl
 ranges_are_one _ h = cc
 
 -- the index of another kind stays as it is
-stays_by : (b c : Bool) {rows rows' : Option (List (ℕ × ℕ))} {flat flat' : Option (List ℕ)} → (b ≡ true → c ≡ false) → (c ≡ false → rows' ≡ rows) → flat' ≡ flat → MatchBool b (rows' ≡ rows) (flat' ≡ flat)
-stays_by true c one same flat = same (one refl)
-stays_by false c one same flat = flat
-
 stays : (old new : IndexLists) (kind k : IndexKind) → k ≢ kind → KeepsOtherKinds old new kind → MatchBool (is_ranges k) (new.rows ≡ old.rows) (new.flats k ≡ old.flats k)
-stays old new kind k apart keeps =
-    let not_ranges = λ (is : is_ranges k ≡ true). false_from_ne_true (is_ranges kind) (λ yes. apart (ranges_are_one k is ∙ sym (ranges_are_one kind yes))) in
-    stays_by (is_ranges k) (is_ranges kind) not_ranges keeps.1 (keeps.0 k apart)
+stays old new kind k apart keeps = elim (cases_Bool (is_ranges k)) [
+  | inl is ↦ rw is (keeps.1 (false_from_ne_true (is_ranges kind) (λ yes. apart (ranges_are_one k is ∙ sym (ranges_are_one kind yes)))))
+  | inr not ↦ rw not (keeps.0 k apart)
+]
 
 there_still : (b : Bool) (rows rows' : Option (List (ℕ × ℕ))) (flat flat' : Option (List ℕ)) → MatchBool b (rows' ≡ rows) (flat' ≡ flat) → (if b then is_some rows' else is_some flat') ≡ (if b then is_some rows else is_some flat)
 there_still true rows rows' flat flat' same = ap is_some same

@@ -1,139 +1,41 @@
 -- An input converted part by part.
-use Rattle.std.proofs.Common.{◌≡◌, ℕ, ◌+◌, ◌<◌, Bool, Option, None, Some, ◌↔◌, inl, inr, true, false, List, [], ◌∷◌, ◌++◌, map, length, refl, sym, ◌∙◌, ap, subst, arith, append_assoc, append-nil, length-append}
-use Rattle.std.proofs.Math.Nat.{add_assoc}
+use Rattle.std.proofs.Common.{◌≡◌, ℕ, ◌+◌, ◌<◌, Option, ◌↔◌, IsTrue, inl, inr, true, List, [], ◌∷◌, ◌++◌, map, length, refl, sym, ◌∙◌, ap, subst, arith, append-nil, length-append}
 use Rattle.std.proofs.lemmas.Grind.{flat_map-append}
 use Rattle.std.proofs.lemmas.List.{append_cancel_left, map-append}
 use Rattle.std.specs.List.{concat, flat_map}
-use Rattle.std.specs.Str.{all_scalars}
-use Rattle.encoding_mem.specs.Coding.{AllMapped, Coding, last_set, lost_count, open_from, output, reference_bytes, spelled, whole_from}
-use Rattle.encoding_mem.specs.Items.{Byte, Item, LostAt, MalformedAt, closing, form_items, item_bytes, open_items, trace_from}
+use Rattle.encoding_mem.specs.Coding.{AllMapped, Coding, last_set, lost_count, open_from, output, spelled, whole_from}
+use Rattle.encoding_mem.specs.Items.{Item, trace_from}
 use Rattle.encoding_mem.specs.Parts.{EndsInCut, StandsAlone}
-use Rattle.encoding_mem.specs.Piece.{AreWellFormed, Piece, malformed, malformed_count, sizes, text, well_formed}
+use Rattle.encoding_mem.specs.Piece.{AreWellFormed, Piece, malformed_count, text, well_formed}
 use Rattle.encoding_mem.specs.ReadBack.{ReadsAs}
 use Rattle.encoding_mem.specs.Stateless.{HasOneSet}
-use Rattle.encoding_mem.specs.declared.form.EscapeState.{EscapeState}
 use Rattle.encoding_mem.specs.declared.form.EscapeState.TheVariants.{Ascii}
-use Rattle.encoding_mem.specs.declared.form.Form.{Form}
-use Rattle.encoding_mem.specs.declared.form.Form.TheVariants.{Mapped, Unmapped}
+use Rattle.encoding_mem.specs.declared.form.Form.TheVariants.{Mapped}
 use Rattle.encoding_mem.specs.declared.reference.Reference.{Reference}
 use Rattle.encoding_mem.specs.laws.Agreement.{broken_never_reads, broken_stays, well_formed_parts}
 use Rattle.encoding_mem.specs.laws.EncoderCalls.{all_mapped-append}
 use Rattle.encoding_mem.specs.laws.Losses.{lost_count-append}
 use Rattle.encoding_mem.specs.laws.Piece.{AreWellFormed-append, malformed_count-append, text-append}
-use Rattle.encoding_front.specs.Encodings.{mark_at_start, output_encoding_of}
+use Rattle.encoding_front.specs.Encodings.{is_ascii_compatible_of, mark_at_start, output_encoding_of}
 use Rattle.encoding_front.specs.Marks.{takes_mark_of}
 use Rattle.encoding_front.specs.declared.encoding.Encoding.{Encoding}
 use Rattle.encoding_front.specs.laws.Encodings.{agrees_or_breaks}
 use Rattle.encoding_front.specs.laws.Input.{marked_scalars, marked_whole}
 use Rattle.encoding_front.specs.laws.Parts.{ends_alone, one_set_for, parts_of, source_by_mark, source_if, source_is_ready, stands_alone_of, writes_of}
 use Rattle.recode_log.specs.Line.{line_bytes}
-use Rattle.recode_log.specs.declared.line.LogLine.{LogLine}
-use Rattle.recode_log.specs.declared.line.LogLine.TheVariants.{Bad, Lost}
 use Rattle.recode.specs.Job.{Faithful, IsValidJob, RunsThrough, input_pieces, input_text, output_of, output_pieces, source_in, target_of, trace, whole_trace}
 use Rattle.recode.specs.Devices.{Written}
 use Rattle.recode.specs.Parts.{AddsUp, AreFaithful, AreOfWhole, AreParts, CanBeCut, later, noted, lines_of, later_lines, moved, moved_line, unwritten}
-use Rattle.recode.specs.Policy.{reference_form, up_to_loss, written_under}
+use Rattle.recode.specs.Policy.{reference_form, written_under}
 use Rattle.recode.specs.Session.{IsConverted, IsReport}
 use Rattle.recode.specs.TaggedByte.{output_bytes, tagged}
-use Rattle.recode.specs.WrittenItems.{lost_line_count}
 use Rattle.recode.specs.declared.job.Job.{Job}
 use Rattle.recode.specs.declared.job.Policy.{Policy}
 use Rattle.recode.specs.declared.job.Report.{Report}
 use Rattle.recode.specs.laws.Items.{output_bytes-append, tagged-append, written_spared}
 use Rattle.recode.proofs.StopLemmas.{losts_of, mapped_where_faithful, output_where_mapped, runs_through, trace_where_spared}
-use Rattle.recode.proofs.TraceLemmas.{log_bytes-noted, noted-append, output_bytes-tagged, whole_from-append}
-
--- ---- items, counted on
-
-moved_bytes : (n m : ℕ) (bs : List ℕ) → map (moved n m) (map Byte bs) ≡ map Byte bs
-moved_bytes n m [] = refl
-moved_bytes n m (b ∷ bs) = ap (λ l. Byte b ∷ l) (moved_bytes n m bs)
-
-moved_form : (n m : ℕ) (ref : Reference) (i : ℕ) (f : Form) → form_items ref (m + i) f ≡ map (moved n m) (form_items ref i f)
-moved_form n m ref i (Mapped bs) = sym (moved_bytes n m bs)
-moved_form n m ref i (Unmapped c) = ap (λ l. LostAt (m + i) c ∷ l) (sym (moved_bytes n m (reference_bytes ref c)))
-
-moved_open : (n m : ℕ) (ref : Reference) (e : Coding) (s : EscapeState) (i k : ℕ) (t : List ℕ) → k ≡ m + i → open_items ref e s k t ≡ map (moved n m) (open_items ref e s i t)
-moved_open n m ref e s i k [] is = refl
-moved_open n m ref e s i k (c ∷ t) is =
-    let escape : List Item = map Byte (e.escape s (e.set s c)) in
-    let form : List Item = form_items ref i (e.form c) in
-    let more : List Item = open_items ref e (e.set s c) (i + 1) t in
-    ap (λ l. l ++ (form_items ref k (e.form c) ++ open_items ref e (e.set s c) (k + 1) t)) (sym (moved_bytes n m (e.escape s (e.set s c))))
-    ∙ ap (λ q. map (moved n m) escape ++ (form_items ref q (e.form c) ++ open_items ref e (e.set s c) (k + 1) t)) is
-    ∙ ap (λ l. map (moved n m) escape ++ (l ++ open_items ref e (e.set s c) (k + 1) t)) (moved_form n m ref i (e.form c))
-    ∙ ap (λ l. map (moved n m) escape ++ (map (moved n m) form ++ l)) (moved_open n m ref e (e.set s c) (i + 1) (k + 1) t (omega (arith, is)))
-    ∙ ap (λ l. map (moved n m) escape ++ l) (sym (map-append (moved n m) form more))
-    ∙ sym (map-append (moved n m) escape (form ++ more))
-
-moved_trace : (n m : ℕ) (ref : Reference) (e : Coding) (s : EscapeState) (o i p k : ℕ) (ps : List Piece) → p ≡ n + o → k ≡ m + i → trace_from ref e s p k ps ≡ map (moved n m) (trace_from ref e s o i ps)
-moved_trace n m ref e s o i p k [] is also = sym (moved_bytes n m (e.escape s Ascii))
-moved_trace n m ref e s o i p k (well_formed size cs ∷ ps) is also =
-    ap (λ l. l ++ trace_from ref e (last_set e s cs) (p + size) (k + length cs) ps) (moved_open n m ref e s i k cs also)
-    ∙ ap (λ l. map (moved n m) (open_items ref e s i cs) ++ l) (moved_trace n m ref e (last_set e s cs) (o + size) (i + length cs) (p + size) (k + length cs) ps (omega (arith, is)) (omega (arith, also)))
-    ∙ sym (map-append (moved n m) (open_items ref e s i cs) (trace_from ref e (last_set e s cs) (o + size) (i + length cs) ps))
-moved_trace n m ref e s o i p k (malformed size ∷ ps) is also =
-    ap (λ q. MalformedAt q size ∷ (open_items ref e s k (0xFFFD ∷ []) ++ trace_from ref e (e.set s 0xFFFD) (p + size) (k + 1) ps)) is
-    ∙ ap (λ l. MalformedAt (n + o) size ∷ (l ++ trace_from ref e (e.set s 0xFFFD) (p + size) (k + 1) ps)) (moved_open n m ref e s i k (0xFFFD ∷ []) also)
-    ∙ ap (λ l. MalformedAt (n + o) size ∷ (map (moved n m) (open_items ref e s i (0xFFFD ∷ [])) ++ l)) (moved_trace n m ref e (e.set s 0xFFFD) (o + size) (i + 1) (p + size) (k + 1) ps (omega (arith, is)) (omega (arith, also)))
-    ∙ ap (λ l. MalformedAt (n + o) size ∷ l) (sym (map-append (moved n m) (open_items ref e s i (0xFFFD ∷ [])) (trace_from ref e (e.set s 0xFFFD) (o + size) (i + 1) ps)))
-
-moved_output : (n m : ℕ) (s : List Item) → item_bytes (map (moved n m) s) ≡ item_bytes s
-moved_output n m [] = refl
-moved_output n m (Byte b ∷ s) = ap (λ l. b ∷ l) (moved_output n m s)
-moved_output n m (MalformedAt o size ∷ s) = moved_output n m s
-moved_output n m (LostAt i c ∷ s) = moved_output n m s
-
-moved_lines : (n m : ℕ) (s : List Item) → noted (map (moved n m) s) ≡ map (moved_line n m) (noted s)
-moved_lines n m [] = refl
-moved_lines n m (Byte b ∷ s) = moved_lines n m s
-moved_lines n m (MalformedAt o size ∷ s) = ap (λ l. Bad (n + o) size ∷ l) (moved_lines n m s)
-moved_lines n m (LostAt i c ∷ s) = ap (λ l. Lost (m + i) c ∷ l) (moved_lines n m s)
-
-moved_cut : (n m : ℕ) (s : List Item) → up_to_loss (map (moved n m) s) ≡ map (moved n m) (up_to_loss s)
-moved_cut n m [] = refl
-moved_cut n m (Byte b ∷ s) = ap (λ l. Byte b ∷ l) (moved_cut n m s)
-moved_cut n m (MalformedAt o size ∷ s) = ap (λ l. MalformedAt (n + o) size ∷ l) (moved_cut n m s)
-moved_cut n m (LostAt i c ∷ s) = refl
-
-moved_under : (p : Policy) (n m : ℕ) (s : List Item) → written_under p (map (moved n m) s) ≡ map (moved n m) (written_under p s)
-moved_under Policy.Decimal n m s = refl
-moved_under Policy.Hexadecimal n m s = refl
-moved_under Policy.Stop n m s = moved_cut n m s
-
--- what stops stands whatever follows
-cut_is_last : (s t : List Item) → 0 < lost_line_count s → up_to_loss (s ++ t) ≡ up_to_loss s
-cut_is_last [] t h = absurd (omega (arith, h))
-cut_is_last (Byte b ∷ s) t h = ap (λ l. Byte b ∷ l) (cut_is_last s t h)
-cut_is_last (MalformedAt o size ∷ s) t h = ap (λ l. MalformedAt o size ∷ l) (cut_is_last s t h)
-cut_is_last (LostAt i c ∷ s) t h = refl
-
--- ---- targets with one set
-
-last_is_ascii : (e : Coding) → HasOneSet e → (s : EscapeState) (t : List ℕ) → s ≡ Ascii → last_set e s t ≡ Ascii
-last_is_ascii e one s [] is = is
-last_is_ascii e one s (c ∷ t) is = last_is_ascii e one (e.set s c) t (one.set s c)
-
--- nothing is written at the end
-closes_nothing : (e : Coding) → HasOneSet e → (s : EscapeState) → closing e s ≡ []
-closes_nothing e one s = ap (map Byte) (one.escape s Ascii)
-
-trace_parts : (ref : Reference) (e : Coding) → HasOneSet e → (s : EscapeState) (o i p k : ℕ) (ps qs : List Piece) → s ≡ Ascii → p ≡ o + sizes ps → k ≡ i + length (text ps)
-    → trace_from ref e s o i (ps ++ qs) ≡ trace_from ref e s o i ps ++ trace_from ref e Ascii p k qs
-trace_parts ref e one s o i p k [] qs is at also =
-    let same : o ≡ p = omega (arith, at) in
-    let likewise : i ≡ k = omega (arith, also) in
-    ap (λ q. trace_from ref e q o i qs) is
-    ∙ ap (λ q. trace_from ref e Ascii q i qs) same
-    ∙ ap (λ q. trace_from ref e Ascii p q qs) likewise
-    ∙ ap (λ l. l ++ trace_from ref e Ascii p k qs) (sym (closes_nothing e one s))
-trace_parts ref e one s o i p k (well_formed n cs ∷ ps) qs is at also =
-    let behind : k ≡ (i + length cs) + length (text ps) = omega (arith, also, length-append cs (text ps)) in
-    ap (λ l. open_items ref e s i cs ++ l) (trace_parts ref e one (last_set e s cs) (o + n) (i + length cs) p k ps qs (last_is_ascii e one s cs is) (omega (arith, at)) behind)
-    ∙ sym (append_assoc (open_items ref e s i cs) (trace_from ref e (last_set e s cs) (o + n) (i + length cs) ps) (trace_from ref e Ascii p k qs))
-trace_parts ref e one s o i p k (malformed n ∷ ps) qs is at also =
-    ap (λ l. MalformedAt o n ∷ (open_items ref e s i (0xFFFD ∷ []) ++ l)) (trace_parts ref e one (e.set s 0xFFFD) (o + n) (i + 1) p k ps qs (one.set s 0xFFFD) (omega (arith, at)) (omega (arith, also)))
-    ∙ ap (λ l. MalformedAt o n ∷ l) (sym (append_assoc (open_items ref e s i (0xFFFD ∷ [])) (trace_from ref e (e.set s 0xFFFD) (o + n) (i + 1) ps) (trace_from ref e Ascii p k qs)))
+use Rattle.recode.specs.laws.Parts.{cut_is_last, last_is_ascii, log_bytes-noted, moved_lines, moved_none, moved_output, moved_trace, moved_twice, moved_under, noted-append, trace_parts}
+use Rattle.recode.proofs.TraceLemmas.{output_bytes-tagged, whole_from-append}
 
 -- the output
 output_parts : (ref : Reference) (e : Coding) → HasOneSet e → (t u : List ℕ) → output ref e (t ++ u) ≡ open_from ref e Ascii t ++ output ref e u
@@ -164,6 +66,9 @@ module _ (j : Job) (x y : List ℕ) (v : IsValidJob j) (c : CanBeCut j x) where
   one : HasOneSet (target_of j)
   one = one_set_for j.tables.now j.to c.target
 
+  later_valid : IsValidJob (later j x)
+  later_valid = later_is_valid j x v
+
   pub source_parts : source_in j (x ++ y) ≡ source_in j x
   source_parts = ap (λ s. s.0) (parts_of j.tables.now j.mark j.from x y v.tables c.ends c.source).0
 
@@ -184,8 +89,7 @@ module _ (j : Job) (x y : List ℕ) (v : IsValidJob j) (c : CanBeCut j x) where
       let more : List Item = map (moved (length x) (length (input_text j x))) (whole_trace (later j x) y) in
       ap (written_under j.policy) whole_parts
       ∙ written_spared j.policy (whole_trace j x) more (runs_through j x through)
-      ∙ ap (λ l. l ++ written_under j.policy more) (sym (trace_where_spared j x (runs_through j x through)))
-      ∙ ap (λ l. trace j x ++ l) (moved_under j.policy (length x) (length (input_text j x)) (whole_trace (later j x) y))
+      ∙ cc (trace_where_spared j x (runs_through j x through), moved_under (length x) (length (input_text j x)) j.policy (whole_trace (later j x) y))
 
   pub stops_in_first : j.policy ≡ Policy.Stop → 0 < lost_count (target_of j) (input_text j x) → trace j (x ++ y) ≡ trace j x
   stops_in_first stops some =
@@ -219,10 +123,6 @@ module _ (j : Job) (x y : List ℕ) (v : IsValidJob j) (c : CanBeCut j x) where
     λ each stops. omega (arith, each.0 stops, each.1 stops, lost_in_parts),
   )
 
-  -- the verdict
-  scalars : all_scalars (input_text j x) ≡ true
-  scalars = marked_scalars j.tables.now j.mark j.from x v.tables
-
   -- the text of the first part ends in its last byte's character, and its output in that byte
   text_ends : (before : List ℕ) × (input_text j x ≡ before ++ c.ends.byte ∷ [])
   text_ends =
@@ -241,55 +141,49 @@ module _ (j : Job) (x y : List ℕ) (v : IsValidJob j) (c : CanBeCut j x) where
       let law : StandsAlone (output_pieces j) c.ends.byte = stands_alone_of j.tables.now (output_encoding_of j.to) c.ends.byte c.target v.tables c.ends.is_cut in
       subst (λ l. output_pieces j (l ++ w) ≡ output_pieces j l ++ output_pieces j w) (sym output_ends) (law.parts (open_from ref (target_of j) Ascii text_ends.0) w)
 
-  whole_output : output ref (target_of j) (input_text j (x ++ y)) ≡ output ref (target_of j) (input_text j x) ++ output ref (target_of j) (input_text (later j x) y)
-  whole_output =
-      ap (output ref (target_of j)) text_parts
-      ∙ output_parts ref (target_of j) one (input_text j x) (input_text (later j x) y)
-      ∙ ap (λ l. l ++ output ref (target_of j) (input_text (later j x) y)) (sym (output_is_open ref (target_of j) one (input_text j x)))
-
   read_whole : output_pieces j (output ref (target_of j) (input_text j (x ++ y))) ≡ output_pieces j (output ref (target_of j) (input_text j x)) ++ output_pieces j (output ref (target_of j) (input_text (later j x) y))
-  read_whole = ap (output_pieces j) whole_output ∙ read_parts (output ref (target_of j) (input_text (later j x) y))
+  read_whole =
+      let more : List ℕ = output ref (target_of j) (input_text (later j x) y) in
+      let joined = output_parts ref (target_of j) one (input_text j x) (input_text (later j x) y) in
+      ap (λ t. output_pieces j (output ref (target_of j) t)) text_parts ∙ ap (output_pieces j) (joined ∙ ap (λ l. l ++ more) (sym (output_is_open ref (target_of j) one (input_text j x)))) ∙ read_parts more
+
+  -- what is read back of the whole is what is read back of each part
+  read_back : AllMapped (target_of j) (input_text j x) → AllMapped (target_of j) (input_text (later j x) y)
+      → output_pieces j (output_of j (x ++ y)) ≡ output_pieces j (output_of j x) ++ output_pieces j (output_of (later j x) y)
+  read_back first second =
+      let whole = subst (AllMapped (target_of j)) (sym text_parts) (all_mapped-append (target_of j) (input_text j x) (input_text (later j x) y) first second) in
+      ap (output_pieces j) (output_where_mapped j (x ++ y) v whole) ∙ read_whole
+      ∙ ap (λ l. output_pieces j l ++ output_pieces j (output ref (target_of j) (input_text (later j x) y))) (sym (output_where_mapped j x v first))
+      ∙ ap (λ l. output_pieces j (output_of j x) ++ output_pieces j l) (sym (output_where_mapped (later j x) y later_valid second))
 
   together : Faithful j x → Faithful (later j x) y → Faithful j (x ++ y)
   together f g =
-      let valid = later_is_valid j x v in
-      let first = mapped_where_faithful j x v f in
-      let second = mapped_where_faithful (later j x) y valid g in
-      let whole : AllMapped (target_of j) (input_text j (x ++ y)) = subst (AllMapped (target_of j)) (sym text_parts) (all_mapped-append (target_of j) (input_text j x) (input_text (later j x) y) first second) in
-      let is : output_pieces j (output_of j (x ++ y)) ≡ output_pieces j (output_of j x) ++ output_pieces j (output_of (later j x) y) =
-      ap (output_pieces j) (output_where_mapped j (x ++ y) v whole) ∙ read_whole
-      ∙ ap (λ l. output_pieces j l ++ output_pieces j (output ref (target_of j) (input_text (later j x) y))) (sym (output_where_mapped j x v first))
-      ∙ ap (λ l. output_pieces j (output_of j x) ++ output_pieces j l) (sym (output_where_mapped (later j x) y valid second)) in
+      let is = read_back (mapped_where_faithful j x v f) (mapped_where_faithful (later j x) y later_valid g) in
       record {
         source = subst AreWellFormed (sym pieces_parts) (AreWellFormed-append (input_pieces j x) (input_pieces (later j x) y) f.source g.source);
         target = subst AreWellFormed (sym is) (AreWellFormed-append (output_pieces j (output_of j x)) (output_pieces j (output_of (later j x) y)) f.target g.target);
-        same = ap text is ∙ text-append (output_pieces j (output_of j x)) (output_pieces j (output_of (later j x) y)) ∙ ap (λ l. l ++ text (output_pieces j (output_of (later j x) y))) f.same ∙ ap (λ l. input_text j x ++ l) g.same ∙ sym text_parts;
+        same = ap text is ∙ text-append (output_pieces j (output_of j x)) (output_pieces j (output_of (later j x) y)) ∙ cc (f.same, g.same, text_parts);
       }
 
   apart : Faithful j (x ++ y) → Faithful j x × Faithful (later j x) y
   apart f =
       let e = target_of j in
-      let valid = later_is_valid j x v in
       let whole = mapped_where_faithful j (x ++ y) v f in
       let mapped = mapped_parts e (input_text j x) (input_text (later j x) y) (subst (AllMapped e) text_parts whole) in
       let source = well_formed_parts (input_pieces j x) (input_pieces (later j x) y) (subst AreWellFormed pieces_parts f.source) in
-      let one_is : output_of j x ≡ output ref e (input_text j x) = output_where_mapped j x v mapped.0 in
-      let other_is : output_of (later j x) y ≡ output ref e (input_text (later j x) y) = output_where_mapped (later j x) y valid mapped.1 in
-      let all_is : output_of j (x ++ y) ≡ output ref e (input_text j (x ++ y)) = output_where_mapped j (x ++ y) v whole in
-      let first : List Piece = output_pieces j (output ref e (input_text j x)) in
-      let second : List Piece = output_pieces j (output ref e (input_text (later j x) y)) in
-      let is : output_pieces j (output_of j (x ++ y)) ≡ first ++ second = ap (output_pieces j) all_is ∙ read_whole in
+      let is = read_back mapped.0 mapped.1 in
+      let first : List Piece = output_pieces j (output_of j x) in
+      let second : List Piece = output_pieces j (output_of (later j x) y) in
       let target = well_formed_parts first second (subst AreWellFormed is f.target) in
       let joined : text first ++ text second ≡ input_text j x ++ input_text (later j x) y = sym (text-append first second) ∙ ap text (sym is) ∙ f.same ∙ text_parts in
-      elim ((agrees_or_breaks j.tables.now j.to v.tables).at_end ref (input_text j x) scalars) [
+      elim ((agrees_or_breaks j.tables.now j.to v.tables).at_end ref (input_text j x) (marked_scalars j.tables.now j.mark j.from x v.tables)) [
         | inl reads ↦
-            let rest : text second ≡ input_text (later j x) y = append_cancel_left (input_text j x) (text second) (input_text (later j x) y) (ap (λ l. l ++ text second) (sym reads.same) ∙ joined) in (
-              record { source = source.0; target = subst (λ l. AreWellFormed (output_pieces j l)) (sym one_is) target.0; same = ap (λ l. text (output_pieces j l)) one_is ∙ reads.same },
-              record { source = source.1; target = subst (λ l. AreWellFormed (output_pieces j l)) (sym other_is) target.1; same = ap (λ l. text (output_pieces j l)) other_is ∙ rest },
-            )
+            let same : text first ≡ input_text j x = ap (λ l. text (output_pieces j l)) (output_where_mapped j x v mapped.0) ∙ reads.same in
+            let rest = append_cancel_left (input_text j x) (text second) (input_text (later j x) y) (ap (λ l. l ++ text second) (sym same) ∙ joined) in
+            (record { source = source.0; target = target.0; same = same }, record { source = source.1; target = target.1; same = rest })
         | inr broken ↦
             let more : List ℕ = output ref e (input_text (later j x) y) in
-            let begun : output_of j (x ++ y) ≡ open_from ref e Ascii (input_text j x) ++ more = all_is ∙ ap (output ref e) text_parts ∙ output_parts ref e one (input_text j x) (input_text (later j x) y) in
+            let begun : output_of j (x ++ y) ≡ open_from ref e Ascii (input_text j x) ++ more = output_where_mapped j (x ++ y) v whole ∙ ap (output ref e) text_parts ∙ output_parts ref e one (input_text j x) (input_text (later j x) y) in
             let reads : ReadsAs (output_pieces j) (open_from ref e Ascii (input_text j x) ++ more) (input_text j x ++ input_text (later j x) y) =
             record { well_formed = subst (λ l. AreWellFormed (output_pieces j l)) begun f.target; same = ap (λ l. text (output_pieces j l)) (sym begun) ∙ f.same ∙ text_parts } in
             absurd (broken_never_reads (output_pieces j) _ _ (broken_stays (output_pieces j) (open_from ref e Ascii (input_text j x)) (input_text j x) more (input_text (later j x) y) broken) reads)
@@ -298,102 +192,67 @@ module _ (j : Job) (x y : List ℕ) (v : IsValidJob j) (c : CanBeCut j x) where
   pub faithful_parts : Faithful j (x ++ y) ↔ (Faithful j x × Faithful (later j x) y)
   faithful_parts = (apart, λ each. together each.0 each.1)
 
+  -- what two reports say of it
+  pub verdicts_say : (p q : Report) → (IsTrue p.faithful ↔ Faithful j x) → (IsTrue q.faithful ↔ Faithful (later j x) y) → Faithful j (x ++ y) ↔ (IsTrue p.faithful × IsTrue q.faithful)
+  verdicts_say p q one_says other = (λ f. let each = apart f in (one_says.1 each.0, other.1 each.1), λ each. together (one_says.0 each.0) (other.0 each.1))
+
   pub reports_of_parts : (p q r : Report) → IsReport j x p → IsReport (later j x) y q → IsReport j (x ++ y) r → AddsUp p q r
-  reports_of_parts p q r one_report other all = record {
-    read = all.read ∙ length-append x y ∙ omega (arith, one_report.read, other.read);
-    bad = all.bad ∙ ap malformed_count pieces_parts ∙ malformed_count-append (input_pieces j x) (input_pieces (later j x) y) ∙ omega (arith, one_report.bad, other.bad);
-    lost = all.lost ∙ lost_in_parts ∙ omega (arith, one_report.lost, other.lost);
-    encoding = all.encoding ∙ source_parts ∙ sym one_report.encoding;
-    faithful = (
-      λ told. let each = faithful_parts.0 (all.faithful.0 told) in (one_report.faithful.1 each.0, other.faithful.1 each.1),
-      λ each. all.faithful.1 (faithful_parts.1 (one_report.faithful.0 each.0, other.faithful.0 each.1)),
-    );
-  }
+  reports_of_parts p q r one_report other all =
+      let verdict = verdicts_say p q one_report.faithful other.faithful in
+      record {
+        read = omega (arith, all.read, length-append x y, one_report.read, other.read);
+        bad = omega (arith, all.bad, ap malformed_count pieces_parts, malformed_count-append (input_pieces j x) (input_pieces (later j x) y), one_report.bad, other.bad);
+        lost = omega (arith, all.lost, lost_in_parts, one_report.lost, other.lost);
+        encoding = all.encoding ∙ source_parts ∙ sym one_report.encoding;
+        faithful = (λ told. verdict.0 (all.faithful.0 told), λ each. all.faithful.1 (verdict.1 each));
+      }
 
 -- ---- more parts than two
 
--- what is counted on twice
-moved_twice : (n m a b : ℕ) (ls : List LogLine) → map (moved_line n m) (map (moved_line a b) ls) ≡ map (moved_line (n + a) (m + b)) ls
-moved_twice n m a b [] = refl
-moved_twice n m a b (Bad o size ∷ ls) =
-    ap (λ k. Bad k size ∷ map (moved_line n m) (map (moved_line a b) ls)) (sym (add_assoc n a o)) ∙ ap (λ l. Bad ((n + a) + o) size ∷ l) (moved_twice n m a b ls)
-moved_twice n m a b (Lost i c ∷ ls) =
-    ap (λ k. Lost k c ∷ map (moved_line n m) (map (moved_line a b) ls)) (sym (add_assoc m b i)) ∙ ap (λ l. Lost ((m + b) + i) c ∷ l) (moved_twice n m a b ls)
+are_parts : (x : List ℕ) (parts : List (List ℕ)) → EndsInCut x → AreParts parts → AreParts (x ∷ parts)
+are_parts x [] ends are = tt
+are_parts x (y ∷ parts) ends are = (ends, are)
 
-module _ (j : Job) (x : List ℕ) (v : IsValidJob j) (c : CanBeCut j x) where
-  abbrev rest : Job
-  rest = later j x
+-- what is said of a job's first part and those after it
+pub record AreWhole (j : Job) (x : List ℕ) (parts : List (List ℕ)) : Type 0 where
+  pub output : RunsThrough j (x ++ concat parts) → output_of j (x ++ concat parts) ≡ output_of j x ++ flat_map (output_of (later j x)) parts
+  pub lines : RunsThrough j (x ++ concat parts) → (n m : ℕ) → map (moved_line n m) (lines_of j (x ++ concat parts))
+      ≡ map (moved_line n m) (lines_of j x) ++ later_lines (later j x) (n + length x) (m + length (input_text j x)) parts
+  pub verdict : Faithful j (x ++ concat parts) ↔ (Faithful j x × AreFaithful (later j x) parts)
 
-  rest_is_valid : IsValidJob rest
-  rest_is_valid = later_is_valid j x v
+are_whole : (j : Job) (x : List ℕ) (parts : List (List ℕ)) → IsValidJob j → is_ascii_compatible_of (source_in j x) ≡ true → is_ascii_compatible_of (output_encoding_of j.to) ≡ true → AreParts (x ∷ parts) → AreWhole j x parts
+are_whole j x [] v source target are = record {
+  output = λ through. ap (output_of j) (append-nil x) ∙ sym (append-nil (output_of j x));
+  lines = λ through n m. ap (λ l. map (moved_line n m) (lines_of j l)) (append-nil x) ∙ sym (append-nil (map (moved_line n m) (lines_of j x)));
+  verdict = (λ f. (subst (Faithful j) (append-nil x) f, tt), λ f. subst (Faithful j) (sym (append-nil x)) f.0);
+}
+are_whole j x (y ∷ parts) v source target are =
+    let c : CanBeCut j x = record { ends = are.0; source = source; target = target } in
+    let behind : List ℕ = y ++ concat parts in
+    let more = are_whole (later j x) y parts (later_is_valid j x v) source target are.1 in
+    let through = (runs_through_parts j x behind v c).0 in
+    let two = faithful_parts j x behind v c in
+    record {
+      output = λ all. output_of_parts j x behind v c (through all).0 ∙ ap (λ l. output_of j x ++ l) (more.output (through all).1);
+      lines = λ all n m.
+          ap (map (moved_line n m)) (two_lines j x behind v c (through all).0)
+          ∙ map-append (moved_line n m) (lines_of j x) (map (moved_line (length x) (length (input_text j x))) (lines_of (later j x) behind))
+          ∙ ap (λ l. map (moved_line n m) (lines_of j x) ++ l) (moved_twice n m (length x) (length (input_text j x)) (lines_of (later j x) behind) ∙ more.lines (through all).1 (n + length x) (m + length (input_text j x)));
+      verdict = (λ f. let each = two.0 f in (each.0, more.verdict.0 each.1), λ f. two.1 (f.0, more.verdict.1 f.1));
+    }
 
-  cut_behind : (y : List ℕ) → EndsInCut y → CanBeCut rest y
-  cut_behind y ends = record { ends = ends; source = c.source; target = c.target }
+pub all_parts : (j : Job) (x : List ℕ) (parts : List (List ℕ)) → IsValidJob j → CanBeCut j x → AreParts parts → AreWhole j x parts
+all_parts j x parts v c are = are_whole j x parts v c.source c.target (are_parts x parts c.ends are)
 
-  more_outputs : (y : List ℕ) (parts : List (List ℕ)) → AreParts (y ∷ parts) → RunsThrough rest (concat (y ∷ parts)) → output_of rest (concat (y ∷ parts)) ≡ flat_map (output_of rest) (y ∷ parts)
-  more_outputs y [] are through = ap (output_of rest) (append-nil y) ∙ sym (append-nil (output_of rest y))
-  more_outputs y (z ∷ parts) are through =
-      let cut = cut_behind y are.0 in
-      let each = (runs_through_parts rest y (concat (z ∷ parts)) rest_is_valid cut).0 through in
-      output_of_parts rest y (concat (z ∷ parts)) rest_is_valid cut each.0 ∙ ap (λ l. output_of rest y ++ l) (more_outputs z parts are.1 each.1)
+pub lines_of_all : (j : Job) (x : List ℕ) (parts : List (List ℕ)) → AreWhole j x parts → RunsThrough j (x ++ concat parts) → lines_of j (x ++ concat parts) ≡ lines_of j x ++ later_lines (later j x) (length x) (length (input_text j x)) parts
+lines_of_all j x parts all through =
+    let n : 0 + length x ≡ length x = omega arith in
+    let m : 0 + length (input_text j x) ≡ length (input_text j x) = omega arith in
+    cc (moved_none (lines_of j (x ++ concat parts)), moved_none (lines_of j x), all.lines through 0 0)
 
-  more_lines : (n m : ℕ) (y : List ℕ) (parts : List (List ℕ)) → AreParts (y ∷ parts) → RunsThrough rest (concat (y ∷ parts)) → map (moved_line n m) (lines_of rest (concat (y ∷ parts))) ≡ later_lines rest n m (y ∷ parts)
-  more_lines n m y [] are through = ap (λ l. map (moved_line n m) (lines_of rest l)) (append-nil y) ∙ sym (append-nil (map (moved_line n m) (lines_of rest y)))
-  more_lines n m y (z ∷ parts) are through =
-      let cut = cut_behind y are.0 in
-      let each = (runs_through_parts rest y (concat (z ∷ parts)) rest_is_valid cut).0 through in
-      let behind : List LogLine = lines_of rest (concat (z ∷ parts)) in
-      ap (map (moved_line n m)) (two_lines rest y (concat (z ∷ parts)) rest_is_valid cut each.0)
-      ∙ map-append (moved_line n m) (lines_of rest y) (map (moved_line (length y) (length (input_text rest y))) behind)
-      ∙ ap (λ l. map (moved_line n m) (lines_of rest y) ++ l) (moved_twice n m (length y) (length (input_text rest y)) behind)
-      ∙ ap (λ l. map (moved_line n m) (lines_of rest y) ++ l) (more_lines (n + length y) (m + length (input_text rest y)) z parts are.1 each.1)
-
-  more_verdicts : (y : List ℕ) (parts : List (List ℕ)) → AreParts (y ∷ parts) → Faithful rest (concat (y ∷ parts)) ↔ AreFaithful rest (y ∷ parts)
-  more_verdicts y [] are = (λ f. (subst (Faithful rest) (append-nil y) f, tt), λ f. subst (Faithful rest) (sym (append-nil y)) f.0)
-  more_verdicts y (z ∷ parts) are =
-      let two = faithful_parts rest y (concat (z ∷ parts)) rest_is_valid (cut_behind y are.0) in
-      let more = more_verdicts z parts are.1 in
-      (λ f. let each = two.0 f in (each.0, more.0 each.1), λ f. two.1 (f.0, more.1 f.1))
-
-  pub outputs_of_many : (parts : List (List ℕ)) → AreParts parts → RunsThrough j (x ++ concat parts) → output_of j (x ++ concat parts) ≡ output_of j x ++ flat_map (output_of rest) parts
-  outputs_of_many [] are through = ap (output_of j) (append-nil x) ∙ sym (append-nil (output_of j x))
-  outputs_of_many (y ∷ parts) are through =
-      let each = (runs_through_parts j x (concat (y ∷ parts)) v c).0 through in
-      output_of_parts j x (concat (y ∷ parts)) v c each.0 ∙ ap (λ l. output_of j x ++ l) (more_outputs y parts are each.1)
-
-  pub lines_of_many : (parts : List (List ℕ)) → AreParts parts → RunsThrough j (x ++ concat parts) → lines_of j (x ++ concat parts) ≡ lines_of j x ++ later_lines rest (length x) (length (input_text j x)) parts
-  lines_of_many [] are through = ap (lines_of j) (append-nil x) ∙ sym (append-nil (lines_of j x))
-  lines_of_many (y ∷ parts) are through =
-      let each = (runs_through_parts j x (concat (y ∷ parts)) v c).0 through in
-      two_lines j x (concat (y ∷ parts)) v c each.0 ∙ ap (λ l. lines_of j x ++ l) (more_lines (length x) (length (input_text j x)) y parts are each.1)
-
-  pub verdicts_of_many : (parts : List (List ℕ)) → AreParts parts → Faithful j (x ++ concat parts) ↔ (Faithful j x × AreFaithful rest parts)
-  verdicts_of_many [] are = (λ f. (subst (Faithful j) (append-nil x) f, tt), λ f. subst (Faithful j) (sym (append-nil x)) f.0)
-  verdicts_of_many (y ∷ parts) are =
-      let two = faithful_parts j x (concat (y ∷ parts)) v c in
-      let more = more_verdicts y parts are in
-      (λ f. let each = two.0 f in (each.0, more.0 each.1), λ f. two.1 (f.0, more.1 f.1))
-
--- ---- the tests of callers
-
--- the source
+-- the source of a job, by the mark that is found
 pub source_where_found : (j : Job) (x : List ℕ) (found : Option (Encoding × ℕ)) → found ≡ mark_at_start x → source_if (takes_mark_of j.mark j.from) j.from found ≡ source_in j x
 source_where_found j x found is = ap (source_if (takes_mark_of j.mark j.from) j.from) is ∙ sym (source_by_mark j.mark j.from x)
-
-pub taken_source : (j : Job) (x : List ℕ) (found : Option (Encoding × ℕ)) (pair : Encoding × ℕ) (f : Encoding) (t : Bool) → found ≡ mark_at_start x → found ≡ Some pair → f ≡ pair.0 → t ≡ takes_mark_of j.mark j.from f → t ≡ true → f ≡ source_in j x
-taken_source j x found pair f t is some same takes holds =
-    let taken : takes_mark_of j.mark j.from pair.0 ≡ true = ap (takes_mark_of j.mark j.from) (sym same) ∙ sym takes ∙ holds in
-    let chosen : source_if (takes_mark_of j.mark j.from) j.from (Some pair) ≡ pair.0 = rw taken refl in
-    same ∙ sym chosen ∙ ap (source_if (takes_mark_of j.mark j.from) j.from) (sym some) ∙ source_where_found j x found is
-
-pub untaken_source : (j : Job) (x : List ℕ) (found : Option (Encoding × ℕ)) (pair : Encoding × ℕ) (f : Encoding) (t : Bool) → found ≡ mark_at_start x → found ≡ Some pair → f ≡ pair.0 → t ≡ takes_mark_of j.mark j.from f → t ≡ false → j.from ≡ source_in j x
-untaken_source j x found pair f t is some same takes no_mark =
-    let taken : takes_mark_of j.mark j.from pair.0 ≡ false = ap (takes_mark_of j.mark j.from) (sym same) ∙ sym takes ∙ no_mark in
-    let chosen : source_if (takes_mark_of j.mark j.from) j.from (Some pair) ≡ j.from = rw taken refl in
-    sym chosen ∙ ap (source_if (takes_mark_of j.mark j.from) j.from) (sym some) ∙ source_where_found j x found is
-
-pub unmarked_source : (j : Job) (x : List ℕ) (found : Option (Encoding × ℕ)) → found ≡ mark_at_start x → found ≡ None → j.from ≡ source_in j x
-unmarked_source j x found is none = ap (source_if (takes_mark_of j.mark j.from) j.from) (sym none) ∙ source_where_found j x found is
 
 -- ---- runs on parts
 
@@ -401,17 +260,15 @@ pub runs_on_parts : (j : Job) (x y : List ℕ) (v w : Written) (p q : Report) �
 runs_on_parts j x y v w p q valid c one other =
     let k = length (input_text j x) in
     let ls = lines_of (later j x) y in
+    let through = one.whole.unstopped in
     record {
-      output = output_of_parts j x y valid c one.whole.unstopped ∙ ap (λ l. l ++ output_of (later j x) y) (sym one.whole.output) ∙ ap (λ l. v.output ++ l) (sym other.whole.output);
+      output = output_of_parts j x y valid c through ∙ cc (one.whole.output, other.whole.output);
       second = other.whole.logged ∙ log_bytes-noted (trace (later j x) y);
       log =
           log_bytes-noted (trace j (x ++ y))
-          ∙ ap (flat_map line_bytes) (two_lines j x y valid c one.whole.unstopped)
+          ∙ ap (flat_map line_bytes) (two_lines j x y valid c through)
           ∙ flat_map-append line_bytes (lines_of j x) (map (moved_line (length x) k) ls)
           ∙ ap (λ l. l ++ flat_map line_bytes (map (moved_line (length x) k) ls)) (sym (log_bytes-noted (trace j x)) ∙ sym one.whole.logged)
           ∙ ap (λ n. v.log ++ flat_map line_bytes (map (moved_line n k) ls)) (sym one.report.read);
-      faithful = (
-        λ f. let each = (faithful_parts j x y valid c).0 f in (one.report.faithful.1 each.0, other.report.faithful.1 each.1),
-        λ each. (faithful_parts j x y valid c).1 (one.report.faithful.0 each.0, other.report.faithful.0 each.1),
-      );
+      faithful = verdicts_say j x y valid c p q one.report.faithful other.report.faithful;
     }

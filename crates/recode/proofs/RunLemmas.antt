@@ -22,7 +22,7 @@ use Rattle.recode.specs.declared.job.Report.{Report}
 use Rattle.recode.proofs.LatencyLemmas.{stands_run, wrote_decided}
 use Rattle.recode.proofs.StepLemmas.{HasStopped}
 use Rattle.recode.proofs.StopLemmas.{bads_of, losts_of, mapped_where_faithful, output_where_mapped, quiet_where_kept, trace_where_spared, whole_within}
-use Rattle.recode.proofs.WorkLemmas.{items_split}
+use Rattle.recode.proofs.TraceLemmas.{items_split}
 
 -- nothing was lost if each piece is well-formed and each character has bytes, and only then
 pub faithful_where_kept : (j : Job) (x : List ℕ) → IsValidJob j → KeepsCharacters j.to → AreWellFormed (input_pieces j x) → AllMapped (target_of j) (input_text j x) → Faithful j x
@@ -38,13 +38,19 @@ quiet_where_faithful j x v f = quiet_where_kept j x f.source (mapped_where_faith
 whole_items : {before after : Devices} {j : Job} {v : View} (u : View) → IsNewSession v j → (f : Finishes before after j.limit v.state u.state) → f.pays.written_items ≡ whole_trace j f.chunk
 whole_items u b f = sym (append-nil f.pays.written_items) ∙ sym f.pays.equals ∙ b.owes_trace f.chunk
 
-pub completes : (before after : Devices) (j : Job) (v u : View) (p : Report) → IsValidJob j → IsNewSession v j → Finishes before after j.limit v.state u.state → Tells u p → Completes before.reads after.reads before.written after.written j p
+pub completes : (before after : Devices) (j : Job) (v u : View) (p : Report) → IsValidJob j → IsNewSession v j → Finishes before after j.limit v.state u.state → Tells u p
+    → Completes before.reads after.reads before.written after.written j p × ReportsFewCalls p
 completes before after j v u p valid b f t =
     let x : List ℕ = f.chunk in
     let items = whole_items u b f in
     let spared : IsSpared j.policy (whole_trace j x) = subst (IsSpared j.policy) items (subst (λ (q : Policy). IsSpared q f.pays.written_items) b.policy f.pays.spared) in
     let wrote : Wrote before.written after.written (tagged (trace j x)) = subst (λ t. Wrote before.written after.written (tagged t)) (items ∙ sym (trace_where_spared j x spared)) f.pays.wrote in
-    record {
+    -- the bounds on the calls that are reported
+    let most : p.calls ≤ 37 * p.read + 9 =
+    omega (arith, t.calls, t.read, f.calls, b.calls, b.index, b.read, b.bad, b.lost, f.counted, f.pays.counted.bad, f.pays.counted.lost, ap bad_line_count items, ap lost_line_count items, f.sound.index, f.sound.bad, f.sound.lost, ap length (b.owes_trace x), items_split (whole_trace j x), whole_within j x valid) in
+    let calls : ReportsFewCalls p =
+    record { least = omega (arith, t.read, f.counted, b.read, t.calls, t.bad, t.lost, b.calls, b.bad, b.lost, f.least (omega (arith, most, t.calls, t.read, f.counted, f.within, b.read, valid.limit))); most = most } in
+    (record {
       input = x;
       given = f.given;
       converted = record {
@@ -62,16 +68,7 @@ completes before after j v u p valid b f t =
           faithful = (λ h. (b.verdict x).0 (f.verdict.1 (sym t.verdict ∙ h)), λ h. t.verdict ∙ f.verdict.0 ((b.verdict x).1 h));
         };
       };
-    }
-
--- The bounds on the calls that are reported.
-pub few_calls : (before after : Devices) (j : Job) (v u : View) (p : Report) → IsValidJob j → IsNewSession v j → Finishes before after j.limit v.state u.state → Tells u p → ReportsFewCalls p
-few_calls before after j v u p valid b f t =
-    let items = whole_items u b f in
-    let x : List ℕ = f.chunk in
-    let most : p.calls ≤ 37 * p.read + 9 =
-    omega (arith, t.calls, t.read, f.calls, b.calls, b.index, b.read, b.bad, b.lost, f.counted, f.pays.counted.bad, f.pays.counted.lost, ap bad_line_count items, ap lost_line_count items, f.sound.index, f.sound.bad, f.sound.lost, ap length (b.owes_trace x), items_split (whole_trace j x), whole_within j x valid) in
-    record { least = omega (arith, t.read, f.counted, b.read, t.calls, t.bad, t.lost, b.calls, b.bad, b.lost, f.least (omega (arith, most, t.calls, t.read, f.counted, f.within, b.read, valid.limit))); most = most }
+    }, calls)
 
 pub fails : (before after : Devices) (j : Job) (v : View) (f : Fault) → IsNewSession v j → HasStopped before after j.limit v.state f → Fails before after j f
 fails before after j v f b s =

@@ -1,6 +1,6 @@
 -- How a step's parts make its clauses. What is left if a conversion failed.
 use Rattle.std.proofs.Common.{Err, Ok, ◌⊎◌, ◌≡◌, ℕ, ◌+◌, ◌≤◌, ◌<◌, add-zero, arith, length-append, append_assoc, List, [], ◌∷◌, ◌++◌, length, Bool, true, false, refl, sym, ap, ◌∙◌, subst, append-nil, take, inl, inr}
-use Rattle.recode.proofs.GrowLemmas.{Gave-nil, Gave-one, Gave-trans, GaveThen-after, GaveToEnd-is, Grew-trans}
+use Rattle.recode.proofs.TraceLemmas.{Gave-nil, Gave-one, Gave-trans, GaveThen-after, GaveToEnd-is, Grew-trans, WritesItemsFor-start, Wrote-nil, Wrote-trans, left_behind}
 use Rattle.encoding_mem.specs.Items.{Item}
 use Rattle.recode.specs.State.{State, to_write}
 use Rattle.recode.specs.Devices.{CountsFault, Devices, Failures, Gave, GaveToEnd, Grew, KeepsWritten, Written}
@@ -14,7 +14,6 @@ use Rattle.recode.specs.declared.job.Fault.TheVariants.{Read, Write, Log, TooLon
 use Rattle.recode.proofs.LatencyLemmas.{advances_more}
 use Rattle.recode.proofs.VerdictLemmas.{both_ways}
 use Rattle.recode.specs.laws.Items.{tagged-append, AreCounted-trans, spared_append}
-use Rattle.recode.proofs.TraceLemmas.{WritesItemsFor-start, Wrote-nil, Wrote-trans, left_behind}
 use Rattle.recode_log.specs.Counted.{IsTold}
 use Rattle.recode.specs.Conversion.{Breaks, CountsFlushes, IsFlushCause, RisesBy, message_of}
 use Rattle.recode.specs.Job.{trace}

@@ -31,7 +31,8 @@ use Rattle.recode.specs.WrittenItems.{IsSpared, bad_line_count, lost_line_count}
 use Rattle.recode.specs.declared.job.Job.{Job}
 use Rattle.recode.specs.declared.job.Policy.{Policy}
 use Rattle.recode.specs.laws.Items.{cut_spared, lost_line_count-bytes, output_bytes-append, tagged-append, written_whole, lost_line_count-trace, bad_line_count-trace}
-use Rattle.recode.proofs.TraceLemmas.{log_bytes-trace, output_bytes-tagged, output_bytes-trace, none_logged, none_counted}
+use Rattle.recode.specs.laws.Parts.{log_bytes-trace}
+use Rattle.recode.proofs.TraceLemmas.{none_counted, none_logged, output_bytes-tagged, output_bytes-trace}
 
 -- The lines of the whole trace.
 pub bads_of : (j : Job) (x : List ℕ) → bad_line_count (whole_trace j x) ≡ malformed_count (input_pieces j x)

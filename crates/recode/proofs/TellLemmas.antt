@@ -1,5 +1,6 @@
--- What the devices of a conversion tell after calls in a row, and which call was the last.
-use Rattle.std.proofs.Common.{◌≡◌, ◌⊎◌, ◌<◌, ℕ, List, [], ◌∷◌, ◌++◌, Option, Some, None, Result, Ok, Err, OnErr, IfErr, IsErrAnd, inl, inr, sym, ap, subst, ◌∙◌, append_assoc, append-nil, length, take, arith, rules}
+-- What the devices of a conversion tell after calls in a row, which call was the last, and what the clauses of a run
+-- and of a conversion say of devices that tell.
+use Rattle.std.proofs.Common.{◌≡◌, ◌<◌, ℕ, List, [], ◌∷◌, ◌++◌, Option, Some, None, Result, Ok, Err, OnErr, IfErr, IsErrAnd, inl, inr, sym, ap, subst, ◌∙◌, append_assoc, append-nil, length, take, arith, rules}
 use Rattle.std.specs.Io.KnownBytes.{Appends, Consumes, IsAtEnd}
 use Rattle.std.specs.List.{All, concat}
 use Rattle.std.proofs.lemmas.List.{append_cancel_left, same_from_push}
@@ -8,54 +9,54 @@ use Rattle.recode_log.specs.Call.{Call, Failed, Flush, Passed, passed_by}
 use Rattle.recode_log.specs.Counted.{CountsWrites, history_of}
 use Rattle.recode_log.specs.declared.counted.Counted.{Counted}
 use Rattle.recode_log.specs.laws.Calls.{passed_failed, passed_one}
-use Rattle.recode_log.specs.laws.Counts.{counts_then}
+use Rattle.recode_log.specs.laws.Counts.{counts_none, counts_then}
 use Rattle.recode.specs.Devices.{Devices, Gave, GaveToEnd, Grew, IsOf}
 use Rattle.recode.specs.Fault.{EndsAtFault, EndsAtWriterFault, of_other, reader_failures}
-use Rattle.recode.specs.Step.{GaveSome, IsReadInto, RunCalls, StepCalls}
+use Rattle.recode.specs.Step.{GaveSome, IsReadInto, RunCalls, StepCalls, failed_read}
 use Rattle.recode_log.specs.Told.{TellsReads, TellsTaken}
-use Rattle.recode_log.specs.laws.Told.{NoneYet, flushed_none, taken_kept, reads_none, reads_after, reads_then, taken_none, taken_then}
+use Rattle.recode_log.specs.laws.Told.{NoneYet, flushed_none, taken_kept, reads_none, reads_after, reads_one, reads_then, taken_none, taken_then}
 use Rattle.recode.specs.Told.{Told, TellWhatPassed}
 use Rattle.recode.specs.declared.job.Fault.{Fault}
 use Rattle.recode.specs.declared.job.Fault.TheVariants.{Read}
-use Rattle.recode.proofs.GrowLemmas.{GaveToEnd-is}
+use Rattle.recode.proofs.TraceLemmas.{GaveToEnd-is}
+use Rattle.recode.specs.Conversion.{Breaks, Converts, message_of}
+use Rattle.recode.specs.Job.{log_of, output_of}
+use Rattle.recode.specs.RunsTold.{BreaksTold, CompletesTold, ConvertsTold, FailsTold}
+use Rattle.recode.specs.Session.{Completes, Fails}
+use Rattle.recode.specs.TaggedByte.{log_bytes, output_bytes}
+use Rattle.recode.specs.declared.job.Job.{Job}
+use Rattle.recode.specs.declared.job.Report.{Report}
 
 -- so a writer that tells holds what was taken
 pub taken_is : (a b : List ℕ) (t u : Option (List ℕ)) (bytes : List ℕ) → TellsTaken a b t u → Grew a b bytes → Appends t u bytes
 taken_is a b t u bytes h is = subst (Appends t u) (append_cancel_left a h.bytes bytes (sym h.took ∙ is)) h.held
 
--- what one call gave, if it gave some
-one_gave : (before after : List Call) (room : ℕ) (call : Call) → IsReadInto room call → after ≡ before ++ (call ∷ [])
-    → (passed_by after ≡ passed_by before) ⊎ ((bytes : List ℕ) × (passed_by after ≡ passed_by before ++ (bytes ∷ [])))
-one_gave before after room (Passed n bytes) is once = inr (bytes, passed_one before after n bytes once)
-one_gave before after room (Failed n) is once = inl (passed_failed before after n once)
-one_gave before after room (Flush failed) is once = absurd is
+-- a read that gave these is one that gave some
+one_gave : (before after : List Call) (room : ℕ) (call : Call) (chunk : List ℕ) → IsReadInto room call → after ≡ before ++ (call ∷ []) → Gave (passed_by before) (passed_by after) chunk → 0 < length chunk
+    → GaveSome room call × ((bytes : List ℕ) × (passed_by after ≡ passed_by before ++ (bytes ∷ [])) × (0 < length bytes))
+one_gave before after room (Passed n bytes) chunk is once gave some =
+    let one = passed_one before after n bytes once in
+    let all : gave.0 ≡ bytes ∷ [] = append_cancel_left (passed_by before) gave.0 (bytes ∷ []) (sym gave.1 ∙ one) in
+    let more : 0 < length bytes = omega (arith, some, ap length (sym gave.2 ∙ ap concat all ∙ append-nil bytes)) in
+    ((is, more), bytes, one, more)
+one_gave before after room (Failed n) chunk is once gave some =
+    let all : gave.0 ≡ [] = append_cancel_left (passed_by before) gave.0 [] (sym gave.1 ∙ passed_failed before after n once ∙ sym (append-nil (passed_by before))) in
+    absurd (omega (arith, some, ap length (sym gave.2 ∙ ap concat all)))
+one_gave before after room (Flush failed) chunk is once gave some = absurd is
 
 -- nor after one that gave some
 pub none_yet_on : (a : List (List ℕ)) (before after : List Call) (room : ℕ) (call : Call) (chunk : List ℕ) → NoneYet a (passed_by before) → IsReadInto room call → after ≡ before ++ (call ∷ [])
     → Gave (passed_by before) (passed_by after) chunk → 0 < length chunk → NoneYet a (passed_by after)
-none_yet_on a before after room call chunk yet is once gave some front e = elim (one_gave before after room call is once) [
-  | inl same ↦ yet front (sym same ∙ e)
-  | inr one ↦
-      let none : one.0 ≡ [] = (same_from_push (passed_by before) (a ++ front) one.0 [] (sym one.1 ∙ e ∙ sym (append_assoc a front ([] ∷ [])))).1 in
-      let all : gave.0 ≡ one.0 ∷ [] = append_cancel_left (passed_by before) gave.0 (one.0 ∷ []) (sym gave.1 ∙ one.1) in
-      omega (arith, some, ap length (sym gave.2 ∙ ap concat all ∙ append-nil one.0 ∙ none))
-]
+none_yet_on a before after room call chunk yet is once gave some front e =
+    let one = (one_gave before after room call chunk is once gave some).1 in
+    let none = same_from_push (passed_by before) (a ++ front) one.0 [] (sym one.1 ∙ e ∙ sym (append_assoc a front ([] ∷ []))) in
+    omega (arith, one.2, ap length none.1)
 
 -- reads with room for so many bytes, each of which gave some
 pub record ReadsSome (before after : List Call) (room : ℕ) : Type 0 where
   pub earlier : List Call
   pub calls : after ≡ before ++ earlier
   pub some : All (GaveSome room) earlier
-
--- a read that gave these is one
-gave_some : (before after : List Call) (room : ℕ) (call : Call) (chunk : List ℕ) → IsReadInto room call → after ≡ before ++ (call ∷ []) → Gave (passed_by before) (passed_by after) chunk → 0 < length chunk → GaveSome room call
-gave_some before after room (Passed n bytes) chunk is once gave some =
-    let all : gave.0 ≡ bytes ∷ [] = append_cancel_left (passed_by before) gave.0 (bytes ∷ []) (sym gave.1 ∙ passed_one before after n bytes once) in
-    (is, omega (arith, some, ap length (sym gave.2 ∙ ap concat all ∙ append-nil bytes)))
-gave_some before after room (Failed n) chunk is once gave some =
-    let all : gave.0 ≡ [] = append_cancel_left (passed_by before) gave.0 [] (sym gave.1 ∙ passed_failed before after n once ∙ sym (append-nil (passed_by before))) in
-    absurd (omega (arith, some, ap length (sym gave.2 ∙ ap concat all)))
-gave_some before after room (Flush failed) chunk is once gave some = absurd is
 
 pub reads_start : (calls : List Call) (room : ℕ) → ReadsSome calls calls room
 reads_start calls room = record { earlier = []; calls = sym (append-nil calls); some = All-nil (GaveSome room) }
@@ -65,7 +66,7 @@ pub reads_on : (a before after : List Call) (room room' : ℕ) (call : Call) (ch
 reads_on a before after room room' call chunk h same is once gave some = record {
   earlier = h.earlier ++ (call ∷ []);
   calls = once ∙ ap (λ l. l ++ (call ∷ [])) h.calls ∙ append_assoc a h.earlier (call ∷ []);
-  some = All-append (GaveSome room) h.earlier (call ∷ []) h.some (All-cons (GaveSome room) call [] (gave_some before after room call chunk (rw same at is) once gave some) (All-nil (GaveSome room)));
+  some = All-append (GaveSome room) h.earlier (call ∷ []) h.some (All-cons (GaveSome room) call [] (one_gave before after room call chunk (rw same at is) once gave some).0 (All-nil (GaveSome room)));
 }
 
 -- a fault that is handed on, which is not of the reader
@@ -128,6 +129,13 @@ pub last_failed : {T : Type 0} (g : Fault) (r : Result T Fault) (writer log : Li
 last_failed g (Ok x) writer log is h = tt
 last_failed g (Err f) writer log is h = rw is h
 
+-- the calls of a step
+pub step_calls : {R W L T : Type 0} {r r' : Counted R} {w w' : Counted W} {l l' : Counted L} {room : ℕ} {answer : Result T Fault} (call : Call) → history_of r' ≡ history_of r ++ (call ∷ []) → IsReadInto room call
+    → failed_read call ≡ reader_failures answer → CountsWrites w w' → CountsWrites l l' → IfErr answer (EndsAtFault (history_of r') (history_of w') (history_of l')) → StepCalls r r' w w' l l' room answer
+step_calls call once is failed writes lines last = record { call = call; once = once; is = is; failed = failed; writes = writes; lines = lines; last = last }
+
+pub ruleset step_rules = (step_calls, counts_none, reads_one, taken_none)
+
 -- the calls of a run whose last step made these
 pub run_calls : {R W L S T : Type 0} (r0 r r' : Counted R) (w0 w w' : Counted W) (l0 l l' : Counted L) (room : ℕ) {room' : ℕ} {s : Result S Fault} {result : Result T Fault} → ReadsSome (history_of r0) (history_of r) room
     → CountsWrites w0 w → CountsWrites l0 l → room' ≡ room → StepCalls r r' w w' l l' room' s → reader_failures s ≡ reader_failures result → IfErr result (EndsAtFault (history_of r') (history_of w') (history_of l')) → RunCalls r0 r' w0 w' l0 l' room result
@@ -142,3 +150,40 @@ run_calls r0 r r' w0 w w' l0 l l' room h writes lines same k failed last = recor
   lines = counts_then l0 l l' lines k.lines;
   last = last;
 }
+
+module _ (d e : Devices) (t u : Told) (tells : TellWhatPassed d e t u) (j : Job) where
+  pub completes_told : (p : Report) → Completes d.reads e.reads d.written e.written j p → CompletesTold d e t u j p
+  completes_told p k = record {
+    completes = k;
+    consumed = reads_are d.reads e.reads t.input u.input k.input tells.input (GaveToEnd-is d.reads e.reads k.input k.given);
+    end = reads_end d.reads e.reads t.input u.input k.input tells.input k.given;
+    output = taken_is d.written.output e.written.output t.output u.output (output_of j k.input) tells.output k.converted.whole.output;
+    logged = taken_is d.written.log e.written.log t.log u.log (log_of j k.input) tells.log k.converted.whole.logged;
+  }
+
+  pub fails_told : (f : Fault) → Fails d e j f → FailsTold d e t u j f
+  fails_told f k = record {
+    fails = k;
+    consumed = reads_are d.reads e.reads t.input u.input (k.read.input ++ k.read.refused) tells.input k.read.given;
+    end = λ h. reads_end d.reads e.reads t.input u.input k.read.input tells.input (k.read.end h);
+    output = taken_is d.written.output e.written.output t.output u.output (output_bytes k.taken) tells.output k.wrote.output;
+    logged = taken_is d.written.log e.written.log t.log u.log (log_bytes k.taken) tells.log k.wrote.lined;
+  }
+
+  pub converts_told : (status : ℕ) → Converts d e j status → ConvertsTold d e t u j status
+  converts_told status k = record {
+    converts = k;
+    consumed = reads_are d.reads e.reads t.input u.input k.input tells.input (GaveToEnd-is d.reads e.reads k.input k.given);
+    end = reads_end d.reads e.reads t.input u.input k.input tells.input k.given;
+    output = taken_is d.written.output e.written.output t.output u.output (output_of j k.input) tells.output k.whole.output;
+    logged = taken_is d.written.log e.written.log t.log u.log (log_of j k.input) tells.log k.whole.logged;
+  }
+
+  pub breaks_told : Breaks d e j → BreaksTold d e t u j
+  breaks_told k = record {
+    breaks = k;
+    consumed = reads_are d.reads e.reads t.input u.input (k.read.input ++ k.read.refused) tells.input k.read.given;
+    end = λ h. reads_end d.reads e.reads t.input u.input k.read.input tells.input (k.read.end h);
+    output = taken_is d.written.output e.written.output t.output u.output (output_bytes k.taken) tells.output k.output;
+    logged = taken_is d.written.log e.written.log t.log u.log (log_bytes k.taken ++ take k.told (message_of k.fault)) tells.log k.logged;
+  }

@@ -1,13 +1,15 @@
--- How what was written and what is still to be written compose. What the trace of a whole input is made of. If
--- the log is empty, and if a stop cut it short.
-use Rattle.std.proofs.Common.{arith, ◌<◌, ◌+◌, Result, Ok, Err, IfErr, IsErrAnd, Bool, true, ◌≡◌, ℕ, List, [], ◌∷◌, ◌++◌, map, take, drop, refl, ap, sym, ◌∙◌, subst, append_assoc, take-append-drop, length}
+-- What calls of devices passed in a row, and how what was written and what is still to be written compose. What the
+-- trace of a whole input is made of. If the log is empty, and if a stop cut it short.
+use Rattle.std.proofs.Common.{◌≡◌, List, [], ◌∷◌, ◌++◌, ℕ, refl, sym, ap, ◌∙◌, append_assoc, append-nil, arith, ◌<◌, ◌+◌, Result, Ok, Err, IfErr, IsErrAnd, Bool, true, map, take, drop, subst, take-append-drop, length}
+use Rattle.std.specs.List.{concat, flat_map}
+use Rattle.std.proofs.lemmas.List.Folds.{concat-append}
+use Rattle.recode.specs.Devices.{Gave, GaveThen, GaveToEnd, Grew, Written}
 use Rattle.std.proofs.lemmas.List.{map-append}
-use Rattle.recode.proofs.GrowLemmas.{Grew-nil, Grew-trans}
 use Rattle.encoding_mem.specs.declared.reference.Reference.{Reference}
-use Rattle.encoding_mem.specs.Items.{Item, Byte, MalformedAt, LostAt, item_bytes, open_items, form_items, trace_from}
+use Rattle.encoding_mem.specs.Items.{Item, Byte, MalformedAt, LostAt, item_bytes, open_items, trace_from}
 use Rattle.recode_log.specs.Line.{line_bytes}
 use Rattle.recode.specs.laws.Items.{output_bytes-append, log_bytes-append, output_bytes-bytes, log_bytes-bytes, output_bytes-lines, log_bytes-lines, tagged-append, lost_line_count-append, written_spared, spared_nil, spared_bytes}
-use Rattle.recode.specs.Devices.{Grew, Written}
+use Rattle.recode.specs.laws.Parts.{log_bytes-noted, noted-cut, noted-trace}
 use Rattle.recode.specs.TaggedByte.{TaggedByte, Line, output_bytes, log_bytes, Wrote, tagged}
 use Rattle.recode.specs.Parts.{noted}
 use Rattle.recode.specs.Policy.{up_to_loss, written_under, reference_form}
@@ -15,11 +17,10 @@ use Rattle.recode.specs.WrittenItems.{WritesPrefix, WritesItemsFor, WritesPrefix
 use Rattle.recode.specs.declared.job.Fault.{Fault}
 use Rattle.recode.specs.declared.job.Fault.TheVariants.{Write, Log}
 use Rattle.recode.specs.declared.job.Policy.{Policy}
-use Rattle.encoding_mem.specs.Coding.{Coding, open_from, whole_from, last_set, reference_bytes}
+use Rattle.encoding_mem.specs.Coding.{Coding, open_from, whole_from, last_set}
 use Rattle.encoding_mem.specs.declared.form.EscapeState.{EscapeState}
 use Rattle.encoding_mem.specs.declared.form.EscapeState.TheVariants.{Ascii}
 use Rattle.recode.specs.declared.counts.Counts.{Counts}
-use Rattle.std.specs.List.{flat_map}
 use Rattle.encoding_mem.specs.Piece.{Piece, well_formed, malformed, text}
 use Rattle.encoding_mem.specs.laws.EncoderCalls.{item_bytes-append, item_bytes-bytes, item_bytes-open_items, last_set-append, open_from-append}
 use Rattle.encoding_mem.specs.declared.form.Form.{Form}
@@ -28,6 +29,37 @@ use Rattle.recode_log.specs.declared.line.LogLine.{LogLine}
 use Rattle.recode.specs.Job.{form_lines, lost_log_lines, log_lines, input_pieces, input_text, log_of, target_of, trace, lines_up_to_loss, whole_trace}
 use Rattle.recode_log.specs.declared.line.LogLine.TheVariants.{Bad, Lost}
 use Rattle.recode.specs.declared.job.Job.{Job}
+
+pub Grew-nil : (a : List ℕ) → Grew a a []
+Grew-nil a = sym (append-nil a)
+
+pub Grew-trans : (a b c s t : List ℕ) → Grew a b s → Grew b c t → Grew a c (s ++ t)
+Grew-trans a b c s t p q = q ∙ ap (λ l. l ++ t) p ∙ append_assoc a s t
+
+pub Gave-nil : (a : List (List ℕ)) → Gave a a []
+Gave-nil a = ([], sym (append-nil a), refl)
+
+pub Gave-trans : (a b c : List (List ℕ)) (s t : List ℕ) → Gave a b s → Gave b c t → Gave a c (s ++ t)
+Gave-trans a b c s t p q = (p.0 ++ q.0, q.1 ∙ ap (λ l. l ++ q.0) p.1 ∙ append_assoc a p.0 q.0, concat-append p.0 q.0 ∙ ap (λ l. l ++ concat q.0) p.2 ∙ ap (λ l. s ++ l) q.2)
+
+-- one call more
+pub Gave-one : (a b : List (List ℕ)) (s : List ℕ) → b ≡ a ++ (s ∷ []) → Gave a b s
+Gave-one a b s e = (s ∷ [], e, append-nil s)
+
+-- that gave none
+pub GaveToEnd-one : (a b : List (List ℕ)) (s : List ℕ) → b ≡ a ++ (s ∷ []) → s ≡ [] → GaveToEnd a b s
+GaveToEnd-one a b s e none = ([], e ∙ ap (λ x. a ++ (x ∷ [])) none, sym none)
+
+pub GaveThen-after : (a b c : List (List ℕ)) (s t last : List ℕ) → Gave a b s → GaveThen b c t last → GaveThen a c (s ++ t) last
+GaveThen-after a b c s t last p q = (
+  p.0 ++ q.0,
+  q.1 ∙ ap (λ l. l ++ (q.0 ++ (last ∷ []))) p.1 ∙ append_assoc a p.0 (q.0 ++ (last ∷ [])) ∙ ap (λ l. a ++ l) (sym (append_assoc p.0 q.0 (last ∷ []))),
+  concat-append p.0 q.0 ∙ ap (λ l. l ++ concat q.0) p.2 ∙ ap (λ l. s ++ l) q.2,
+)
+
+-- all of it is what was given
+pub GaveToEnd-is : (a b : List (List ℕ)) (s : List ℕ) → GaveToEnd a b s → Gave a b s
+GaveToEnd-is a b s p = (p.0 ++ ([] ∷ []), p.1, concat-append p.0 ([] ∷ []) ∙ append-nil (concat p.0) ∙ p.2)
 
 pub Wrote-nil : (w : Written) → Wrote w w []
 Wrote-nil w = record { output = Grew-nil w.output; lined = Grew-nil w.log }
@@ -156,6 +188,15 @@ output_bytes-tagged (Byte b ∷ t) = ap (λ x. b ∷ x) (output_bytes-tagged t)
 output_bytes-tagged (MalformedAt offset size ∷ t) = rw (output_bytes-append (map Line (line_bytes (LogLine.Bad offset size))) (tagged t), output_bytes-lines (line_bytes (LogLine.Bad offset size))) (output_bytes-tagged t)
 output_bytes-tagged (LostAt index scalar ∷ t) = rw (output_bytes-append (map Line (line_bytes (LogLine.Lost index scalar))) (tagged t), output_bytes-lines (line_bytes (LogLine.Lost index scalar))) (output_bytes-tagged t)
 
+-- items are bytes and lines
+split : (t : List Item) → length t ≡ length (item_bytes t) + bad_line_count t + lost_line_count t
+split [] = refl
+split (Byte b ∷ t) = omega (arith, split t)
+split (x ∷ t) = omega (arith, split t)
+
+pub items_split : (t : List Item) → length t ≡ length (output_bytes (tagged t)) + bad_line_count t + lost_line_count t
+items_split t = omega (arith, split t, ap length (output_bytes-tagged t))
+
 pub whole_from-append : (ref : Reference) (e : Coding) (s : EscapeState) (a b : List ℕ) → whole_from ref e s (a ++ b) ≡ open_from ref e s a ++ whole_from ref e (last_set e s a) b
 whole_from-append ref e s a b = rw (open_from-append ref e s a b, last_set-append e s a b) (append_assoc (open_from ref e s a) (open_from ref e (last_set e s a) b) (e.escape (last_set e (last_set e s a) b) Ascii))
 
@@ -172,48 +213,6 @@ item_bytes-trace ref e s offset i (malformed n ∷ ps) =
 pub output_bytes-trace : (ref : Reference) (e : Coding) (s : EscapeState) (offset i : ℕ) (ps : List Piece) → output_bytes (tagged (trace_from ref e s offset i ps)) ≡ whole_from ref e s (text ps)
 output_bytes-trace ref e s offset i ps = output_bytes-tagged (trace_from ref e s offset i ps) ∙ item_bytes-trace ref e s offset i ps
 
--- The log: the lines that items have.
-log_bytes-line : (line : List ℕ) (s : List Item) → log_bytes (map Line line ++ tagged s) ≡ line ++ log_bytes (tagged s)
-log_bytes-line line s = log_bytes-append (map Line line) (tagged s) ∙ ap (λ x. x ++ log_bytes (tagged s)) (log_bytes-lines line)
-
-pub log_bytes-noted : (s : List Item) → log_bytes (tagged s) ≡ flat_map line_bytes (noted s)
-log_bytes-noted [] = refl
-log_bytes-noted (Byte b ∷ s) = log_bytes-noted s
-log_bytes-noted (MalformedAt offset size ∷ s) = log_bytes-line (line_bytes (Bad offset size)) s ∙ ap (λ x. line_bytes (Bad offset size) ++ x) (log_bytes-noted s)
-log_bytes-noted (LostAt i c ∷ s) = log_bytes-line (line_bytes (Lost i c)) s ∙ ap (λ x. line_bytes (Lost i c) ++ x) (log_bytes-noted s)
-
-pub noted-append : (s t : List Item) → noted (s ++ t) ≡ noted s ++ noted t
-noted-append [] t = refl
-noted-append (Byte b ∷ s) t = noted-append s t
-noted-append (MalformedAt offset size ∷ s) t = ap (λ x. Bad offset size ∷ x) (noted-append s t)
-noted-append (LostAt i c ∷ s) t = ap (λ x. Lost i c ∷ x) (noted-append s t)
-
-noted-bytes : (bs : List ℕ) → noted (map Byte bs) ≡ []
-noted-bytes [] = refl
-noted-bytes (b ∷ bs) = noted-bytes bs
-
-noted-form : (ref : Reference) (i : ℕ) (f : Form) → noted (form_items ref i f) ≡ form_lines i f
-noted-form ref i (Mapped bs) = noted-bytes bs
-noted-form ref i (Unmapped c) = ap (λ x. Lost i c ∷ x) (noted-bytes (reference_bytes ref c))
-
-noted-open : (ref : Reference) (e : Coding) (s : EscapeState) (i : ℕ) (t : List ℕ) → noted (open_items ref e s i t) ≡ lost_log_lines e i t
-noted-open ref e s i [] = refl
-noted-open ref e s i (c ∷ t) =
-    let rest : List Item = open_items ref e (e.set s c) (i + 1) t in
-    rw (noted-append (map Byte (e.escape s (e.set s c))) (form_items ref i (e.form c) ++ rest), noted-bytes (e.escape s (e.set s c)), noted-append (form_items ref i (e.form c)) rest, noted-form ref i (e.form c), noted-open ref e (e.set s c) (i + 1) t) refl
-
-pub noted-trace : (ref : Reference) (e : Coding) (s : EscapeState) (offset i : ℕ) (ps : List Piece) → noted (trace_from ref e s offset i ps) ≡ log_lines e offset i ps
-noted-trace ref e s offset i [] = noted-bytes (e.escape s Ascii)
-noted-trace ref e s offset i (well_formed n cs ∷ ps) =
-    rw (noted-append (open_items ref e s i cs) (trace_from ref e (last_set e s cs) (offset + n) (i + length cs) ps), noted-open ref e s i cs, noted-trace ref e (last_set e s cs) (offset + n) (i + length cs) ps) refl
-noted-trace ref e s offset i (malformed n ∷ ps) = ap (λ x. Bad offset n ∷ x)
-    (noted-append (open_items ref e s i (0xFFFD ∷ [])) (trace_from ref e (e.set s 0xFFFD) (offset + n) (i + 1) ps) ∙ rw (noted-open ref e s i (0xFFFD ∷ []), noted-trace ref e (e.set s 0xFFFD) (offset + n) (i + 1) ps) refl)
-
-pub log_bytes-trace : (ref : Reference) (e : Coding) (s : EscapeState) (offset i : ℕ) (ps : List Piece) → log_bytes (tagged (trace_from ref e s offset i ps)) ≡ flat_map line_bytes (log_lines e offset i ps)
-log_bytes-trace ref e s offset i ps = log_bytes-noted (trace_from ref e s offset i ps) ∙ ap (flat_map line_bytes) (noted-trace ref e s offset i ps)
-
--- If the log is empty.
-
 -- There is no line of the log exactly when no malformed sequence and no lost character was counted.
 pub none_logged : (s : List Item) → bad_line_count s ≡ 0 → lost_line_count s ≡ 0 → log_bytes (tagged s) ≡ []
 none_logged [] bad lost = refl
@@ -226,13 +225,6 @@ none_counted (Byte b ∷ s) h = none_counted s h
 none_counted (x ∷ s) h = absurd (cc)
 
 -- If a stop cut it short.
-
-noted-cut : (s : List Item) → noted (up_to_loss s) ≡ lines_up_to_loss (noted s)
-noted-cut [] = refl
-noted-cut (Byte b ∷ s) = noted-cut s
-noted-cut (MalformedAt offset size ∷ s) = ap (λ l. Bad offset size ∷ l) (noted-cut s)
-noted-cut (LostAt i c ∷ s) = refl
-
 pub log_at_loss : (j : Job) (x : List ℕ) → j.policy ≡ Policy.Stop → log_of j x ≡ flat_map line_bytes (lines_up_to_loss (log_lines (target_of j) 0 0 (input_pieces j x)))
 log_at_loss j x stops =
     ap (λ (p : Policy). log_bytes (tagged (written_under p (whole_trace j x)))) stops

@@ -1,6 +1,7 @@
 -- What a call of an encoder makes of the verdict, if it was read back, and if something is lost. How what is read
 -- back is compared with its text. What a verdict can say if nothing was written.
-use Rattle.std.proofs.Common.{◌≡◌, ◌⊎◌, ◌↔◌, ℕ, Bool, true, false, IsTrue, IsFalse, List, [], ◌∷◌, ◌++◌, refl, sym, ◌∙◌, ap, subst, inl, inr, Some, drop, append_assoc, append-nil}
+use Rattle.recode.specs.Work.{IsCounted}
+use Rattle.std.proofs.Common.{◌≡◌, ◌⊎◌, ◌↔◌, ℕ, Bool, true, false, IsTrue, IsFalse, List, [], ◌∷◌, ◌++◌, refl, sym, ◌∙◌, ap, subst, inl, inr, Some, drop, append_assoc, append-nil, ◌+◌, ◌-◌, ◌^◌, ◌≤◌, ◌<◌, arith}
 use Rattle.std.proofs.Math.Logic.{∥∥₁_elim, ∥∥₁_map}
 use Rattle.std.proofs.Props.{props}
 use Rattle.std.specs.Str.{all_scalars}
@@ -273,3 +274,12 @@ module _ (j : Job) (valid : IsValidJob j) (reader : DecoderView) (new : IsNewDec
       subst (λ y. ReadsAs (output_pieces j) y (input_text j x)) (output_where_mapped j x valid (mapped_where_faithful j x valid f)) (record { well_formed = f.target; same = f.same }),
     ),
   )
+
+-- ---- how calls add up
+
+-- one more call after some, of which at most so many are left
+pub counted_more : (calls calls1 calls2 left most : ℕ) → (calls1 < 2 ^ 64 - 1 → calls ≤ calls1) → calls1 + left ≤ calls + most → IsCounted 1 1 calls1 calls2 → IsCounted 1 (most + 1) calls calls2
+counted_more calls calls1 calls2 left most up few one = record {
+  at_least = λ under. let call = one.at_least under in omega (arith, call, up (omega (arith, call, under)));
+  at_most = omega (arith, few, one.at_most);
+}

@@ -1,3 +1,4 @@
 -- Theorems that callers and other crates cite.
 pub mod Items
 pub mod Calls
+pub mod Parts

@@ -123,6 +123,7 @@ impl<'t> Session<'t> {
     /// Conditions: the session is not over (`is_over`), the buffers are enough
     /// (`Buffers::is_enough`), and at most 2^64 - 2 calls of each device have failed
     /// (`Counted::failures`). Nothing stays in the buffers: each step may be lent others.
+    #[tactic(auto, using(crate::proofs::TellLemmas::step_rules))]
     pub fn step<R: Read, W: Write, L: Write>(
         &mut self,
         reader: &mut Counted<R>,

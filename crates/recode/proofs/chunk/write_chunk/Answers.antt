@@ -32,13 +32,8 @@ calls-init g c =
     let start : Engine g.row.D.Denot g.row.E.Denot = record c.args.engine.now { from = 0; to = 0 } in
     let c0 = standing view parts c.args.policy start c.args.pivot.now in
     let empty = between_none c.args.pivot.now in
-    record {
-      pumps = pumps_start r.writers.0 (sound_start c0 r.none empty r.ready.sound);
-      ready = ready_start (standing view parts Policy.Decimal start c.args.pivot.now) c.args.chunk.now c.is_empty-last.result r.none empty r.limit
-          (record { open_ = r.ready.open_; sound = omega (arith, r.ready.sound.index, r.ready.sound.bad, r.ready.sound.lost); tells = r.ready.tells });
-      holds = holds_none c.args.pivot.now;
-      lent = lent_start _ _ r.lent;
-    }
+    let sound = sound_start c0 r.none empty r.ready.sound in
+    search (rules, pumps_start, sound, ready_start, empty, holds_none, lent_start)
 
 pub returns-in_err-make_room-clause-err : goal.returns-in_err-make_room-clause-err
 returns-in_err-make_room-clause-err g c =

@@ -2,8 +2,7 @@ use Rattle.std.proofs.Common.{refl, rules}
 use Rattle.recode.specs.Devices.{devices_in}
 use Rattle.recode.proofs.StepLemmas.{run_broke, run_counted, flush_broke, flush_counted}
 use Rattle.recode_log.specs.laws.Told.{taken_then}
-use Rattle.recode.proofs.TellLemmas.{tells_more}
-use Rattle.recode.proofs.ToldLemmas.{breaks_told, converts_told}
+use Rattle.recode.proofs.TellLemmas.{breaks_told, converts_told, tells_more}
 use Rattle.recode.proofs.conversion.convert.Goals as goal
 
 pub returns-in-Err-flushed-clause-broken : goal.returns-in-Err-flushed-clause-broken

@@ -1,19 +1,13 @@
 use Rattle.std.proofs.Common.{arith}
 use Rattle.recode.proofs.LatencyLemmas.{new_settled}
-use Rattle.recode.proofs.RunLemmas.{completes, fails, few_calls}
+use Rattle.recode.proofs.RunLemmas.{completes, fails}
 use Rattle.recode.proofs.StepLemmas.{goes_on_start, goes_on_more, goes_on_finish, goes_on_stop}
 use Rattle.recode.proofs.laws.steps_are_a_run.Goals as goal
 
-pub returns-clause-begins : goal.returns-clause-begins
-returns-clause-begins c t j v b = goes_on_start t j.limit v.state (omega (arith, b.read)) (new_settled v j b)
-
-pub returns-clause-goes_on : goal.returns-clause-goes_on
-returns-clause-goes_on c = goes_on_more
-
-pub returns-clause-completes : goal.returns-clause-completes
-returns-clause-completes c t t1 t2 j v w s p valid b ran f tells =
-    let all = goes_on_finish t t1 t2 j.limit v.state s w.state ran f in
-    (completes t t2 j v w p valid b all tells, few_calls t t2 j v w p valid b all tells)
-
-pub returns-clause-fails : goal.returns-clause-fails
-returns-clause-fails c t t1 t2 j v s f b ran stops = fails t t2 j v f b (goes_on_stop t t1 t2 j.limit v.state s f ran stops)
+pub returns : goal.returns
+returns c = record {
+  begins = λ t j v b. goes_on_start t j.limit v.state (omega (arith, b.read)) (new_settled v j b);
+  goes_on = goes_on_more;
+  completes = λ t t1 t2 j v w s p valid b ran f. completes t t2 j v w p valid b (goes_on_finish t t1 t2 j.limit v.state s w.state ran f);
+  fails = λ t t1 t2 j v s f b ran stops. fails t t2 j v f b (goes_on_stop t t1 t2 j.limit v.state s f ran stops);
+}

@@ -4,12 +4,11 @@ use Rattle.recode.specs.calls.SessionView.{view_of}
 use Rattle.recode.specs.declared.job.Job.{Job}
 use Rattle.recode_log.specs.laws.Counts.{counts_none, counts_then}
 use Rattle.recode_log.specs.laws.Told.{none_yet}
-use Rattle.recode.proofs.TellLemmas.{none_yet_on, reads_on, reads_start, run_calls, tells_none, tells_then}
+use Rattle.recode.proofs.TellLemmas.{completes_told, fails_told, none_yet_on, reads_on, reads_start, run_calls, tells_none, tells_then}
 use Rattle.recode.proofs.WriterLemmas.{kept_enough, kept_on, kept_start}
 use Rattle.recode.proofs.LatencyLemmas.{new_settled}
 use Rattle.recode.proofs.StepLemmas.{goes_on_start, goes_on_more, goes_on_finish, goes_on_stop}
-use Rattle.recode.proofs.RunLemmas.{completes, fails, few_calls}
-use Rattle.recode.proofs.ToldLemmas.{completes_told, fails_told}
+use Rattle.recode.proofs.RunLemmas.{completes, fails}
 use Rattle.recode.proofs.session.run.Goals as goal
 
 pub run-init : goal.run-init
@@ -62,16 +61,14 @@ run-preserved g c =
 pub returns-in-Ok-Done-clause-completes : goal.returns-in-Ok-Done-clause-completes
 returns-in-Ok-Done-clause-completes g c =
     let e = c.in-Ok-Done.ensures in
-    completes _ _ c.args.job (view_of c.new-session.result) (view_of c.step.new.self) _ c.requires.job c.new-session.ensures
-    (goes_on_finish _ _ _ _ _ _ _ c.run.invariant.ran (rw (ap (λ (j : Job). j.limit) c.run.invariant.job) at (e.done (ap Ok c.in-Ok-Done.field-0-is))))
-    (c.report.ensures _)
+    let all = goes_on_finish _ _ _ _ _ _ _ c.run.invariant.ran (rw (ap (λ (j : Job). j.limit) c.run.invariant.job) at (e.done (ap Ok c.in-Ok-Done.field-0-is))) in
+    (completes _ _ c.args.job (view_of c.new-session.result) (view_of c.step.new.self) _ c.requires.job c.new-session.ensures all (c.report.ensures _)).0
 
 pub returns-in-Ok-Done-clause-work : goal.returns-in-Ok-Done-clause-work
 returns-in-Ok-Done-clause-work g c =
     let e = c.in-Ok-Done.ensures in
-    few_calls _ _ c.args.job (view_of c.new-session.result) (view_of c.step.new.self) _ c.requires.job c.new-session.ensures
-    (goes_on_finish _ _ _ _ _ _ _ c.run.invariant.ran (rw (ap (λ (j : Job). j.limit) c.run.invariant.job) at (e.done (ap Ok c.in-Ok-Done.field-0-is))))
-    (c.report.ensures _)
+    let all = goes_on_finish _ _ _ _ _ _ _ c.run.invariant.ran (rw (ap (λ (j : Job). j.limit) c.run.invariant.job) at (e.done (ap Ok c.in-Ok-Done.field-0-is))) in
+    (completes _ _ c.args.job (view_of c.new-session.result) (view_of c.step.new.self) _ c.requires.job c.new-session.ensures all (c.report.ensures _)).1
 
 pub returns-in-Err-clause-fails : goal.returns-in-Err-clause-fails
 returns-in-Err-clause-fails g c =

@@ -15,17 +15,7 @@ use Rattle.recode.proofs.engine.Engine.convert.Goals.{After-turn-stop}
 use Rattle.recode.proofs.engine.Engine.convert.Goals as goal
 
 pub turns-init : goal.turns-init
-turns-init g c =
-    let view = g.D.StreamDecoder.view in
-    let parts = g.E.RawEncoder.parts in
-    record {
-      law = λ p. turns_start (standing view parts p c.args.self.now c.args.pivot.now) c.args.last c.args.src.now (record { index = c.requires.ready.sound.index; bad = c.requires.ready.sound.bad; lost = c.requires.ready.sound.lost });
-      ready = c.requires.ready;
-      within = search rules;
-      wrote = record { room = search rules; behind = refl };
-      holds = c.requires.holds;
-      lent = lent_start _ _ c.requires.lent;
-    }
+turns-init g c = search (rules, turns_start, lent_start)
 
 -- the turns so far, and one more
 after : (g : Over) (c : After-turn-stop g) (p : Policy)

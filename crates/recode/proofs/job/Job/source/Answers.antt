@@ -1,12 +1,16 @@
-use Rattle.std.proofs.Common.{refl}
-use Rattle.recode.proofs.PartLemmas.{taken_source, unmarked_source, untaken_source}
+use Rattle.std.proofs.Common.{sym, ◌∙◌}
+use Rattle.recode.proofs.PartLemmas.{source_where_found}
 use Rattle.recode.proofs.job.Job.source.Goals as goal
 
 pub returns-then-takes : goal.returns-then-takes
-returns-then-takes c = taken_source c.args.self.now c.args.bytes.now c.for_bom.result (c.in-Some.other, c.in-Some.field-0-1) c.in-Some.other c.takes.result c.for_bom.ensures c.in-Some.is refl c.takes.ensures c.if-takes.true
+returns-then-takes c =
+    let found = rw c.in-Some.is at (source_where_found c.args.self.now c.args.bytes.now c.for_bom.result c.for_bom.ensures) in
+    rw (sym c.takes.ensures ∙ c.if-takes.true) at found
 
 pub returns-else-takes : goal.returns-else-takes
-returns-else-takes c = untaken_source c.args.self.now c.args.bytes.now c.for_bom.result (c.in-Some.other, c.in-Some.field-0-1) c.in-Some.other c.takes.result c.for_bom.ensures c.in-Some.is refl c.takes.ensures c.if-takes.false
+returns-else-takes c =
+    let found = rw c.in-Some.is at (source_where_found c.args.self.now c.args.bytes.now c.for_bom.result c.for_bom.ensures) in
+    rw (sym c.takes.ensures ∙ c.if-takes.false) at found
 
 pub returns-in-None : goal.returns-in-None
-returns-in-None c = unmarked_source c.args.self.now c.args.bytes.now c.for_bom.result c.for_bom.ensures c.in-None.is
+returns-in-None c = rw c.in-None.is at (source_where_found c.args.self.now c.args.bytes.now c.for_bom.result c.for_bom.ensures)

@@ -1,18 +1,16 @@
 use Rattle.std.proofs.lemmas.List.{nil_from_length}
-use Rattle.std.proofs.Common.{◌≡◌, ◌≤◌, [], ap, arith, length, refl, rules, sym, take, Err}
+use Rattle.std.proofs.Common.{◌≡◌, ◌≤◌, [], ap, arith, length, rules, sym, take, Err}
 use Rattle.std.proofs.lemmas.Bool.{ne_eqb, eqb-true}
 use Rattle.recode_log.specs.Call.{passed_by}
 use Rattle.recode_log.specs.Counted.{history_of, inner_of}
 use Rattle.recode_log.specs.laws.Calls.{passed_failed, passed_one}
 use Rattle.recode_log.specs.Told.{TellsReads}
 use Rattle.recode.specs.calls.Writers.{is_end}
-use Rattle.recode.proofs.GrowLemmas.{Gave-one, GaveToEnd-one}
+use Rattle.recode.proofs.TraceLemmas.{Gave-one, GaveToEnd-one, handed_on}
 use Rattle.recode.proofs.StepLemmas.{stops_unread, stops_refused, stops_under}
 use Rattle.recode.proofs.LatencyLemmas.{finishes, steps_on}
-use Rattle.recode_log.specs.laws.Counts.{counts_none}
-use Rattle.recode_log.specs.laws.Told.{ended_before, reads_one, taken_none}
-use Rattle.recode.proofs.TellLemmas.{last_of_writers, not_of_reader}
-use Rattle.recode.proofs.TraceLemmas.{handed_on}
+use Rattle.recode_log.specs.laws.Told.{ended_before, reads_one}
+use Rattle.recode.proofs.TellLemmas.{last_of_writers, not_of_reader, step_calls}
 use Rattle.recode.proofs.session.Session.step.Given.{Over}
 use Rattle.recode.proofs.session.Session.step.Goals.{After-read}
 use Rattle.recode.proofs.session.Session.step.Goals as goal
@@ -55,12 +53,6 @@ returns-then-read-eq0-clause-done g c e =
 reads : (g : Over) (c : After-read g) → TellsReads (passed_by (history_of c.args.reader.now)) (passed_by (history_of c.read.new.self)) (g.R.Read.remaining (inner_of c.args.reader.now)) (g.R.Read.remaining (inner_of c.read.new.self))
 reads g c = reads_one _ _ _ _ c.read.result c.read.new.buf c.read.ensures.call c.read.ensures.bytes c.read.ensures.bound (omega (arith, c.read.auto.buf, c.requires.buffers.input))
 
-pub returns-in_default-clause-told : goal.returns-in_default-clause-told
-returns-in_default-clause-told g c = (record { input = reads g (goal.at.returns-in_default-clause-told g c).After-read; output = taken_none _ _; log = taken_none _ _ }, λ is. cc)
-
-pub returns-then-read-self-clause-told : goal.returns-then-read-self-clause-told
-returns-then-read-self-clause-told g c = (record { input = reads g (goal.at.returns-then-read-self-clause-told g c).After-read; output = taken_none _ _; log = taken_none _ _ }, λ is. cc)
-
 pub returns-in_err-write_chunk-clause-told : goal.returns-in_err-write_chunk-clause-told
 returns-in_err-write_chunk-clause-told g c =
     (record { input = reads g (goal.at.returns-in_err-write_chunk-clause-told g c).After-read; output = search rules; log = search rules }, λ is. absurd (rw is at c.from_residual.ensures.1))
@@ -76,29 +68,9 @@ returns-then-read-eq0-clause-told g c =
 
 -- The calls.
 
-pub returns-in_default-clause-calls : goal.returns-in_default-clause-calls
-returns-in_default-clause-calls g c =
-    record { call = _; once = c.in_default.ensures.call; is = c.read.auto.buf; failed = refl; writes = counts_none _; lines = counts_none _; last = record { earlier = _; room = _; ends = c.in_default.ensures.call } }
-
-pub returns-then-read-self-clause-calls : goal.returns-then-read-self-clause-calls
-returns-then-read-self-clause-calls g c = record { call = _; once = c.in-Ok.ensures.call; is = c.read.auto.buf; failed = refl; writes = counts_none _; lines = counts_none _; last = tt }
-
 pub returns-in_err-write_chunk-clause-calls : goal.returns-in_err-write_chunk-clause-calls
 returns-in_err-write_chunk-clause-calls g c =
     let e = c.in_err-write_chunk.ensures.failures in
     let same = c.from_residual.ensures.1 in
-    record {
-      call = _;
-      once = c.in-Ok.ensures.call;
-      is = c.read.auto.buf;
-      failed = sym (not_of_reader (Unit {0}) _ _ same e.not_reader);
-      writes = search rules;
-      lines = search rules;
-      last = handed_on _ _ _ same (last_of_writers {T = Unit {0}} (Err _) _ _ _ e.not_other (search rules));
-    }
-
-pub returns-then-read-eq0-clause-calls : goal.returns-then-read-eq0-clause-calls
-returns-then-read-eq0-clause-calls g c = record { call = _; once = c.in-Ok.ensures.call; is = c.read.auto.buf; failed = refl; writes = search rules; lines = search rules; last = tt }
-
-pub returns-else-read-eq0-clause-calls : goal.returns-else-read-eq0-clause-calls
-returns-else-read-eq0-clause-calls g c = record { call = _; once = c.in-Ok.ensures.call; is = c.read.auto.buf; failed = refl; writes = search rules; lines = search rules; last = tt }
+    let last = handed_on _ _ _ same (last_of_writers {T = Unit {0}} (Err _) _ _ _ e.not_other (search rules)) in
+    step_calls _ c.in-Ok.ensures.call c.read.auto.buf (sym (not_of_reader (Unit {0}) _ _ same e.not_reader)) (search rules) (search rules) last

@@ -11,12 +11,5 @@ returns-in_err-deliver_held g c = record { hands = hands_fault (item_of (log_lin
 pub returns : goal.returns
 returns g c =
     let e = c.in_ok-deliver_held.ensures in
-    let holds = holds_line _ _ _ c.args.line e.none.line (none_held _ c.deliver_held.new.self.buffer.now e.none.bytes) in
-    record {
-      hands = hands_after e.hands (record {
-        ok = holds;
-        err = λ p any. tt;
-        failures = search (rules, counts_none);
-        told = record { output = taken_none _ _; log = taken_none _ _ };
-      });
-    }
+    let none = none_held _ c.deliver_held.new.self.buffer.now e.none.bytes in
+    record { hands = hands_after e.hands (search (rules, holds_line, none, counts_none, taken_none)) }

@@ -21,17 +21,12 @@ returns-in_ok-deliver_held g c =
       hands = hands_after e.hands (record {
         ok = ok_map c.deliver.result c.deliver.ensures.ok (λ q. delivers_more _ _ _ _ held held _ e.none.line none none (rw is at q.2));
         err = λ p any. delivers_part _ _ _ _ _ held _ _ _ _ e.none.line none is _ _ c.deliver.ensures.fault c.deliver.ensures.err;
-        failures = record { writer = search rules; log = search rules; not_reader = search rules; not_other = search rules; output_calls = search (rules, counts_none); log_calls = search (rules, counts_none); same = search rules; last = last_failed Write _ _ _ c.deliver.ensures.fault c.deliver.ensures.failed };
+        failures = (let last = last_failed Write _ _ _ c.deliver.ensures.fault c.deliver.ensures.failed in search (rules, last, counts_none));
         told = record { output = taken_by _ _ _ _ _ _ _ _ c.deliver.ensures.ok c.deliver.ensures.err; log = taken_none _ _ };
       });
     }
 
 pub returns-else-len-self : goal.returns-else-len-self
-returns-else-len-self g c = record {
-  hands = record {
-    ok = holds _ _ _ _ _ (c.put_all-self.ensures.prefix ∙ ap (λ x. take c.args.self.now.held c.args.self.now.buffer.now ++ x) c.write_reference-len.ensures.reference);
-    err = λ p any. tt;
-    failures = search (rules, counts_none);
-    told = record { output = taken_none _ _; log = taken_none _ _ };
-  };
-}
+returns-else-len-self g c =
+    let prefix = c.put_all-self.ensures.prefix ∙ ap (λ x. take c.args.self.now.held c.args.self.now.buffer.now ++ x) c.write_reference-len.ensures.reference in
+    record { hands = search (rules, prefix, holds, counts_none, taken_none) }
