@@ -38,10 +38,11 @@ class Lines(Faults):
         super().__init__()
         self.name, self.terminal = shown(name), terminal
 
-    def add(self, records: bytes) -> None:
-        super().add(records)
-        name, rows = self.name, c.LOSS.iter_unpack(records)
-        self.terminal.tell("".join([f"{name}: {WORDS[kind]} {place} {number}\n" for place, number, kind in rows]))
+    def add(self, records: bytes, offset: int = 0, index: int = 0) -> None:
+        super().add(records, offset, index)
+        name, before, rows = self.name, {c.BAD: offset, c.LOST: index}, c.LOSS.iter_unpack(records)
+        lines = [f"{name}: {WORDS[kind]} {before[kind] + place} {number}\n" for place, number, kind in rows]
+        self.terminal.tell("".join(lines))
 
     def end(self, done: jillapun.ConvertedFile) -> None:
         if not (done.faithful or done.bad or done.lost):
@@ -106,7 +107,7 @@ def one_status(
         done = convert_with(
             Lines(path, terminal), path, target, words.source, words.target, mark=words.mark,
             unmappable=words.unmappable, indexes=indexes, lossy=words.lossy, backup=words.backup,
-            progress=lambda read: terminal.show(path, read / size),
+            processes=words.processes, progress=lambda read: terminal.show(path, read / size),
         )  # fmt: skip
         written[identity(target)] = path
     except jillapun.NotReplaced as fault:

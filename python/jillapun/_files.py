@@ -10,6 +10,7 @@ from typing import BinaryIO, Callable, Iterator, List, Optional, Tuple, Union, c
 
 from . import _library as c
 from ._indexes import Indexes, PathLike
+from ._parts import Job, put_parts
 from ._results import ConvertedFile, Fault, Faults, JillapunError, NotReplaced, Report, Stopped
 from ._steps import Conversion, chunk_of
 
@@ -199,15 +200,24 @@ def convert_with(
     indexes: Optional[Indexes] = None,
     lossy: bool = False,
     backup: Optional[str] = None,
+    processes: int = 1,
     progress: Optional[Callable[[int], object]] = None,
 ) -> ConvertedFile:
     """`convert_file`, with what is lost handed to `faults`."""
-    conversion = Conversion(source, target, mark, unmappable, c.limit_of(limit), indexes)
+    if processes < 1:
+        raise ValueError("%d processes" % processes)
+    job = Job(source, target, mark, unmappable, c.limit_of(limit), indexes)
+    conversion = Conversion(*job)
     place = _Place(target_path, backup)
     with open(source_path, "rb") as given, place.beside() as (path, made):
         before = os.fstat(given.fileno())
         is_in_place = place.old is not None and os.path.samestat(os.stat(place.path), before)
-        done = ConvertedFile(*_put_all(conversion, faults, given, made, progress), faults.kept)
+        later = job.later(given) if processes > 1 else None
+        if later:
+            report = put_parts((job, later), faults, given, made, processes, progress)
+        else:
+            report = _put_all(conversion, faults, given, made, progress)
+        done = ConvertedFile(*report, faults.kept)
         if is_in_place and not (done.faithful or lossy or backup):
             raise NotReplaced(done)
         faults.end(done)
@@ -233,6 +243,7 @@ def convert_file(
     backup: Optional[str] = None,
     on_fault: Optional[Callable[[Fault], object]] = None,
     keep_faults: int = 0,
+    processes: int = 1,
     progress: Optional[Callable[[int], object]] = None,
 ) -> ConvertedFile:
     """Converts a file into another, which is there whole or not at all: it is written beside its place, and moved there
@@ -249,9 +260,13 @@ def convert_file(
     What is lost is counted, and handed to `on_fault` as it comes, a `Bad` or a `Lost`, in the order of the text; the
     first `keep_faults` of them are kept. `progress` is called after each chunk, with how many bytes have been read.
 
+    `processes` is how many processors may work at once: so many threads each convert a part of 2 MiB or more. The
+    output, what is told of losses, and the result are those of one. An input is one part if it is no regular file, if
+    it is in UTF-16, ISO-2022-JP or replacement, or if the output is in ISO-2022-JP.
+
     Raises what `convert` does, `OSError`, and what `on_fault` or `progress` raise. After an exception the target is as
     it was; a `Stopped` has no output."""
     return convert_with(
         Faults(keep_faults, on_fault), source_path, target_path, source, target, mark=mark, unmappable=unmappable,
-        limit=limit, indexes=indexes, lossy=lossy, backup=backup, progress=progress,
+        limit=limit, indexes=indexes, lossy=lossy, backup=backup, processes=processes, progress=progress,
     )  # fmt: skip

@@ -122,11 +122,12 @@ _declare("jillapun_convert", Byte, Tables, Byte, Byte, Byte, Byte, Long, *_LENT,
 
 @lru_cache(maxsize=None)
 def streams() -> ctypes.CDLL:
-    """The library, with the calls of conversions by steps declared."""
+    """The library, with the calls of conversions by steps declared, and the one that finds a mark."""
     told = (ctypes.POINTER(ConverterProgress), _REPORT)
     _declare("jillapun_converter_new", Byte, Tables, Byte, Byte, Byte, Byte, Long, _HANDLE)
     _declare("jillapun_converter_step", Byte, _HANDLE, *_ROOM, ctypes.c_bool, *_ROOM, *_ROOM, *told)
     _declare("jillapun_converter_free", None, _HANDLE)
+    _declare("jillapun_for_bom", Byte, *_LENT, ctypes.POINTER(Size))
     return library
 
 

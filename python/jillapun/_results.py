@@ -152,10 +152,11 @@ class NotReplaced(JillapunError):
         """What is told of the conversion."""
 
 
-def faults_in(records: bytes) -> Iterator[Fault]:
-    """The losses that stand in records of the library, made one by one: most are forgotten at once."""
+def faults_in(records: bytes, offset: int = 0, index: int = 0) -> Iterator[Fault]:
+    """The losses that stand in records of the library, made one by one: most are forgotten at once. The records count
+    from so many bytes and so many characters."""
     for place, number, kind in c.LOSS.iter_unpack(records):
-        yield Bad(place, number) if kind == c.BAD else Lost(place, chr(number))
+        yield Bad(offset + place, number) if kind == c.BAD else Lost(index + place, chr(number))
 
 
 class Faults:
@@ -166,15 +167,15 @@ class Faults:
         self.kept: List[Any] = []
         self._keep, self._on_fault = keep, on_fault
 
-    def add(self, records: bytes) -> None:
-        """Takes the next losses."""
+    def add(self, records: bytes, offset: int = 0, index: int = 0) -> None:
+        """Takes the next losses. Their records count from so many bytes and so many characters."""
         kinds = records[c.KIND :: c.LOSS.size]
         bad = kinds.count(c.BAD)
         self.bad += bad
         self.lost += len(kinds) - bad
-        self.kept += faults_in(records[: max(self._keep - len(self.kept), 0) * c.LOSS.size])
+        self.kept += faults_in(records[: max(self._keep - len(self.kept), 0) * c.LOSS.size], offset, index)
         if self._on_fault:
-            for fault in faults_in(records):
+            for fault in faults_in(records, offset, index):
                 self._on_fault(fault)
 
     def end(self, done: ConvertedFile) -> None:

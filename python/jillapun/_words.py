@@ -74,6 +74,12 @@ def _number(word: str) -> int:
     return int(word)
 
 
+def _count(word: str) -> int:
+    if _number(word) < 1:
+        raise argparse.ArgumentTypeError("%r is no count" % word)
+    return int(word)
+
+
 def _parser(name: str, description: str, epilog: str = "", usage: Optional[str] = None) -> Parser:
     form = argparse.RawDescriptionHelpFormatter
     return Parser(prog=name, usage=usage, description=description, epilog=epilog, formatter_class=form)
@@ -99,6 +105,7 @@ def convert_parser() -> Parser:
     parser.add_argument("--backup", metavar="SUFFIX", help="keep each file that is replaced, as its name and SUFFIX")
     parser.add_argument("--mark", choices=_MARKS, default="sniff", help="byte order marks")
     parser.add_argument("--unmappable", choices=_POLICIES, default="decimal", help="characters without bytes")
+    parser.add_argument("--processes", metavar="N", type=_count, default=1, help="how many processors work on a file")
     _add_files(parser)
     return parser
 
