@@ -3,9 +3,10 @@
 //! page.
 //!
 //! There are also programs as users write them: `stream_faults`, `stream_losses`, `whole_runs` and
-//! `whole_texts`. Each loads its indexes and uses them in one function. `decoded_texts`,
-//! `lost_characters`, `first_faults` and `session_steps` have functions whose contracts users prove
-//! from the contracts and laws of the libraries, `own_texts` a sink and a source of a user's own.
+//! `whole_texts`. Each loads its indexes and uses them in one function. `part_runs` recodes an
+//! input in two parts. `decoded_texts`, `lost_characters`, `first_faults` and `session_steps` have
+//! functions whose contracts users prove from the contracts and laws of the libraries, `own_texts`
+//! a sink and a source of a user's own.
 #![tactic(auto)]
 
 mod conversions;
@@ -14,6 +15,7 @@ mod decoded_texts;
 mod first_faults;
 mod lost_characters;
 mod own_texts;
+mod part_runs;
 mod places;
 mod reports;
 mod session_steps;
@@ -196,7 +198,13 @@ fn run_programs(rt: HostRuntime) -> anyhow::Result<()> {
     run_converters(rt)?;
     run_first_faults(rt)?;
     run_session_steps(rt, 3)?;
-    run_session_steps(rt, 7)
+    run_session_steps(rt, 7)?;
+    part_runs::recode_parts(
+        rt,
+        b"\xEF\xBB\xBFA\xFF\n\xE4\xB8\xADB\xFF",
+        b"\xEF\xBB\xBFA\xFF\n",
+        b"\xE4\xB8\xADB\xFF",
+    )
 }
 
 fn main(rt: HostRuntime) -> anyhow::Result<()> {
