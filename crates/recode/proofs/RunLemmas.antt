@@ -49,26 +49,28 @@ completes before after j v u p valid b f t =
     let most : p.calls ≤ 37 * p.read + 9 =
     omega (arith, t.calls, t.read, f.calls, b.calls, b.index, b.read, b.bad, b.lost, f.counted, f.pays.counted.bad, f.pays.counted.lost, ap bad_line_count items, ap lost_line_count items, f.sound.index, f.sound.bad, f.sound.lost, ap length (b.owes_trace x), items_split (whole_trace j x), whole_within j x valid) in
     let calls : ReportsFewCalls p =
-    record { least = omega (arith, t.read, f.counted, b.read, t.calls, t.bad, t.lost, b.calls, b.bad, b.lost, f.least (omega (arith, most, t.calls, t.read, f.counted, f.within, b.read, valid.limit))); most = most } in
-    (record {
-      input = x;
-      given = f.given;
-      converted = record {
-        whole = record {
-          within = omega (arith, f.within, f.counted, b.read);
-          unstopped = λ stops. sym (losts_of j x) ∙ spared stops;
-          output = wrote.output;
-          logged = wrote.lined;
+    record { least = omega (arith, t.read, f.counted, b.read, t.calls, t.bad, t.lost, b.calls, b.bad, b.lost, f.least (omega (arith, most, t.calls, t.read, f.counted, f.within, b.read, valid.limit))); most = most } in (
+      record {
+        input = x;
+        given = f.given;
+        converted = record {
+          whole = record {
+            within = omega (arith, f.within, f.counted, b.read);
+            unstopped = λ stops. sym (losts_of j x) ∙ spared stops;
+            output = wrote.output;
+            logged = wrote.lined;
+          };
+          report = record {
+            read = omega (arith, t.read, f.counted, b.read);
+            bad = omega (arith, t.bad, f.pays.counted.bad, ap bad_line_count items, b.bad, bads_of j x);
+            lost = omega (arith, t.lost, f.pays.counted.lost, ap lost_line_count items, b.lost, losts_of j x);
+            encoding = t.encoding ∙ sym f.source ∙ b.source x;
+            faithful = (λ h. (b.verdict x).0 (f.verdict.1 (sym t.verdict ∙ h)), λ h. t.verdict ∙ f.verdict.0 ((b.verdict x).1 h));
+          };
         };
-        report = record {
-          read = omega (arith, t.read, f.counted, b.read);
-          bad = omega (arith, t.bad, f.pays.counted.bad, ap bad_line_count items, b.bad, bads_of j x);
-          lost = omega (arith, t.lost, f.pays.counted.lost, ap lost_line_count items, b.lost, losts_of j x);
-          encoding = t.encoding ∙ sym f.source ∙ b.source x;
-          faithful = (λ h. (b.verdict x).0 (f.verdict.1 (sym t.verdict ∙ h)), λ h. t.verdict ∙ f.verdict.0 ((b.verdict x).1 h));
-        };
-      };
-    }, calls)
+      },
+      calls,
+    )
 
 pub fails : (before after : Devices) (j : Job) (v : View) (f : Fault) → IsNewSession v j → HasStopped before after j.limit v.state f → Fails before after j f
 fails before after j v f b s =

@@ -5,14 +5,14 @@ use Rattle.std.specs.Io.KnownBytes.{Appends, Consumes, IsAtEnd}
 use Rattle.std.specs.List.{All, concat}
 use Rattle.std.proofs.lemmas.List.{append_cancel_left, same_from_push}
 use Rattle.std.proofs.lemmas.List.Elements.{All-append, All-cons, All-nil}
-use Rattle.recode_log.specs.Call.{Call, Failed, Flush, Passed, passed_by}
+use Rattle.recode_log.specs.Call.{Call, Failed, Flush, Passed, passed_by, failed_read}
 use Rattle.recode_log.specs.Counted.{CountsWrites, history_of}
 use Rattle.recode_log.specs.declared.counted.Counted.{Counted}
 use Rattle.recode_log.specs.laws.Calls.{passed_failed, passed_one}
 use Rattle.recode_log.specs.laws.Counts.{counts_none, counts_then}
 use Rattle.recode.specs.Devices.{Devices, Gave, GaveToEnd, Grew, IsOf}
 use Rattle.recode.specs.Fault.{EndsAtFault, EndsAtWriterFault, of_other, reader_failures}
-use Rattle.recode.specs.Step.{GaveSome, IsReadInto, RunCalls, StepCalls, failed_read}
+use Rattle.recode.specs.Step.{GaveSome, IsReadInto, RunCalls, StepCalls}
 use Rattle.recode_log.specs.Told.{TellsReads, TellsTaken}
 use Rattle.recode_log.specs.laws.Told.{NoneYet, flushed_none, taken_kept, reads_none, reads_after, reads_one, reads_then, taken_none, taken_then}
 use Rattle.recode.specs.Told.{Told, TellWhatPassed}
@@ -38,7 +38,7 @@ one_gave before after room (Passed n bytes) chunk is once gave some =
     let one = passed_one before after n bytes once in
     let all : gave.0 ≡ bytes ∷ [] = append_cancel_left (passed_by before) gave.0 (bytes ∷ []) (sym gave.1 ∙ one) in
     let more : 0 < length bytes = omega (arith, some, ap length (sym gave.2 ∙ ap concat all ∙ append-nil bytes)) in
-    ((is, more), bytes, one, more)
+    ((is, more), (bytes, one, more))
 one_gave before after room (Failed n) chunk is once gave some =
     let all : gave.0 ≡ [] = append_cancel_left (passed_by before) gave.0 [] (sym gave.1 ∙ passed_failed before after n once ∙ sym (append-nil (passed_by before))) in
     absurd (omega (arith, some, ap length (sym gave.2 ∙ ap concat all)))

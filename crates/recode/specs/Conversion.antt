@@ -1,7 +1,9 @@
 -- What a whole conversion says by its status.
-use Rattle.std.specs.Prelude.{◌≡◌, ℕ, ◌+◌, ◌<◌, ◌≤◌, ◌⊎◌, List, [], ◌∷◌, ◌++◌, length, take, Bool, Err, true, codes}
+use Rattle.std.specs.Prelude.{◌≡◌, ℕ, ◌+◌, ◌<◌, ◌≤◌, ◌⊎◌, Option, List, [], ◌∷◌, ◌++◌, length, take, Bool, Err, true, codes}
 use Rattle.recode_log.specs.Call.{Call, Flush}
-use Rattle.recode_log.specs.Counted.{IsTold}
+use Rattle.recode_log.specs.Counted.{IsTold, failures_of, history_of, inner_of, passed_of}
+use Rattle.recode_log.specs.Told.{TellsTaken}
+use Rattle.recode_log.specs.declared.counted.Counted.{Counted}
 use Rattle.recode_log.specs.Line.{row_bytes}
 use Rattle.recode.specs.Job.{trace, Faithful}
 use Rattle.recode.specs.Session.{WroteWhole}
@@ -49,6 +51,13 @@ pub record EndsInFlush (calls : List Call) : Type 0 where
   pub earlier : List Call
   pub failed : Bool
   pub ends : calls ≡ earlier ++ (Flush failed ∷ [])
+
+-- A writer was flushed, by its last call, which may have failed: its count rose by one at most. What it tells that it
+-- holds, if it does, grew by what its calls took.
+pub record IsFlushed {W : Type 0} (contents : W → Option (List ℕ)) (before after : Counted W) : Type 0 where
+  pub told : TellsTaken (passed_of before) (passed_of after) (contents (inner_of before)) (contents (inner_of after))
+  pub ends : EndsInFlush (history_of after)
+  pub count : RisesBy 0 (failures_of before) (failures_of after)
 
 -- what is said of a fault
 abbrev pub message_of : Fault → List ℕ

@@ -6,10 +6,9 @@ ghost use Rattle.recode_log.specs.Counted.{IsTold, inner_of, failures_of, histor
 ghost use Rattle.recode.specs.Job.{IsValidJob};
 ghost use Rattle.recode.specs.calls.Buffers.{AreEnough, KeepSizes};
 ghost use Rattle.recode.specs.Devices.{HaveFailedAtMost, KeepsWritten, devices_in, written_in};
-ghost use Rattle.recode.specs.Conversion.{Breaks, Converts, EndsInFlush, IsFlushCause, RisesBy};
+ghost use Rattle.recode.specs.Conversion.{Breaks, Converts, EndsInFlush, IsFlushCause, IsFlushed};
 ghost use Rattle.recode.specs.Conversion.{message_of};
 ghost use Rattle.recode.specs.RunsTold.{BreaksTold, ConvertsTold};
-ghost use Rattle.recode_log.specs.Told.{TellsTaken};
 ghost use Rattle.recode.specs.Told.{told_in};
 
 use crate::job::{Buffers, Fault, Job};
@@ -40,18 +39,12 @@ fn flush_both<W: Write, L: Write>(
     requires writer { failures_of writer.old < 2 ^ 64 - 1 }
     requires log { failures_of log.old < 2 ^ 64 - 1 }
     ensures kept { KeepsWritten (written_in writer.old log.old) (written_in writer.new log.new) }
-    ensures writer_told { TellsTaken (passed_of writer.old) (passed_of writer.new)
-        (W.contents (inner_of writer.old)) (W.contents (inner_of writer.new)) }
-    ensures log_told { TellsTaken (passed_of log.old) (passed_of log.new)
-        (L.contents (inner_of log.old)) (L.contents (inner_of log.new)) }
-    ensures writer_flush { EndsInFlush (history_of writer.new) }
-    ensures log_flush { EndsInFlush (history_of log.new) }
+    ensures writer { IsFlushed W.contents writer.old writer.new }
+    ensures log { IsFlushed L.contents log.old log.new }
     ensures ok { OnOk result ((failures_of writer.new ≡ failures_of writer.old)
         × (failures_of log.new ≡ failures_of log.old)) }
     ensures err { IfErr result (IsFlushCause (failures_of writer.old) (failures_of writer.new)
         (failures_of log.old) (failures_of log.new)) }
-    ensures writer_count { RisesBy 0 (failures_of writer.old) (failures_of writer.new) }
-    ensures log_count { RisesBy 0 (failures_of log.old) (failures_of log.new) }
 {
     let written = writer.flush();
     let logged = log.flush();

@@ -21,7 +21,7 @@ returns-in_ok-deliver_held g c =
       hands = hands_after e.hands (record {
         ok = ok_map c.deliver.result c.deliver.ensures.ok (λ q. delivers_more _ _ _ _ held held _ e.none.line none none (rw is at q.2));
         err = λ p any. delivers_part _ _ _ _ _ held _ _ _ _ e.none.line none is _ _ c.deliver.ensures.fault c.deliver.ensures.err;
-        failures = (let last = last_failed Write _ _ _ c.deliver.ensures.fault c.deliver.ensures.failed in search (rules, last, counts_none));
+        failures = record { writer = search rules; log = search rules; not_reader = search rules; not_other = search rules; output_calls = search rules; log_calls = counts_none _; same = search rules; last = last_failed Write _ _ _ c.deliver.ensures.fault c.deliver.ensures.failed };
         told = record { output = taken_by _ _ _ _ _ _ _ _ c.deliver.ensures.ok c.deliver.ensures.err; log = taken_none _ _ };
       });
     }
