@@ -202,6 +202,7 @@ class Parts(Folder):
     def test_what_callbacks_raise(self) -> None:
         """The conversion ends, and its threads do."""
         self.put("a", BAD * 1000)
+        threads = threading.active_count()
         for fault in (KeyboardInterrupt, SystemExit, RuntimeError):
             for name in ("progress", "on_fault"):
                 calls = mock.Mock(side_effect=[None, None, fault])
@@ -210,7 +211,7 @@ class Parts(Folder):
                         self.path, self.path, "utf-8", "windows-1252", lossy=True, processes=3, **{name: calls}
                     )
                 self.assertEqual(calls.call_count, 3)
-        self.assertEqual(threading.active_count(), 1)
+        self.assertEqual(threading.active_count(), threads)
         self.holds(a=BAD * 1000)
 
     def test_reading_that_fails(self) -> None:
