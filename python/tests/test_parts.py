@@ -6,6 +6,7 @@ import random
 import subprocess
 import sys
 import threading
+import tracemalloc
 import unittest
 from pathlib import Path
 from typing import Any, Dict, List, Tuple
@@ -17,19 +18,50 @@ from jillapun import _parts
 from test_files import BAD, GOOD, Folder
 from test_program import Programs
 
-SOURCES = ["utf-8", "windows-1252", "koi8-r", "shift_jis", "euc-jp", "gbk", "gb18030", "big5", "euc-kr", "x-user-defined"]
+SOURCES = [
+    "utf-8",
+    "windows-1252",
+    "koi8-r",
+    "shift_jis",
+    "euc-jp",
+    "gbk",
+    "gb18030",
+    "big5",
+    "euc-kr",
+    "x-user-defined",
+]
 UNCUT = ["utf-16le", "utf-16be", "iso-2022-jp", "replacement"]
 MARKS = [b"", b"", b"\xef\xbb\xbf", b"\xff\xfe", b"\xfe\xff", b"\xef\xbb", b"\xef\xbb\n\xbf", b"\xff"]
 
 # What can be put together to an input: characters that one target or another lacks or folds, cuts, and malformed bytes.
-PIECES = ["a", "0", "/", " ", "\n", "\r\n", "\0", "\x1b", "é", "ß", "¥", "‾", "日本", "ハ", "\uff76", "한", "🙂", "€", "\ufffd"]
+PIECES = [
+    "a",
+    "0",
+    "/",
+    " ",
+    "\n",
+    "\r\n",
+    "\0",
+    "\x1b",
+    "é",
+    "ß",
+    "¥",
+    "‾",
+    "日本",
+    "ハ",
+    "\uff76",
+    "한",
+    "🙂",
+    "€",
+    "\ufffd",
+]
 WRONG = [b"\xff", b"\x80", b"\x81", b"\xe3\x83", b"\xf0\x9f", b"\x81\x30\x81", b"\x8f\xa1", b"\x83\n", b"\xfe"]
 
 
 def input_of(chance: random.Random, source: str) -> bytes:
     data = chance.choice(MARKS)
     pieces = chance.sample(PIECES, chance.randrange(1, len(PIECES)))
-    for _ in range(chance.randrange(120)):
+    for _ in range(chance.randrange(80)):
         piece = jillapun.encode(chance.choice(pieces) * chance.randrange(1, 4), jillapun.output_name(source)).data
         data += chance.choice(WRONG) if chance.random() < 0.1 else piece
     return data
@@ -59,13 +91,15 @@ class Parts(Folder):
         """Parts give what the whole gives, which is returned."""
         self.put("a", data)
         whole = self.found(*words, **options)
-        self.assertEqual(self.found(*words, processes=processes, part=part, **options), whole, (data, words, part, options))
+        self.assertEqual(
+            self.found(*words, processes=processes, part=part, **options), whole, (data, words, part, options)
+        )
         return whole
 
     def test_random_inputs(self) -> None:
         chance = random.Random(20)
         seen = set()
-        for _ in range(1200):
+        for _ in range(150):
             source, target = chance.choice(SOURCES + UNCUT), chance.choice(SOURCES + ["iso-2022-jp", "utf-16le"])
             data = input_of(chance, source)
             options: Dict[str, Any] = {
@@ -77,6 +111,170 @@ class Parts(Folder):
             result = self.agree(data, source, target, part=part, processes=processes, **options)[0]
             seen.add(result[0] if isinstance(result[0], type) else result.faithful)
         self.assertEqual(seen, {True, False, jillapun.Stopped, jillapun.TooLong})
+
+    def test_no_input_and_short_ones(self) -> None:
+        for data in (
+            b"",
+            b"\n",
+            b"a",
+            b"\n\n",
+            b"\xef\xbb\xbf",
+            b"\xef\xbb\xbf\n",
+            b"\xff\xfe\n\0",
+            b"\xff",
+            b"\n\xe3",
+        ):
+            for mark in ("sniff", "remove", "keep"):
+                self.agree(data, "utf-8", "windows-1252", mark=mark)
+                self.agree(data, "gbk", "utf-8", mark=mark)
+
+    def test_no_byte_to_cut_at(self) -> None:
+        """The whole is one part, of many blocks, also where the cuts of blocks go through characters."""
+        for part in (1, 2, 7, 100):
+            self.agree("日é🙂本".encode() * 99 + b"\xe3\x81", "utf-8", "windows-1252", part=part)
+            self.agree(b"\x90\x30\x81\x30" * 99, "gb18030", "utf-8", part=part)
+            self.agree(b"\xef\xbb\xbf" + "日é".encode() * 99, "shift_jis", "koi8-r", part=part)
+
+    def test_one_very_long_line(self) -> None:
+        """Between short ones, longer than what is looked through for a byte to cut at."""
+        data = "é 日\n".encode() * 9 + "é日".encode() * 50_000 + "\né 日".encode() * 9
+        self.assertEqual(self.agree(data, "utf-8", "windows-1252", part=1000)[0].lost, 50_018)
+
+    def test_lost_characters_that_come_late(self) -> None:
+        """Then the characters of all parts before are counted; after that each part's own."""
+        text = "é日 " * 300 + "\ud7ff " + "é日 " * 300 + "\ud7ff 🙂 " * 300
+        for source in ("utf-8", "gb18030"):
+            for target in ("shift_jis", "euc-jp"):
+                data = jillapun.encode(text.replace("é", "ü"), source).data
+                told = self.agree(b"\xff " + data, source, target, part=50)[1]
+                self.assertEqual(told[-1], jillapun.Lost(2 + text.rindex("🙂"), "🙂"))
+
+    def test_what_is_not_cut(self) -> None:
+        """Where an encoding is not compatible with ASCII, by a label or by a mark, and what is no regular file."""
+        rows = [(source, "utf-8", b"") for source in UNCUT] + [
+            ("utf-8", "iso-2022-jp", b""),
+            ("utf-8", "utf-8", b"\xff\xfe"),
+        ]
+        for source, target, head in rows:
+            with mock.patch("jillapun._files.put_parts", side_effect=AssertionError):
+                self.agree(head + b"a\n\0\n\0" * 9, source, target)
+        os.mkfifo(self.at("pipe"))
+        with subprocess.Popen(["sh", "-c", 'printf "caf\\303\\251 \\n" > "$0"', self.at("pipe")]):
+            done = jillapun.convert_file(self.at("pipe"), self.at("b"), "utf-8", "windows-1252", processes=2)
+        self.assertEqual((done.read, Path(self.at("b")).read_bytes()), (7, b"caf\xe9 \n"))
+
+    def test_so_many_at_once(self) -> None:
+        """Three parts are converted at once, and no more."""
+        together, work = threading.Barrier(3), _parts._Block.convert
+        running: List[int] = []
+        most: List[int] = []
+
+        def convert(block: _parts._Block, before: Any) -> None:
+            running.append(1)
+            most.append(len(running))
+            if block.part.start < 6:
+                together.wait(60)
+            work(block, before)
+            running.pop()
+
+        self.put("a", b"a\n" * 100)
+        with mock.patch("jillapun._parts._Block.convert", convert):
+            self.found("utf-8", "windows-1252", processes=3)
+        self.assertEqual(max(most), 3)
+        self.assertRaises(ValueError, self.found, "utf-8", "utf-8", processes=0)
+
+    def test_in_its_own_place(self) -> None:
+        for data, options in ((GOOD * 9, {}), (BAD * 9, {}), (BAD * 9, {"lossy": True}), (BAD * 9, {"backup": "~"})):
+            found = []
+            for processes in (1, 3):
+                self.put("a", data)
+                with mock.patch("jillapun._parts.PART", 10):
+                    try:
+                        done: Any = jillapun.convert_file(
+                            self.path, self.path, "utf-8", "windows-1252", processes=processes, **options
+                        )
+                    except jillapun.NotReplaced as fault:
+                        done = str(fault), fault.done
+                found.append((done, {name: Path(self.at(name)).read_bytes() for name in os.listdir(self.folder)}))
+                Path(self.at("a~")).unlink(missing_ok=True)
+            self.assertEqual(*found)
+
+    def test_what_callbacks_raise(self) -> None:
+        """The conversion ends, and its threads do."""
+        self.put("a", BAD * 1000)
+        threads = threading.active_count()
+        for fault in (KeyboardInterrupt, SystemExit, RuntimeError):
+            for name in ("progress", "on_fault"):
+                calls = mock.Mock(side_effect=[None, None, fault])
+                with self.assertRaises(fault), mock.patch("jillapun._parts.PART", 10):
+                    jillapun.convert_file(
+                        self.path, self.path, "utf-8", "windows-1252", lossy=True, processes=3, **{name: calls}
+                    )
+                self.assertEqual(calls.call_count, 3)
+        self.assertEqual(threading.active_count(), threads)
+        self.holds(a=BAD * 1000)
+
+    def test_reading_that_fails(self) -> None:
+        """After two parts, of 26 bytes: what they lose is told, and then what failed."""
+        self.put("a", BAD * 100)
+        all_told = self.found("utf-8", "windows-1252")[1]
+        found = _parts._FIND_CUT(BAD)
+        with mock.patch("jillapun._parts._FIND_CUT", side_effect=[found, found, OSError(errno.EIO, "the disk fails")]):
+            result, told, data = self.found("utf-8", "windows-1252", processes=3, part=8)
+        self.assertEqual((result[:2], data), ((OSError, "[Errno %d] the disk fails" % errno.EIO), None))
+        self.assertEqual(told, all_told[:10])
+
+    def test_writing_that_fails(self) -> None:
+        """In the third part the output gets longer than a file may be: message and folder are those of one process."""
+        data = "日 ".encode() * 10_000
+        self.put("a", data)
+        code = (
+            "import jillapun, resource, sys; from jillapun import _parts; _parts.PART = 10_000;"
+            "resource.setrlimit(resource.RLIMIT_FSIZE, (60_000, 60_000));"
+            "jillapun.convert_file('a', sys.argv[1], 'utf-8', 'windows-1252', lossy=True, processes=int(sys.argv[2]))"
+        )
+        environment = {**os.environ, "PYTHONPATH": os.path.join(cases.TOP, "python")}
+        said = set()
+        for target in ("a", "b"):
+            for processes in ("1", "3"):
+                words = [sys.executable, "-c", code, target, processes]
+                ran = subprocess.run(
+                    words, cwd=self.folder, env=environment, capture_output=True, text=True, check=False
+                )
+                said.add((ran.returncode, ran.stderr.strip().split("\n")[-1]))
+                self.holds(a=data)
+        self.assertEqual(said, {(1, "OSError: [Errno %d] %s" % (errno.EFBIG, os.strerror(errno.EFBIG)))})
+
+    def test_memory(self) -> None:
+        """A file that is ten times as long takes no more, with cuts or without."""
+        for line in ("é日 aaa\n", "é日aaa"):
+            peaks = []
+            for count in (30_000, 300_000):
+                self.put("a", line.encode() * count)
+                tracemalloc.start()
+                with mock.patch("jillapun._parts.PART", 1 << 15):
+                    done = jillapun.convert_file(self.path, self.at("b"), "utf-8", "windows-1252", processes=3)
+                peaks.append(tracemalloc.get_traced_memory()[1])
+                tracemalloc.stop()
+                self.assertEqual(done.lost, count)
+            self.assertLess(peaks[1], 1.5 * peaks[0])
+
+
+class Words(Programs):
+    def test_the_program(self) -> None:
+        """It says and writes the same, whatever the number."""
+        self.folders("one", "many")
+        self.put("a", (BAD + GOOD) * 50 + "日本\n".encode())
+        with mock.patch("jillapun._parts.PART", 10):
+            one = self.run_it("--into", self.at("one"), self.path)
+            self.assertEqual(self.run_it("--processes", "3", "--into", self.at("many"), self.path), one)
+        self.assertEqual(one[0], 1)
+        self.assertEqual(*(Path(self.at(name)).read_bytes() for name in ("one/a", "many/a")))
+
+    def test_numbers(self) -> None:
+        self.put("a", GOOD)
+        for word in ("0", "-1", "x", "", "1.5"):
+            self.assertIn("--processes", self.refused(2, "--processes", word, self.path))
 
 
 if __name__ == "__main__":
