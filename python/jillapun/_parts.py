@@ -123,8 +123,8 @@ class _Parts:
         self._uncounted: List[_Uncounted] = []
 
     def blocks(self) -> Iterator[_Block]:
-        """The blocks of the file. A part ends behind the first byte after a block that can be cut behind, if it is near,
-        and otherwise goes on with the next block."""
+        """The blocks of the file. A part ends behind the first byte after a block that can be cut behind, if it is
+        near, and otherwise goes on with the next block."""
         job, start, part = self._first, 0, None
         while True:
             part = part or _Part(job, start, self._is_counted)
