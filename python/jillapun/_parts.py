@@ -40,8 +40,8 @@ class Job(NamedTuple):
     indexes: Optional[Indexes]
 
     def later(self, given: io.BufferedReader) -> Optional["Job"]:
-        """The job of the parts of a file after the first; `None` if it can't be cut, or is not one that can be read again.
-        The file is at its start, and stays there."""
+        """The job of the parts of a file after the first; `None` if it can't be cut, or can't be read again. The
+        file is at its start, and stays there."""
         if not stat.S_ISREG(os.fstat(given.fileno()).st_mode):
             return None
         head, source = given.read(3), name(self.source)
@@ -123,7 +123,7 @@ class _Parts:
         self._uncounted: List[_Uncounted] = []
 
     def blocks(self) -> Iterator[_Block]:
-        """The blocks of the file. A part ends behind the first byte after a block that the file can be cut behind, if it is
+        """The blocks of the file. A part ends behind the first byte after a block that can be cut behind, if it is
         near, and otherwise goes on with the next block."""
         job, start, part = self._first, 0, None
         while True:
@@ -201,8 +201,8 @@ def put_parts(
     processes: int,
     progress: Optional[Callable[[int], object]],
 ) -> Report:
-    """Converts a file to its end, so many parts at a time, and returns what is told of it. The jobs are that of the first
-    part and that of the others."""
+    """Converts a file to its end, so many parts at a time, and returns what is told of it. The jobs are those of the
+    first part and of the others."""
     pool, read = ThreadPoolExecutor(processes), 0
     parts = _Parts(*jobs, given, pool)
     try:
