@@ -131,8 +131,8 @@ GaveSome room (Failed n) = ⊥
 GaveSome room (Flush failed) = ⊥
 
 -- The reader was called at least once, each time by a read with room for so many bytes. Each call but the last gave
--- some, and the last failed exactly if the fault is of the reader. The counts of the writer and of the log rose by as many
--- calls as failed. If a device failed, its last call is the one that did.
+-- some, and the last failed exactly if the fault is of the reader. The writer and the log were called by writes of some
+-- bytes, and their counts rose by as many as failed. If a device failed, its last call is the one that did.
 pub record RunCalls {R W L T : Type 0} (reader reader' : Counted R) (writer writer' : Counted W) (log log' : Counted L) (room : ℕ) (result : Result T Fault) : Type 0 where
   pub earlier : List Call
   pub call : Call

@@ -46,6 +46,12 @@ pub record EndsInFailedWrite (calls : List Call) : Type 0 where
   pub ends : calls ≡ earlier ++ (last ∷ [])
   pub failed : IsFailedWrite last
 
+-- a call is a write of some bytes, whatever came of it
+abbrev pub IsWriteOfSome : Call → Type 0
+IsWriteOfSome (Passed room bytes) = 0 < room
+IsWriteOfSome (Failed room) = 0 < room
+IsWriteOfSome (Flush failed) = ⊥
+
 -- 1 if a call of a reader failed, else 0
 abbrev pub failed_read : Call → ℕ
 failed_read (Failed room) = 1

@@ -1,7 +1,7 @@
 -- What a clause reads of a `Counted`, and what is left of a message.
 use Rattle.std.specs.Prelude.{◌≡◌, ◌⊎◌, ℕ, ◌+◌, ◌<◌, List, ◌++◌, length, take}
-use Rattle.std.specs.List.{concat}
-use Rattle.recode_log.specs.Call.{Call, failed_writes, passed_by}
+use Rattle.std.specs.List.{All, concat}
+use Rattle.recode_log.specs.Call.{Call, IsWriteOfSome, failed_writes, passed_by}
 use Rattle.recode_log.specs.declared.counted.Counted.{Counted}
 
 -- the reader or the writer that a `Counted` wraps
@@ -24,8 +24,9 @@ passed_of c = concat (passed_by (history_of c))
 abbrev pub IsTold : (before after : ℕ) (message : List ℕ) (told : ℕ) → Type 0
 IsTold before after message told = ((after ≡ before) × (take told message ≡ message)) ⊎ ((after ≡ before + 1) × (told < length message))
 
--- these calls of a writer were made, and the count rose by those of them that failed
+-- These calls of a writer were made, each a write of some bytes, and the count rose by those of them that failed.
 pub record CountsWrites {T : Type 0} (before after : Counted T) : Type 0 where
   pub calls : List Call
   pub made : history_of after ≡ history_of before ++ calls
+  pub some : All IsWriteOfSome calls
   pub counted : failures_of after ≡ failures_of before + failed_writes calls

@@ -1,7 +1,7 @@
 -- Worked rows of `specs/Call.antt`.
 use Rattle.std.proofs.Common.{◌≡◌, ℕ, [], ◌∷◌, Ok, Err, false, true, refl, arith}
 use Rattle.std.specs.List.{concat}
-use Rattle.recode_log.specs.Call.{IsFailedWrite, call_of, failed_read, failed_writes, flush_of, passed_by}
+use Rattle.recode_log.specs.Call.{IsFailedWrite, IsWriteOfSome, call_of, failed_read, failed_writes, flush_of, passed_by}
 use Rattle.recode_log.specs.Call.{Failed, Flush, Passed}
 
 -- a read that gives two bytes, into a room of four
@@ -46,3 +46,13 @@ failed_read-end = refl
 
 failed_read-failed : failed_read (Failed 4) ≡ 1
 failed_read-failed = refl
+
+-- a write of no bytes, and a flush, are no writes of some
+is_write_of_some-one : IsWriteOfSome (Passed 1 [])
+is_write_of_some-one = omega arith
+
+is_write_of_some-none : IsWriteOfSome (Passed 0 []) → ⊥
+is_write_of_some-none h = omega (arith, h)
+
+is_write_of_some-flush : IsWriteOfSome (Flush false) → ⊥
+is_write_of_some-flush h = h

@@ -51,5 +51,5 @@ returns-in_default-clause-counts g c = elim c.in_default.branch [
   | in_default-via-in-Ok+else-taken-gt0 w ↦
       let some = some_left _ _ c.loop-at-test.true in
       counts_then _ _ _ c.loop-at.invariant.counts (counts_took_none _ _ _ _ w.in-Ok.ensures.call w.if-taken-gt0.false some (w.in-Ok.ensures.none_taken (omega (arith, w.if-taken-gt0.false)) some))
-  | in_default-via-in_default w ↦ counts_then _ _ _ c.loop-at.invariant.counts (counts_one _ _ _ w.in_default.ensures.call w.in_default.ensures.err)
+  | in_default-via-in_default w ↦ counts_then _ _ _ c.loop-at.invariant.counts (counts_one _ _ _ w.in_default.ensures.call (some_left _ _ c.loop-at-test.true) w.in_default.ensures.err)
 ]
