@@ -1,5 +1,5 @@
 #!/usr/bin/env bash
-# Measures functions of encoding_mem beside those of the crate encoding_rs: see docs/PERFORMANCE.md.
+# Measures functions of encoding_mem beside those of the crate encoding_rs: see bench/functions.md.
 #
 #   bench/kernels.sh [WORD]     all functions, or those with the word in their names
 #

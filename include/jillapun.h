@@ -1,7 +1,7 @@
 /*
  * Jillapun: text encodings, by the Encoding Standard, with proofs.
  *
- * Written by tools/c_header.py from the sources; do not edit.
+ * Written by tools/pages/c_header.py from the sources; do not edit.
  *
  * A function asks of its caller what this says of pointers, lengths and handles, and nothing else:
  * all else it tests, and tells by what it returns.
@@ -17,7 +17,9 @@
  * Handles. A handle, a struct with members that begin with `private_`, begins as `{0}` (in C++, as
  * `{}`), is filled by a function with `_new` in its name and emptied by one with `_free`. It is not
  * copied, unless its type says that it may be, and its members are left alone. Two threads may use
- * two handles at once, but not the same one, unless its type says that they may.
+ * two handles at once, but not the same one, unless its type says that they may. A call that takes a
+ * handle by a pointer to `const` writes nothing to it: any number of such calls may be made with one
+ * handle at once, while no other call is.
  *
  * If a function that returns a length can't do what is asked for, it returns SIZE_MAX.
  *
@@ -290,13 +292,26 @@ typedef struct {
     bool private_is_open;
 } jillapun_coder;
 
+/** What a decoder's handle tells of the decoder, for calls of this library alone. */
+typedef struct {
+    bool private_is_there;
+    bool private_is_finished;
+    uint8_t private_encoding;
+    bool private_may_be_utf8;
+    bool private_may_be_utf16;
+    size_t private_ahead;
+    size_t private_pending;
+} jillapun_decoder_words;
+
 /**
  * A decoder of a stream. Begin with `{0}`, which holds none; `jillapun_decoder_new` fills it,
  * and `jillapun_decoder_free` empties it. Never copy it: only one of the copies may be used.
- * One thread at a time.
+ * Calls that take a `const` one may be made by any number of threads at once, and others by one
+ * thread at a time.
  */
 typedef struct {
     jillapun_coder private_coder;
+    jillapun_decoder_words private_words;
 } jillapun_decoder;
 
 /** What a call of a decoder did. */
@@ -318,13 +333,22 @@ typedef struct {
     bool had_errors;
 } jillapun_progress;
 
+/** What an encoder's handle tells of the encoder, for calls of this library alone. */
+typedef struct {
+    bool private_is_there;
+    bool private_has_pending_state;
+    uint8_t private_encoding;
+} jillapun_encoder_words;
+
 /**
  * An encoder of a stream. Begin with `{0}`, which holds none; `jillapun_encoder_new` fills it,
  * and `jillapun_encoder_free` empties it. Never copy it: only one of the copies may be used.
- * One thread at a time.
+ * Calls that take a `const` one may be made by any number of threads at once, and others by one
+ * thread at a time.
  */
 typedef struct {
     jillapun_coder private_coder;
+    jillapun_encoder_words private_words;
 } jillapun_encoder;
 
 /** What a call of an encoder did. */
@@ -363,7 +387,7 @@ typedef struct {
 /** What a conversion reports beside its status. */
 typedef struct {
     /**
-     * The bytes of the input. Told at `JILLAPUN_OK` and `JILLAPUN_LOSSY`, as the two counts that
+     * The bytes of the input. Told at `JILLAPUN_OK` and `JILLAPUN_LOSSY`, as the three counts that
      * follow, and else 0.
      */
     uint64_t read;
@@ -371,6 +395,12 @@ typedef struct {
     uint64_t bad;
     /** The characters of the text that the output encoding has no bytes for. */
     uint64_t lost;
+    /**
+     * The characters of the text of the input, with U+FFFD for each malformed sequence, and
+     * without a mark that was taken. The indexes of what follows the input, if that is converted
+     * by itself, are moved by it.
+     */
+    uint64_t characters;
     /**
      * The bytes of the output, in memory: so many stand at the start of `dst`, or, at
      * `JILLAPUN_ROOM`, so many are wanted. 0 if nothing was written, and in a conversion by steps:
@@ -416,15 +446,30 @@ typedef struct {
     bool wants_room;
 } jillapun_converter_progress;
 
+/**
+ * All index files of the Encoding Standard, as `jillapun_tables_new` takes them, and how many they
+ * are. They are there if the program is linked with `libjillapun_indexes.a`.
+ */
+extern const jillapun_index_file jillapun_index_files[];
+extern const size_t jillapun_index_files_len;
+
 /* The exports on encodings: found by a label or a mark, and what is told of each. An encoding
    crosses as its number, from 0 to 39, in the order of the names. */
 
 /**
- * The number of the encoding that has this label, or `JILLAPUN_NO_ENCODING` where no encoding
- * has it ("get an encoding" of the Encoding Standard, section 4.2). White space at both ends
- * (the bytes 09, 0A, 0C, 0D and 20) and the case of ASCII letters do not matter.
+ * The number of the encoding that has this label, or `JILLAPUN_NO_ENCODING` if no encoding has
+ * it ("get an encoding" of the Encoding Standard, section 4.2). White space at both ends (the
+ * bytes 09, 0A, 0C, 0D and 20) and the case of ASCII letters do not matter.
  */
 uint8_t jillapun_for_label(const uint8_t *label, size_t label_len);
+
+/**
+ * The number of the encoding that has this label, or `JILLAPUN_NO_ENCODING` if no encoding but
+ * replacement has it: for a caller to whom a label of replacement is an error, as an unknown
+ * one is. White space at both ends (the bytes 09, 0A, 0C, 0D and 20) and the case of ASCII
+ * letters do not matter.
+ */
+uint8_t jillapun_for_label_no_replacement(const uint8_t *label, size_t label_len);
 
 /**
  * The number of the encoding whose byte order mark stands at the start of `bytes`, and in
@@ -444,10 +489,31 @@ size_t jillapun_name(uint8_t encoding, uint8_t *name, size_t name_len);
 /**
  * The number of the encoding in which text is written that is asked for in this one ("get an
  * output encoding" of the Encoding Standard, section 4.3): UTF-8 for UTF-16BE, UTF-16LE and
- * replacement, and the encoding itself for all others. `JILLAPUN_NO_ENCODING` where no encoding
+ * replacement, and the encoding itself for all others. `JILLAPUN_NO_ENCODING` if no encoding
  * has the number.
  */
 uint8_t jillapun_output_encoding(uint8_t encoding);
+
+/**
+ * Whether each character is one byte: so in the 28 single-byte encodings (the Encoding
+ * Standard, section 9), in which a byte that the index lacks is malformed, and in
+ * x-user-defined (section 14.5). False if no encoding has the number.
+ */
+bool jillapun_is_single_byte(uint8_t encoding);
+
+/**
+ * Whether each byte below 80 stands for the character of its number if a character begins
+ * there, and such a character is written as that byte: so in all encodings but UTF-16BE,
+ * UTF-16LE, replacement and ISO-2022-JP. False if no encoding has the number.
+ */
+bool jillapun_is_ascii_compatible(uint8_t encoding);
+
+/**
+ * Whether every character has bytes in the output encoding: so if that is UTF-8. The output of
+ * gb18030 lacks some characters (the Encoding Standard, section 10.2.2). False if no encoding
+ * has the number.
+ */
+bool jillapun_can_encode_everything(uint8_t encoding);
 
 /**
  * Writes the name of the file of the index with this place, from 0 on, among those that an
@@ -507,28 +573,29 @@ void jillapun_decoder_free(jillapun_decoder *decoder);
  * byte order mark once all of it was read. `JILLAPUN_NO_ENCODING` if the handle holds no
  * decoder.
  */
-uint8_t jillapun_decoder_encoding(jillapun_decoder *decoder);
+uint8_t jillapun_decoder_encoding(const jillapun_decoder *decoder);
 
 /**
  * How many bytes of UTF-8 are room enough for the text of `n` more bytes, with U+FFFD for each
  * malformed sequence; `SIZE_MAX` if the number passes a `size_t`, the handle holds no decoder,
  * or the stream has ended. What is pending counts too.
  */
-size_t jillapun_decoder_max_utf8_length(jillapun_decoder *decoder, size_t n);
+size_t jillapun_decoder_max_utf8_length(const jillapun_decoder *decoder, size_t n);
 
 /**
  * How many bytes of UTF-8 are room enough for the text of `n` more bytes up to the first
  * malformed sequence, and for one U+FFFD there; `SIZE_MAX` if the number passes a `size_t`, the
  * handle holds no decoder, or the stream has ended. What is pending counts too.
  */
-size_t jillapun_decoder_max_utf8_length_without_replacement(jillapun_decoder *decoder, size_t n);
+size_t jillapun_decoder_max_utf8_length_without_replacement(const jillapun_decoder *decoder,
+    size_t n);
 
 /**
  * How many units of UTF-16 are room enough for the text of `n` more bytes, with U+FFFD for each
  * malformed sequence; `SIZE_MAX` if the number passes a `size_t`, the handle holds no decoder,
  * or the stream has ended. What is pending counts too.
  */
-size_t jillapun_decoder_max_utf16_length(jillapun_decoder *decoder, size_t n);
+size_t jillapun_decoder_max_utf16_length(const jillapun_decoder *decoder, size_t n);
 
 /**
  * How many of `bytes`, if they come next, stand for the characters of their own numbers, as in
@@ -647,27 +714,28 @@ void jillapun_encoder_free(jillapun_encoder *encoder);
  * The number of the output encoding, in which the encoder writes; `JILLAPUN_NO_ENCODING` if the
  * handle holds no encoder.
  */
-uint8_t jillapun_encoder_encoding(jillapun_encoder *encoder);
+uint8_t jillapun_encoder_encoding(const jillapun_encoder *encoder);
 
 /**
  * Whether an escape to ASCII is still to be written at the end of the stream: so only in
  * ISO-2022-JP, where another set is in force. False if the handle holds no encoder.
  */
-bool jillapun_encoder_has_pending_state(jillapun_encoder *encoder);
+bool jillapun_encoder_has_pending_state(const jillapun_encoder *encoder);
 
 /**
  * How many bytes are room enough for what `n` bytes of UTF-8 are encoded to with references, if
  * each character has bytes; `SIZE_MAX` if the number passes a `size_t`, or the handle holds no
  * encoder.
  */
-size_t jillapun_encoder_max_length_from_utf8_if_no_unmappables(jillapun_encoder *encoder, size_t n);
+size_t jillapun_encoder_max_length_from_utf8_if_no_unmappables(const jillapun_encoder *encoder,
+    size_t n);
 
 /**
  * How many bytes are room enough for what `n` bytes of UTF-8 are encoded to without
  * replacement, and for the last escape; `SIZE_MAX` if the number passes a `size_t`, or the
  * handle holds no encoder.
  */
-size_t jillapun_encoder_max_length_from_utf8_without_replacement(jillapun_encoder *encoder,
+size_t jillapun_encoder_max_length_from_utf8_without_replacement(const jillapun_encoder *encoder,
     size_t n);
 
 /**
@@ -675,7 +743,7 @@ size_t jillapun_encoder_max_length_from_utf8_without_replacement(jillapun_encode
  * if each character has bytes; `SIZE_MAX` if the number passes a `size_t`, or the handle holds
  * no encoder.
  */
-size_t jillapun_encoder_max_length_from_utf16_if_no_unmappables(jillapun_encoder *encoder,
+size_t jillapun_encoder_max_length_from_utf16_if_no_unmappables(const jillapun_encoder *encoder,
     size_t n);
 
 /**
@@ -683,7 +751,7 @@ size_t jillapun_encoder_max_length_from_utf16_if_no_unmappables(jillapun_encoder
  * replacement, and for the last escape; `SIZE_MAX` if the number passes a `size_t`, or the
  * handle holds no encoder.
  */
-size_t jillapun_encoder_max_length_from_utf16_without_replacement(jillapun_encoder *encoder,
+size_t jillapun_encoder_max_length_from_utf16_without_replacement(const jillapun_encoder *encoder,
     size_t n);
 
 /* The exports that encode UTF-16. */
@@ -902,33 +970,56 @@ uint8_t jillapun_converter_step(jillapun_converter *converter, const uint8_t *sr
     bool last, uint8_t *dst, size_t dst_len, jillapun_loss *losses, size_t losses_len,
     jillapun_converter_progress *progress, jillapun_report *report);
 
+/* The export on an input that is converted part by part. */
+
+/**
+ * Whether an input can be cut, and each part but the first be converted by itself: the number
+ * of the encoding that they are converted from, with marks kept (`JILLAPUN_KEEP`), or
+ * `JILLAPUN_NO_ENCODING`. The first part is converted as the whole would be. Each part but the
+ * last has to end in a byte below 30 (hexadecimal), as a line feed is.
+ *
+ * `first` is how the input begins: three bytes of it, or more, or all that it has. `from`, `to`
+ * and `mark` are as for `jillapun_convert`. The parts are in the encoding that a byte order
+ * mark says, if `mark` takes it, else in `from`. It is `JILLAPUN_NO_ENCODING` if that encoding
+ * or the output encoding of `to` is not compatible with ASCII (UTF-16BE, UTF-16LE, ISO-2022-JP,
+ * replacement), or if a number stands for nothing.
+ *
+ * The outputs of all parts, in a row, are the output for the whole. So are their records of
+ * losses, if the bytes of the parts before are added to the `place` of each of kind
+ * `JILLAPUN_BAD`, and the characters of their text to that of each of kind `JILLAPUN_LOST`.
+ * Counts are added, and nothing was lost of the whole if nothing was lost of any part. A part
+ * that the policy stops is the last.
+ */
+uint8_t jillapun_part_encoding(uint8_t from, uint8_t to, uint8_t mark, const uint8_t *first,
+    size_t first_len);
+
 /* ASCII, in bytes and in units of UTF-16: checks, and copies of the ASCII at the start. */
 
 /** Whether each byte is ASCII: below 80 hex. */
-bool encoding_mem_is_ascii(const uint8_t *buffer, size_t buffer_len);
+bool jillapun_mem_is_ascii(const uint8_t *buffer, size_t buffer_len);
 
 /** Whether each unit of UTF-16 is below 80 hex. */
-bool encoding_mem_is_basic_latin(const jillapun_char16 *buffer, size_t buffer_len);
+bool jillapun_mem_is_basic_latin(const jillapun_char16 *buffer, size_t buffer_len);
 
 /**
  * The length in bytes of the longest prefix that is ASCII: it ends before the first byte from
  * 80 hex on.
  */
-size_t encoding_ascii_valid_up_to(const uint8_t *buffer, size_t buffer_len);
+size_t jillapun_ascii_valid_up_to(const uint8_t *buffer, size_t buffer_len);
 
 /**
  * The length in bytes of the longest prefix that ISO-2022-JP, at the start of an input, reads
  * as ASCII: it ends before the first 0E, 0F, 1B or byte from 80 hex on (the Encoding Standard,
  * section 12.2.1).
  */
-size_t encoding_iso_2022_jp_ascii_valid_up_to(const uint8_t *buffer, size_t buffer_len);
+size_t jillapun_iso_2022_jp_ascii_valid_up_to(const uint8_t *buffer, size_t buffer_len);
 
 /**
  * Copies the longest prefix of `src` that is ASCII to the start of `dst`, and returns its
  * length in bytes. Room: as many bytes as `src` has; if `dst` is shorter, nothing is written
  * and `SIZE_MAX` is returned.
  */
-size_t encoding_mem_copy_ascii_to_ascii(const uint8_t *src, size_t src_len, uint8_t *dst,
+size_t jillapun_mem_copy_ascii_to_ascii(const uint8_t *src, size_t src_len, uint8_t *dst,
     size_t dst_len);
 
 /**
@@ -936,7 +1027,7 @@ size_t encoding_mem_copy_ascii_to_ascii(const uint8_t *src, size_t src_len, uint
  * of UTF-16, and returns its length. Room: as many units as `src` has bytes; if `dst` is
  * shorter, nothing is written and `SIZE_MAX` is returned.
  */
-size_t encoding_mem_copy_ascii_to_basic_latin(const uint8_t *src, size_t src_len,
+size_t jillapun_mem_copy_ascii_to_basic_latin(const uint8_t *src, size_t src_len,
     jillapun_char16 *dst, size_t dst_len);
 
 /**
@@ -944,7 +1035,7 @@ size_t encoding_mem_copy_ascii_to_basic_latin(const uint8_t *src, size_t src_len
  * `dst`, each as a byte, and returns its length. Room: as many bytes as `src` has units; if
  * `dst` is shorter, nothing is written and `SIZE_MAX` is returned.
  */
-size_t encoding_mem_copy_basic_latin_to_ascii(const jillapun_char16 *src, size_t src_len,
+size_t jillapun_mem_copy_basic_latin_to_ascii(const jillapun_char16 *src, size_t src_len,
     uint8_t *dst, size_t dst_len);
 
 /* Whether a text may have to be laid out from right to left: a quick test that may say yes of a
@@ -956,94 +1047,94 @@ size_t encoding_mem_copy_basic_latin_to_ascii(const jillapun_char16 *src, size_t
  * U+2067, U+FB1D to U+FDFF, U+FE70 to U+FEFE, U+10800 to U+10FFF and U+1E800 to U+1EFFF. A
  * number that is no character is not.
  */
-bool encoding_mem_is_char_bidi(uint32_t c);
+bool jillapun_mem_is_char_bidi(uint32_t c);
 
 /**
- * Whether a unit of UTF-16 is a character of which `encoding_mem_is_char_bidi` holds, or a high
+ * Whether a unit of UTF-16 is a character of which `jillapun_mem_is_char_bidi` holds, or a high
  * surrogate with which one of those above U+FFFF is written: D802, D803, D83A or D83B.
  */
-bool encoding_mem_is_utf16_code_unit_bidi(jillapun_char16 u);
+bool jillapun_mem_is_utf16_code_unit_bidi(jillapun_char16 u);
 
 /**
- * Whether `encoding_mem_is_char_bidi` holds of some character of the bytes, as UTF-8, or they
+ * Whether `jillapun_mem_is_char_bidi` holds of some character of the bytes, as UTF-8, or they
  * are not well-formed.
  */
-bool encoding_mem_is_utf8_bidi(const uint8_t *buffer, size_t buffer_len);
+bool jillapun_mem_is_utf8_bidi(const uint8_t *buffer, size_t buffer_len);
 
-/** What `encoding_mem_is_utf8_bidi` returns. The bytes are tested: none are undefined here. */
-bool encoding_mem_is_str_bidi(const uint8_t *buffer, size_t buffer_len);
+/** What `jillapun_mem_is_utf8_bidi` returns. The bytes are tested: none are undefined here. */
+bool jillapun_mem_is_str_bidi(const uint8_t *buffer, size_t buffer_len);
 
 /**
- * Whether `encoding_mem_is_utf16_code_unit_bidi` holds of some unit. A lone high surrogate
+ * Whether `jillapun_mem_is_utf16_code_unit_bidi` holds of some unit. A lone high surrogate
  * counts as if its pair were whole.
  */
-bool encoding_mem_is_utf16_bidi(const jillapun_char16 *buffer, size_t buffer_len);
+bool jillapun_mem_is_utf16_bidi(const jillapun_char16 *buffer, size_t buffer_len);
 
 /**
- * `JILLAPUN_LATIN1` if `encoding_mem_is_utf8_latin1` holds of the bytes, `JILLAPUN_BIDI` if
- * `encoding_mem_is_utf8_bidi` does, also if they are not well-formed, and else
+ * `JILLAPUN_LATIN1` if `jillapun_mem_is_utf8_latin1` holds of the bytes, `JILLAPUN_BIDI` if
+ * `jillapun_mem_is_utf8_bidi` does, also if they are not well-formed, and else
  * `JILLAPUN_LEFT_TO_RIGHT`.
  */
-uint32_t encoding_mem_check_utf8_for_latin1_and_bidi(const uint8_t *buffer, size_t buffer_len);
+uint32_t jillapun_mem_check_utf8_for_latin1_and_bidi(const uint8_t *buffer, size_t buffer_len);
 
 /**
- * What `encoding_mem_check_utf8_for_latin1_and_bidi` returns. The bytes are tested: none are
+ * What `jillapun_mem_check_utf8_for_latin1_and_bidi` returns. The bytes are tested: none are
  * undefined here.
  */
-uint32_t encoding_mem_check_str_for_latin1_and_bidi(const uint8_t *buffer, size_t buffer_len);
+uint32_t jillapun_mem_check_str_for_latin1_and_bidi(const uint8_t *buffer, size_t buffer_len);
 
 /**
- * `JILLAPUN_LATIN1` if `encoding_mem_is_utf16_latin1` holds of the units, `JILLAPUN_BIDI` if
- * `encoding_mem_is_utf16_bidi` does, and else `JILLAPUN_LEFT_TO_RIGHT`.
+ * `JILLAPUN_LATIN1` if `jillapun_mem_is_utf16_latin1` holds of the units, `JILLAPUN_BIDI` if
+ * `jillapun_mem_is_utf16_bidi` does, and else `JILLAPUN_LEFT_TO_RIGHT`.
  */
-uint32_t encoding_mem_check_utf16_for_latin1_and_bidi(const jillapun_char16 *buffer,
+uint32_t jillapun_mem_check_utf16_for_latin1_and_bidi(const jillapun_char16 *buffer,
     size_t buffer_len);
 
 /* Latin1, whose bytes are the characters U+0000 to U+00FF: checks, and conversions from it and
    into it. */
 
 /** Whether the bytes are well-formed UTF-8 with no character above U+00FF. */
-bool encoding_mem_is_utf8_latin1(const uint8_t *buffer, size_t buffer_len);
+bool jillapun_mem_is_utf8_latin1(const uint8_t *buffer, size_t buffer_len);
 
-/** What `encoding_mem_is_utf8_latin1` returns. The bytes are tested: none are undefined here. */
-bool encoding_mem_is_str_latin1(const uint8_t *buffer, size_t buffer_len);
+/** What `jillapun_mem_is_utf8_latin1` returns. The bytes are tested: none are undefined here. */
+bool jillapun_mem_is_str_latin1(const uint8_t *buffer, size_t buffer_len);
 
 /** Whether each unit of UTF-16 is at most FF hex. */
-bool encoding_mem_is_utf16_latin1(const jillapun_char16 *buffer, size_t buffer_len);
+bool jillapun_mem_is_utf16_latin1(const jillapun_char16 *buffer, size_t buffer_len);
 
 /**
  * The length in bytes of the longest prefix that is well-formed UTF-8 with no character above
  * U+00FF.
  */
-size_t encoding_mem_utf8_latin1_up_to(const uint8_t *buffer, size_t buffer_len);
+size_t jillapun_mem_utf8_latin1_up_to(const uint8_t *buffer, size_t buffer_len);
 
-/** What `encoding_mem_utf8_latin1_up_to` returns. The bytes are tested: none are undefined here. */
-size_t encoding_mem_str_latin1_up_to(const uint8_t *buffer, size_t buffer_len);
+/** What `jillapun_mem_utf8_latin1_up_to` returns. The bytes are tested: none are undefined here. */
+size_t jillapun_mem_str_latin1_up_to(const uint8_t *buffer, size_t buffer_len);
 
 /**
  * Converts Latin1 to UTF-16 at the start of `dst`, a unit for each byte, and returns how many
  * units were written. Room: as many units as `src` has bytes; if `dst` is shorter, nothing is
  * written and `SIZE_MAX` is returned.
  */
-size_t encoding_mem_convert_latin1_to_utf16(const uint8_t *src, size_t src_len,
+size_t jillapun_mem_convert_latin1_to_utf16(const uint8_t *src, size_t src_len,
     jillapun_char16 *dst, size_t dst_len);
 
 /**
  * Takes the low eight bits of each unit of UTF-16, into the start of `dst`, and returns how
- * many bytes were written. If `encoding_mem_is_utf16_latin1` holds of `src`, that is its text
+ * many bytes were written. If `jillapun_mem_is_utf16_latin1` holds of `src`, that is its text
  * in Latin1; else it is not. Room: as many bytes as `src` has units; if `dst` is shorter,
  * nothing is written and `SIZE_MAX` is returned.
  */
-size_t encoding_mem_convert_utf16_to_latin1_lossy(const jillapun_char16 *src, size_t src_len,
+size_t jillapun_mem_convert_utf16_to_latin1_lossy(const jillapun_char16 *src, size_t src_len,
     uint8_t *dst, size_t dst_len);
 
 /**
  * Converts UTF-8 to Latin1 at the start of `dst`, a byte for each character, and returns how
  * many bytes were written. Room: as many bytes as `src` has. If `dst` is shorter, or
- * `encoding_mem_is_utf8_latin1` does not hold of `src`, nothing is written and `SIZE_MAX` is
+ * `jillapun_mem_is_utf8_latin1` does not hold of `src`, nothing is written and `SIZE_MAX` is
  * returned.
  */
-size_t encoding_mem_convert_utf8_to_latin1_lossy(const uint8_t *src, size_t src_len, uint8_t *dst,
+size_t jillapun_mem_convert_utf8_to_latin1_lossy(const uint8_t *src, size_t src_len, uint8_t *dst,
     size_t dst_len);
 
 /**
@@ -1051,7 +1142,7 @@ size_t encoding_mem_convert_utf8_to_latin1_lossy(const uint8_t *src, size_t src_
  * Room: twice as many bytes as `src` has; if `dst` is shorter, nothing is written and
  * `SIZE_MAX` is returned.
  */
-size_t encoding_mem_convert_latin1_to_utf8(const uint8_t *src, size_t src_len, uint8_t *dst,
+size_t jillapun_mem_convert_latin1_to_utf8(const uint8_t *src, size_t src_len, uint8_t *dst,
     size_t dst_len);
 
 /**
@@ -1062,7 +1153,7 @@ size_t encoding_mem_convert_latin1_to_utf8(const uint8_t *src, size_t src_len, u
  * `dst` was UTF-8. Room: twice as many bytes as `src` has; if `dst` is shorter, nothing is
  * written and `SIZE_MAX` is returned.
  */
-size_t encoding_mem_convert_latin1_to_str(const uint8_t *src, size_t src_len, uint8_t *dst,
+size_t jillapun_mem_convert_latin1_to_str(const uint8_t *src, size_t src_len, uint8_t *dst,
     size_t dst_len);
 
 /* Conversions of the longest prefix that fits. Each says how much was read and how much was
@@ -1093,7 +1184,7 @@ void jillapun_mem_convert_latin1_to_utf8_partial(const uint8_t *src, size_t src_
 /**
  * Converts the longest prefix of UTF-16 whose UTF-8 fits into a text. No pair is split; a
  * surrogate in no pair of `src` becomes U+FFFD. `read` is in units, `written` in bytes. What
- * becomes of the bytes behind those is as with `encoding_mem_convert_utf16_to_str`: what was
+ * becomes of the bytes behind those is as with `jillapun_mem_convert_utf16_to_str`: what was
  * UTF-8 stays UTF-8.
  */
 void jillapun_mem_convert_utf16_to_str_partial(const jillapun_char16 *src, size_t src_len,
@@ -1102,7 +1193,7 @@ void jillapun_mem_convert_utf16_to_str_partial(const jillapun_char16 *src, size_
 /**
  * Converts the longest prefix of Latin1 whose UTF-8 fits into a text. `read` and `written` are
  * in bytes. What becomes of the bytes behind those is as with
- * `encoding_mem_convert_latin1_to_str`: what was UTF-8 stays UTF-8.
+ * `jillapun_mem_convert_latin1_to_str`: what was UTF-8 stays UTF-8.
  */
 void jillapun_mem_convert_latin1_to_str_partial(const uint8_t *src, size_t src_len, uint8_t *dst,
     size_t dst_len, size_t *read, size_t *written);
@@ -1113,17 +1204,17 @@ void jillapun_mem_convert_latin1_to_str_partial(const uint8_t *src, size_t src_l
  * The length in units of the longest prefix that is well-formed UTF-16: it ends before the
  * first surrogate in no pair.
  */
-size_t encoding_mem_utf16_valid_up_to(const jillapun_char16 *buffer, size_t buffer_len);
+size_t jillapun_mem_utf16_valid_up_to(const jillapun_char16 *buffer, size_t buffer_len);
 
 /** Puts U+FFFD in place of each surrogate in no pair, and leaves all other units as they are. */
-void encoding_mem_ensure_utf16_validity(jillapun_char16 *buffer, size_t buffer_len);
+void jillapun_mem_ensure_utf16_validity(jillapun_char16 *buffer, size_t buffer_len);
 
 /**
  * Converts UTF-16 to UTF-8 at the start of `dst`, with U+FFFD for each surrogate in no pair,
  * and returns how many bytes were written. Room: three bytes for each unit of `src`; if `dst`
  * is shorter, nothing is written and `SIZE_MAX` is returned.
  */
-size_t encoding_mem_convert_utf16_to_utf8(const jillapun_char16 *src, size_t src_len, uint8_t *dst,
+size_t jillapun_mem_convert_utf16_to_utf8(const jillapun_char16 *src, size_t src_len, uint8_t *dst,
     size_t dst_len);
 
 /**
@@ -1134,7 +1225,7 @@ size_t encoding_mem_convert_utf16_to_utf8(const jillapun_char16 *src, size_t src
  * a character (80 to BF), whether or not `dst` was UTF-8. Room: three bytes for each unit of
  * `src`; if `dst` is shorter, nothing is written and `SIZE_MAX` is returned.
  */
-size_t encoding_mem_convert_utf16_to_str(const jillapun_char16 *src, size_t src_len, uint8_t *dst,
+size_t jillapun_mem_convert_utf16_to_str(const jillapun_char16 *src, size_t src_len, uint8_t *dst,
     size_t dst_len);
 
 /* UTF-8: how far it is well-formed, and conversions to UTF-16. */
@@ -1143,14 +1234,14 @@ size_t encoding_mem_convert_utf16_to_str(const jillapun_char16 *src, size_t src_
  * The length in bytes of the longest prefix that is well-formed UTF-8 (RFC 3629): it ends
  * before the first byte of the first malformed sequence.
  */
-size_t encoding_utf8_valid_up_to(const uint8_t *buffer, size_t buffer_len);
+size_t jillapun_utf8_valid_up_to(const uint8_t *buffer, size_t buffer_len);
 
 /**
  * Converts UTF-8 to UTF-16 at the start of `dst`, with U+FFFD for each malformed sequence, and
  * returns how many units were written. Room: one unit more than `src` has bytes; if `dst` is
  * shorter, nothing is written and `SIZE_MAX` is returned.
  */
-size_t encoding_mem_convert_utf8_to_utf16(const uint8_t *src, size_t src_len, jillapun_char16 *dst,
+size_t jillapun_mem_convert_utf8_to_utf16(const uint8_t *src, size_t src_len, jillapun_char16 *dst,
     size_t dst_len);
 
 /**
@@ -1159,14 +1250,14 @@ size_t encoding_mem_convert_utf8_to_utf16(const uint8_t *src, size_t src_len, ji
  * `SIZE_MAX` is returned. If `src` is not well-formed, `SIZE_MAX` is returned, too, and `dst`
  * begins with the text before the first malformed sequence.
  */
-size_t encoding_mem_convert_utf8_to_utf16_without_replacement(const uint8_t *src, size_t src_len,
+size_t jillapun_mem_convert_utf8_to_utf16_without_replacement(const uint8_t *src, size_t src_len,
     jillapun_char16 *dst, size_t dst_len);
 
 /**
- * What `encoding_mem_convert_utf8_to_utf16_without_replacement` does and returns. The bytes are
+ * What `jillapun_mem_convert_utf8_to_utf16_without_replacement` does and returns. The bytes are
  * tested: none are undefined here.
  */
-size_t encoding_mem_convert_str_to_utf16(const uint8_t *src, size_t src_len, jillapun_char16 *dst,
+size_t jillapun_mem_convert_str_to_utf16(const uint8_t *src, size_t src_len, jillapun_char16 *dst,
     size_t dst_len);
 
 #ifdef __cplusplus

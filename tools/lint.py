@@ -4,30 +4,24 @@
     python3 tools/lint.py
 
 - A public name of `specs/` has one definition in the whole repository.
-- Lines of `src/` over 100 columns: no more than `tools/long_lines` says, and that number is today's, so it only falls.
-- No function has more clauses than `tools/most_clauses` says, and that number is today's, so it only falls; no contract
-  has more than 30 lines.
+- `tools/limits.toml` has how many lines of `src/` may be long, how many clauses a function may have and how many lines
+  of definitions the headline may stand on: today's numbers, so they only fall. No contract has more than 30 lines.
 - Each definition of `specs/` has a line of its own above it. None has a name of the standard library's, and a function
   of the code that has the name of one cites it in its contract.
-- `docs/DEFINITIONS.md` is what `tools/definitions_page.py` writes.
 - Each edit of `must-fail/` and `edits/` has a file and a name of its own, and each text that it replaces stands in that
-  file once.
-- `docs/reference/edits.md` is what `tools/edits_table.py` writes, and each edit that `tools/wrong_bodies.toml` names is
-  there.
-- docs/STATUS.md says of each crate how many of its edits were tried on the code as it is, how many on older code, and how
-  many are new (`tools/edit_record.py`).
-- `docs/HEADLINE.md` is what `tools/headline.py` writes, and the headline stands on no more lines of definitions than
-  `tools/headline_lines` says, and that number is today's, so it only falls.
+  file once. Each edit that tools/edits/wrong_bodies.toml names is there.
+- What `make generate` writes is of these sources: docs/HEADLINE.md, docs/reference, the drawing of
+  docs/ARCHITECTURE.md, the counts of edits in docs/STATUS.md, include/jillapun.h, and the parts of the man pages that say what the help and the header say.
 - Each root file begins its code with the tactic that proofs are found by, and no handle is allowed.
-- Each public item of a library has a doc comment, and `docs/reference` is what `make doc` writes (`tools/reference.py`). No
-  public contract cites a word that stands among theorems (`specs/laws/`).
+- Each public item of a library has a doc comment. No public contract cites a word that stands among theorems
+  (`specs/laws/`).
 - Each source file but a crate's root begins with a line that says what it is for (`//!`).
 - No function is proved by hand but those that `HAND_PROOFS` names: such a proof could choose a history of devices.
-- `include/jillapun.h` is what `tools/c_header.py` writes, and man/jillapun.3 says what it says (`tools/c_manual.py`).
-- The crate for Rust declares the library as the header does (`tools/rust_crate.py`).
+- The crate for Rust declares the library as the header does (tools/gate/rust_crate.py).
 - The patches of docs/examples apply.
-- README.md and the man pages say what the help says (`tools/usage.py`, `tools/python_manual.py`), and README.md has
-  fewer than 120 lines.
+- Each file of tools/ that a text names is there, and tools/README.md names each.
+- README.md and the documents that people read have no more words than `tools/limits.toml` says, and what they link is
+  there.
 """
 
 import collections
@@ -39,26 +33,26 @@ import sys
 
 sys.dont_write_bytecode = True
 
+TOP = os.path.abspath(os.path.join(os.path.dirname(os.path.abspath(__file__)), ".."))
+sys.path += [os.path.join(TOP, "tools", folder) for folder in ("pages", "edits", "gate", "release")]
+
 import c_header
 import c_manual
+import crates
 import definitions
 import definitions_page
+import documents
 import edit_files
 import edit_record
 import edits_table
 import headline
+import limits
 import python_manual
 import reference
 import rust_crate
 import usage
 
-TOP = os.path.join(os.path.dirname(os.path.abspath(__file__)), "..")
 CRATES = os.path.join(TOP, "crates")
-LONG_LINES = os.path.join(TOP, "tools", "long_lines")
-MOST_CLAUSES = os.path.join(TOP, "tools", "most_clauses")
-COLUMNS = 100
-CONTRACT_LINES = 30
-README_LINES = 120
 
 # The functions that are proved by hand: they make a history, or handles for C.
 HAND_PROOFS = [
@@ -116,14 +110,10 @@ def double_names():
 
 
 def long_lines():
-    count = sum(
-        len(line) > COLUMNS for path in files("src", ".rt") for line in read(os.path.join(TOP, path)).split("\n")
-    )
-    limit = int(read(LONG_LINES))
-    if count > limit:
-        yield "%d lines of src/ have more than %d columns; tools/long_lines allows %d" % (count, COLUMNS, limit)
-    if count < limit:
-        yield "%d lines of src/ have more than %d columns: write this number to tools/long_lines" % (count, COLUMNS)
+    columns = limits.FIXED["columns"]
+    lines = [line for path in files("src", ".rt") for line in read(os.path.join(TOP, path)).split("\n")]
+    count = sum(len(line) > columns for line in lines)
+    yield from limits.faults("long_lines", count, "lines of src/ of more than %d columns" % columns)
 
 
 def contracts_of(text):
@@ -152,15 +142,12 @@ def contracts():
 
 
 def most_clauses():
-    found, limit = list(contracts()), int(read(MOST_CLAUSES))
-    for place, clauses, lines in found:
-        if clauses > limit:
-            yield "%s has %d clauses; tools/most_clauses allows %d" % (place, clauses, limit)
-        if lines > CONTRACT_LINES:
-            yield "%s has a contract of %d lines; %d are allowed" % (place, lines, CONTRACT_LINES)
-    most = max(clauses for _, clauses, _ in found)
-    if most < limit:
-        yield "no function has more than %d clauses: write this number to tools/most_clauses" % most
+    found = list(contracts())
+    most, place = max((clauses, place) for place, clauses, _ in found)
+    yield from limits.faults("most_clauses", most, "the most clauses of a function, of " + place)
+    for place, _, lines in found:
+        if lines > limits.FIXED["contract_lines"]:
+            yield "%s has a contract of %d lines; %d are allowed" % (place, lines, limits.FIXED["contract_lines"])
 
 
 def hand_proofs():
@@ -178,11 +165,11 @@ def definitions_of_specs():
 
 
 def unlisted_crates():
-    """Each crate that has definitions has its part in docs/DEFINITIONS.md, and so in what the checks below look at."""
+    """Each crate that has definitions has its part in `definitions_page.PARTS`, which the checks below look at."""
     listed = {crate for crate, _ in definitions_page.PARTS}
     for crate in sorted(os.listdir(CRATES)):
         if os.path.isdir(os.path.join(CRATES, crate, "specs")) and crate not in listed and not crate.endswith("_tests"):
-            yield "tools/definitions_page.py does not name %s, which has definitions" % crate
+            yield "tools/pages/definitions_page.py does not name %s, which has definitions" % crate
 
 
 def undescribed():
@@ -254,15 +241,10 @@ def wrong_bodies():
     names = edits_table.marks()
     for body in edits_table.bodies():
         if not body["edits"]:
-            yield "tools/wrong_bodies.toml has no edit of: %s" % body["name"]
+            yield "tools/edits/wrong_bodies.toml has no edit of: %s" % body["name"]
         for edit in body["edits"]:
             if edit not in names:
-                yield "tools/wrong_bodies.toml names %s, which is no edit" % edit
-
-
-def edits_page():
-    if not os.path.isfile(edits_table.PAGE) or read(edits_table.PAGE) != edits_table.page():
-        yield "docs/reference/edits.md is out of date: python3 tools/edits_table.py"
+                yield "tools/edits/wrong_bodies.toml names %s, which is no edit" % edit
 
 
 def roots():
@@ -282,10 +264,24 @@ def first_lines():
             yield "%s does not begin with a line //! that says what it is for" % path
 
 
-def manual():
-    yield from usage.faults()
-    if len(read(os.path.join(TOP, "README.md")).split("\n")) > README_LINES:
-        yield "README.md has %d lines or more" % README_LINES
+TOOL = re.compile(r"(?<![\w/])(?:\.\./)*tools/([\w/]+\.(?:py|toml|md))")
+
+
+def tools():
+    """The files that a text names, and those that tools/README.md names, by their names alone."""
+    words = ["git", "ls-files", "-z"]
+    tracked = subprocess.run(words, cwd=TOP, capture_output=True, text=True, check=True).stdout.split("\0")
+    for path in tracked:
+        if not path or os.path.islink(os.path.join(TOP, path)):
+            continue
+        with open(os.path.join(TOP, path), encoding="utf-8", errors="replace") as file:
+            for name in sorted(set(TOOL.findall(file.read()))):
+                if not os.path.isfile(os.path.join(TOP, "tools", name)):
+                    yield "%s names tools/%s, which is not there" % (path, name)
+    here = {os.path.basename(path) for path in tracked if path.startswith("tools/")} - {"README.md"}
+    named = set(re.findall(r"`(\w+\.\w+)`", read(os.path.join(TOP, "tools", "README.md"))))
+    for name in sorted(here - named):
+        yield "tools/README.md has no line for %s" % name
 
 
 def example():
@@ -306,19 +302,20 @@ CHECKS = (
     undescribed,
     taken_names,
     shared_names,
-    definitions_page.faults,
     edits,
     wrong_bodies,
-    edits_page,
     edit_record.faults,
     hand_proofs,
     roots,
     first_lines,
-    manual,
+    usage.faults,
+    documents.faults,
+    tools,
     example,
     reference.faults,
     reference.hidden_words,
     headline.faults,
+    crates.faults,
     c_header.faults,
     c_manual.faults,
     rust_crate.header_faults,

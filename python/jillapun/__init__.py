@@ -2,11 +2,11 @@
 
     >>> import jillapun
     >>> jillapun.decode(b"A\\x83\\x6e\\xff", "shift_jis")
-    Decoded(text='Aハ�', faults=[Bad(offset=3, length=1)])
+    Decoded(text='Aハ�', losses=[Bad(offset=3, length=1)])
     >>> jillapun.convert("a¥b".encode(), "utf-8", "shift_jis")
-    Converted(output=b'a\\\\b', faults=[], faithful=False)
+    Converted(output=b'a\\\\b', losses=[], faithful=False)
 
-The second is what no count of faults tells: the yen sign is written as a byte that reads back as a backslash. The work
+The second is what no count of losses tells: the yen sign is written as a byte that reads back as a backslash. The work
 is done by a library that is proved, `libjillapun.so`; this package needs nothing else but the standard library.
 
 - `decode`, `encode`, `convert`: whole texts and inputs in memory.
@@ -15,13 +15,14 @@ is done by a library that is proved, `libjillapun.so`; this package needs nothin
 - `register`: codecs for Python's own `open`, `bytes.decode` and all else that is handed a name of an encoding.
 - `which`: how each encoding reads an input, without a guess.
 - `Indexes`: the indexes of encodings, from another folder than that of the installation. `name`, `output_name`: labels.
+- `part_encoding`: whether an input can be converted in parts, and as what.
 
 A label that no encoding has raises `UnknownLabel`, which is a `LookupError`. Calls from several threads at once are
 made at once: Python's lock is let go while the library works, unless it decodes or encodes at most 1 KiB.
 """
 
 from ._files import convert_file
-from ._indexes import Indexes, default_folder, name, output_name
+from ._indexes import Indexes, default_folder, name, output_name, part_encoding
 from ._results import (
     Bad,
     Converted,
@@ -80,6 +81,7 @@ __all__ = [
     "name",
     "open",
     "output_name",
+    "part_encoding",
     "register",
     "which",
 ]

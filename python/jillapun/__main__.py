@@ -13,7 +13,7 @@ from . import _commands as commands
 from . import _library as c
 from ._files import convert_with
 from ._names import shown
-from ._results import Faults
+from ._results import Losses
 from ._terminal import Terminal, Unsaid, complain, is_heard, unheard
 from ._words import convert_parser
 
@@ -31,7 +31,7 @@ def words_of(arguments: List[str]) -> argparse.Namespace:
     return words
 
 
-class Lines(Faults):
+class Lines(Losses):
     """The losses of a file, each a line."""
 
     def __init__(self, name: str, terminal: Terminal):

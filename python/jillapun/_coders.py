@@ -10,6 +10,38 @@ from ._results import refuse
 INPUT_EMPTY, OUTPUT_FULL, MALFORMED, UNMAPPABLE = range(4)
 
 
+class DecoderWords(ctypes.Structure):
+    """What a decoder's handle tells the library of the decoder."""
+
+    _fields_ = [
+        ("is_there", ctypes.c_bool),
+        ("is_finished", ctypes.c_bool),
+        ("encoding", c.Byte),
+        ("may_be_utf8", ctypes.c_bool),
+        ("may_be_utf16", ctypes.c_bool),
+        ("ahead", c.Size),
+        ("pending", c.Size),
+    ]
+
+
+class EncoderWords(ctypes.Structure):
+    """What an encoder's handle tells the library of the encoder."""
+
+    _fields_ = [("is_there", ctypes.c_bool), ("has_pending_state", ctypes.c_bool), ("encoding", c.Byte)]
+
+
+class Decoder(ctypes.Structure):
+    """The handle of a decoder; it is never copied."""
+
+    _fields_ = [("coder", c.Handle), ("words", DecoderWords)]
+
+
+class Encoder(ctypes.Structure):
+    """The handle of an encoder; it is never copied."""
+
+    _fields_ = [("coder", c.Handle), ("words", EncoderWords)]
+
+
 class Progress(ctypes.Structure):
     """What a call of a decoder did."""
 
@@ -42,37 +74,37 @@ def _declared(name: str, *parameters: Any) -> Any:
     return call
 
 
-_HANDLE, _WRITTEN = ctypes.POINTER(c.Handle), ctypes.POINTER(c.Size)
+_DECODER, _ENCODER, _WRITTEN = ctypes.POINTER(Decoder), ctypes.POINTER(Encoder), ctypes.POINTER(c.Size)
 _LENT, _ROOM = (ctypes.c_char_p, c.Size), (ctypes.c_void_p, c.Size)
-_STEP = (_HANDLE, *_ROOM, *_ROOM, ctypes.c_bool)
-_DECODER, _ENCODER = (*_STEP, ctypes.POINTER(Progress)), (*_STEP, ctypes.POINTER(EncoderProgress))
+_STEP = (*_ROOM, *_ROOM, ctypes.c_bool)
+_DECODE, _ENCODE = (_DECODER, *_STEP, ctypes.POINTER(Progress)), (_ENCODER, *_STEP, ctypes.POINTER(EncoderProgress))
 
 decode_whole = _declared("jillapun_decode", c.Tables, c.Byte, c.Byte, *_LENT, *_ROOM, _WRITTEN)
 encode_whole = _declared("jillapun_encode", c.Tables, c.Byte, *_LENT, *_ROOM, _WRITTEN)
-decode_replacing = _declared("jillapun_decoder_decode_to_utf8", *_DECODER)
-decode_stopping = _declared("jillapun_decoder_decode_to_utf8_without_replacement", *_DECODER)
-encode_replacing = _declared("jillapun_encoder_encode_from_utf8", *_ENCODER)
-encode_stopping = _declared("jillapun_encoder_encode_from_utf8_without_replacement", *_ENCODER)
+decode_replacing = _declared("jillapun_decoder_decode_to_utf8", *_DECODE)
+decode_stopping = _declared("jillapun_decoder_decode_to_utf8_without_replacement", *_DECODE)
+encode_replacing = _declared("jillapun_encoder_encode_from_utf8", *_ENCODE)
+encode_stopping = _declared("jillapun_encoder_encode_from_utf8_without_replacement", *_ENCODE)
 
-encoding_in_force = _declared("jillapun_decoder_encoding", _HANDLE)
+encoding_in_force = _declared("jillapun_decoder_encoding", _DECODER)
 
-_new_decoder = _declared("jillapun_decoder_new", c.Tables, c.Byte, c.Byte, _HANDLE)
-_new_encoder = _declared("jillapun_encoder_new", c.Tables, c.Byte, _HANDLE)
+_new_decoder = _declared("jillapun_decoder_new", c.Tables, c.Byte, c.Byte, _DECODER)
+_new_encoder = _declared("jillapun_encoder_new", c.Tables, c.Byte, _ENCODER)
 free_decoder, free_encoder = c.library["jillapun_decoder_free"], c.library["jillapun_encoder_free"]
-for _free in (free_decoder, free_encoder):
-    _free.restype, _free.argtypes = None, [_HANDLE]
+for _free, _handle in ((free_decoder, _DECODER), (free_encoder, _ENCODER)):
+    _free.restype, _free.argtypes = None, [_handle]
 
 
-def new_decoder(tables: c.Tables, encoding: int, mark: int) -> c.Handle:
+def new_decoder(tables: c.Tables, encoding: int, mark: int) -> Decoder:
     """A decoder of a new stream; `free_decoder` ends it."""
-    handle = c.Handle()
+    handle = Decoder()
     checked(_new_decoder(tables, encoding, mark, handle))
     return handle
 
 
-def new_encoder(tables: c.Tables, encoding: int) -> c.Handle:
+def new_encoder(tables: c.Tables, encoding: int) -> Encoder:
     """An encoder of a new stream; `free_encoder` ends it."""
-    handle = c.Handle()
+    handle = Encoder()
     checked(_new_encoder(tables, encoding, handle))
     return handle
 

@@ -11,7 +11,7 @@ from typing import BinaryIO, Callable, Iterator, List, Optional, Tuple, Union, c
 from . import _library as c
 from ._indexes import Indexes, PathLike
 from ._parts import Job, put_parts
-from ._results import ConvertedFile, Fault, Faults, JillapunError, NotReplaced, Report, Stopped
+from ._results import ConvertedFile, JillapunError, Loss, Losses, NotReplaced, Report, Stopped
 from ._steps import Conversion, chunk_of
 
 
@@ -169,14 +169,14 @@ class _Place:
 
 
 def _put_all(
-    conversion: Conversion, faults: Faults, given: BinaryIO, made: BinaryIO, progress: Optional[Callable[[int], object]]
+    conversion: Conversion, losses: Losses, given: BinaryIO, made: BinaryIO, progress: Optional[Callable[[int], object]]
 ) -> Report:
     """Converts a file to its end, and returns what is told of it."""
     read = 0
     while not conversion.report:
         data = chunk_of(given)
         try:
-            made.write(conversion.put(data, not data, faults))
+            made.write(conversion.put(data, not data, losses))
         except Stopped as stop:
             # It is a part, and of no use without what is thrown away.
             stop.output = b""
@@ -188,7 +188,7 @@ def _put_all(
 
 
 def convert_with(
-    faults: Faults,
+    losses: Losses,
     source_path: PathLike,
     target_path: PathLike,
     source: str,
@@ -203,7 +203,7 @@ def convert_with(
     processes: int = 1,
     progress: Optional[Callable[[int], object]] = None,
 ) -> ConvertedFile:
-    """`convert_file`, with what is lost handed to `faults`."""
+    """`convert_file`, with what is lost handed to `losses`."""
     if processes < 1:
         raise ValueError("%d processes" % processes)
     job = Job(source, target, mark, unmappable, c.limit_of(limit), indexes)
@@ -214,13 +214,13 @@ def convert_with(
         is_in_place = place.old is not None and os.path.samestat(os.stat(place.path), before)
         later = job.later(given) if processes > 1 else None
         if later:
-            report = put_parts((job, later), faults, given, made, processes, progress)
+            report = put_parts((job, later), losses, given, made, processes, progress)
         else:
-            report = _put_all(conversion, faults, given, made, progress)
-        done = ConvertedFile(*report, faults.kept)
+            report = _put_all(conversion, losses, given, made, progress)
+        done = ConvertedFile(*report[:4], losses.kept, report.characters)
         if is_in_place and not (done.faithful or lossy or backup):
             raise NotReplaced(done)
-        faults.end(done)
+        losses.end(done)
         # The permissions of a pipe or a device, as /dev/null, say nothing of who may read what came from it.
         place.finish(made, before.st_mode & (0o777 if stat.S_ISREG(before.st_mode) else 0o600))
         if is_in_place:
@@ -241,8 +241,8 @@ def convert_file(
     indexes: Optional[Indexes] = None,
     lossy: bool = False,
     backup: Optional[str] = None,
-    on_fault: Optional[Callable[[Fault], object]] = None,
-    keep_faults: int = 0,
+    on_loss: Optional[Callable[[Loss], object]] = None,
+    keep_losses: int = 0,
     processes: int = 1,
     progress: Optional[Callable[[int], object]] = None,
 ) -> ConvertedFile:
@@ -257,16 +257,16 @@ def convert_file(
     Where both paths lead to one file, it is replaced only if nothing is lost, or with `lossy` or `backup`. Otherwise it
     stays as it was, and `NotReplaced` is raised, which has the counts. Other hard links of it keep what it was.
 
-    What is lost is counted, and handed to `on_fault` as it comes, a `Bad` or a `Lost`, in the order of the text; the
-    first `keep_faults` of them are kept. `progress` is called after each chunk, with how many bytes have been read.
+    What is lost is counted, and handed to `on_loss` as it comes, a `Bad` or a `Lost`, in the order of the text; the
+    first `keep_losses` of them are kept. `progress` is called after each chunk, with how many bytes have been read.
 
     `processes` is how many processors may work at once: so many threads each convert a part of 2 MiB or more. The
     output, what is told of losses, and the result are those of one. An input is one part if it is no regular file, if
     it is in UTF-16, ISO-2022-JP or replacement, or if the output is in ISO-2022-JP.
 
-    Raises what `convert` does, `OSError`, and what `on_fault` or `progress` raise. After an exception the target is as
+    Raises what `convert` does, `OSError`, and what `on_loss` or `progress` raise. After an exception the target is as
     it was; a `Stopped` has no output."""
     return convert_with(
-        Faults(keep_faults, on_fault), source_path, target_path, source, target, mark=mark, unmappable=unmappable,
+        Losses(keep_losses, on_loss), source_path, target_path, source, target, mark=mark, unmappable=unmappable,
         limit=limit, indexes=indexes, lossy=lossy, backup=backup, processes=processes, progress=progress,
     )  # fmt: skip

@@ -67,6 +67,7 @@ class Report(ctypes.Structure):
         ("read", Long),
         ("bad", Long),
         ("lost", Long),
+        ("characters", Long),
         ("written", Long),
         ("losses", Long),
         ("index", Long),
@@ -128,6 +129,7 @@ def streams() -> ctypes.CDLL:
     _declare("jillapun_converter_step", Byte, _HANDLE, *_ROOM, ctypes.c_bool, *_ROOM, *_ROOM, *told)
     _declare("jillapun_converter_free", None, _HANDLE)
     _declare("jillapun_for_bom", Byte, *_LENT, ctypes.POINTER(Size))
+    _declare("jillapun_part_encoding", Byte, Byte, Byte, Byte, *_LENT)
     return library
 
 

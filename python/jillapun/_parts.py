@@ -4,7 +4,6 @@ It may be cut behind any byte below 30, hexadecimal, if its encoding and the out
 this law is proved (docs/PROOFS.md, *Parts are the whole*). The cutting and the joining here are only tested.
 """
 
-import ctypes
 import io
 import os
 import re
@@ -13,20 +12,14 @@ from collections import deque
 from concurrent.futures import Future, ThreadPoolExecutor
 from typing import BinaryIO, Callable, Deque, Iterator, List, NamedTuple, Optional, Tuple, cast
 
-from . import _library as c
-from ._indexes import Indexes, name, name_of, output_name
-from ._results import Faults, Lost, Report, Stopped
-from ._steps import CHUNK, Conversion
+from ._indexes import Indexes, part_encoding
+from ._results import Losses, Report, Stopped
+from ._steps import Conversion
 
 # A part has at least so many bytes, unless it is the last.
 PART = 1 << 21
 
-_NOT_ASCII_COMPATIBLE = {"UTF-16BE", "UTF-16LE", "ISO-2022-JP", "replacement"}
-
 _FIND_CUT = re.compile(b"[\0-/]").search
-
-# The bytes of a text in UTF-8 that begin no character.
-_CONTINUATIONS = bytes(range(0x80, 0xC0))
 
 
 class Job(NamedTuple):
@@ -44,38 +37,21 @@ class Job(NamedTuple):
         file is at its start, and stays there."""
         if not stat.S_ISREG(os.fstat(given.fileno()).st_mode):
             return None
-        head, source = given.read(3), name(self.source)
+        head = given.read(3)
         given.seek(0)
-        if self.mark == "sniff":
-            marked = c.streams().jillapun_for_bom(head, len(head), ctypes.byref(c.Size()))
-            source = source if marked == c.NO_ENCODING else name_of(marked)
-        if _NOT_ASCII_COMPATIBLE & {source, output_name(self.target)}:
-            return None
-        return self._replace(source=source, mark="keep")
-
-
-class _Count:
-    """How many characters some bytes stand for."""
-
-    def __init__(self, job: Job):
-        self._conversion = Conversion(*job._replace(target="utf-8", limit=c.NO_LIMIT))
-        self.characters = 0
-
-    def add(self, data: bytes, last: bool) -> None:
-        text = self._conversion.put(data, last, Faults())
-        self.characters += len(text.translate(None, _CONTINUATIONS))
+        source = part_encoding(head, self.source, self.target, mark=self.mark)
+        return self._replace(source=source, mark="keep") if source else None
 
 
 class _Part:
-    """A part of the input, with its conversion, and its count if one is asked for."""
+    """A part of the input, with its conversion."""
 
-    def __init__(self, job: Job, start: int, is_counted: bool):
-        self.job, self.start = job, start
+    def __init__(self, job: Job, start: int):
+        self.start = start
         self.conversion = Conversion(*job._replace(limit=max(job.limit - start, 0)))
-        self.count = _Count(job) if is_counted else None
 
 
-class _Block(Faults):
+class _Block(Losses):
     """The next bytes of a part, of which most have one block: what they give, and what they lose, by its place in the
     part. Or the fault that came instead of bytes."""
 
@@ -87,11 +63,9 @@ class _Block(Faults):
         self.length = sum(map(len, data))
         self.output: List[bytes] = []
         self.records: List[bytes] = []
-        self.has_lost = False
 
     def add(self, records: bytes, offset: int = 0, index: int = 0) -> None:
         self.records.append(records)
-        self.has_lost = self.has_lost or c.LOST in records[c.KIND :: c.LOSS.size]
 
     def convert(self, before: "Optional[Future[None]]") -> None:
         """Converts the bytes, after those of the part that stand before them."""
@@ -99,35 +73,25 @@ class _Block(Faults):
             before.exception()
         if self.fault:
             raise self.fault
-        part, count, data = self.part, self.part.count, self.data
-        self.data = b"", b""
+        data, self.data = self.data, (b"", b"")
         for piece, last in zip(data, (False, self.is_last)):
-            self.output.append(part.conversion.put(piece, last, self))
-            if count:
-                count.add(piece, last)
-
-
-# A part whose characters are not counted: its job, its start and its end.
-_Uncounted = Tuple[Job, int, int]
+            self.output.append(self.part.conversion.put(piece, last, self))
 
 
 class _Parts:
     """The parts of a file: how it is cut, and what is told of those that were joined so far."""
 
-    def __init__(self, first: Job, later: Job, given: io.BufferedReader, pool: ThreadPoolExecutor):
-        self._first, self._later, self._given, self._pool = first, later, given, pool
-        self.report = Report(0, 0, 0, True)
-        # How many characters stand before the next part, without those of parts that are not counted. From the first
-        # lost character on, each part is counted as it is converted.
-        self._characters, self._is_counted = 0, False
-        self._uncounted: List[_Uncounted] = []
+    def __init__(self, first: Job, later: Job, given: io.BufferedReader):
+        self._first, self._later, self._given = first, later, given
+        # What is told of the parts that were joined to their ends.
+        self.report = Report(0, 0, 0, True, 0)
 
     def blocks(self) -> Iterator[_Block]:
         """The blocks of the file. A part ends behind the first byte after a block that can be cut behind, if it is
         near, and otherwise goes on with the next block."""
         job, start, part = self._first, 0, None
         while True:
-            part = part or _Part(job, start, self._is_counted)
+            part = part or _Part(job, start)
             try:
                 data = self._given.read(PART)
                 found = _FIND_CUT(self._given.peek()) if data else None
@@ -142,42 +106,25 @@ class _Parts:
             if block.is_last:
                 job, part = self._later, None
 
-    def _counted(self, part: _Uncounted) -> int:
-        """How many characters a part has: its bytes are read again."""
-        job, start, end = part
-        count = _Count(job)
-        for at in range(start, end, CHUNK):
-            count.add(os.pread(self._given.fileno(), min(CHUNK, end - at), at), at + CHUNK >= end)
-        return count.characters
-
-    def _count(self) -> None:
-        self._is_counted = True
-        self._characters += sum(self._pool.map(self._counted, self._uncounted))
-        self._uncounted.clear()
-
-    def join(self, block: _Block, made: BinaryIO, faults: Faults) -> None:
+    def join(self, block: _Block, made: BinaryIO, losses: Losses) -> None:
         """Hands on what the next block gives and loses, or raises what came in between."""
-        fault, part = block.done.exception(), block.part
-        if block.has_lost:
-            self._count()
+        fault, part, before = block.done.exception(), block.part, self.report.characters
         for records in block.records:
-            faults.add(records, part.start, self._characters)
+            losses.add(records, part.start, before)
         if isinstance(fault, Stopped):
-            lost = fault.lost._replace(index=self._characters + fault.lost.index)
-            raise Stopped(lost, faults=faults.up_to(lost))
+            lost = fault.lost._replace(index=before + fault.lost.index)
+            raise Stopped(lost, losses=losses.up_to(lost))
         if fault:
             raise fault
         made.writelines(block.output)
         if block.is_last:
-            self._end(part)
+            self._end(cast(Report, part.conversion.report))
 
-    def _end(self, part: _Part) -> None:
-        told, (read, bad, lost, faithful) = cast(Report, part.conversion.report), self.report
-        self.report = Report(read + told.read, bad + told.bad, lost + told.lost, faithful and told.faithful)
-        if part.count:
-            self._characters += part.count.characters
-        else:
-            self._uncounted.append((part.job, part.start, part.start + told.read))
+    def _end(self, told: Report) -> None:
+        read, bad, lost, faithful, characters = self.report
+        self.report = Report(
+            read + told.read, bad + told.bad, lost + told.lost, faithful and told.faithful, characters + told.characters
+        )
 
 
 def _ahead(blocks: Iterator[_Block], pool: ThreadPoolExecutor, count: int) -> Iterator[_Block]:
@@ -195,7 +142,7 @@ def _ahead(blocks: Iterator[_Block], pool: ThreadPoolExecutor, count: int) -> It
 
 def put_parts(
     jobs: Tuple[Job, Job],
-    faults: Faults,
+    losses: Losses,
     given: io.BufferedReader,
     made: BinaryIO,
     processes: int,
@@ -204,10 +151,10 @@ def put_parts(
     """Converts a file to its end, so many parts at a time, and returns what is told of it. The jobs are those of the
     first part and of the others."""
     pool, read = ThreadPoolExecutor(processes), 0
-    parts = _Parts(*jobs, given, pool)
+    parts = _Parts(*jobs, given)
     try:
         for block in _ahead(parts.blocks(), pool, processes + 1):
-            parts.join(block, made, faults)
+            parts.join(block, made, losses)
             read += block.length
             if progress:
                 progress(read)

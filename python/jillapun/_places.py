@@ -41,15 +41,15 @@ class _Text:
         self.line, self.column, self._count = 1, 1, 0
         self._lost: List[Lost] = []
         self._name = output_name(target)
-        self._encoder = Encoder(target, indexes=indexes, on_fault=self._lost.append)
+        self._encoder = Encoder(target, indexes=indexes, on_loss=self._lost.append)
 
     def places(self, part: str) -> Iterator[Place]:
         """The places of the characters without bytes in the next part."""
         self._encoder.encode(part)
         at, first = 0, self._count
-        for fault in self._lost:
-            self._go(part, at, fault.index - first)
-            at = fault.index - first
+        for lost in self._lost:
+            self._go(part, at, lost.index - first)
+            at = lost.index - first
             yield Place(self.line, self.column, part[at], self._name)
         self._lost.clear()
         self._go(part, at, len(part))

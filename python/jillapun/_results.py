@@ -29,7 +29,7 @@ class Lost(NamedTuple):
         return "lost %d %d" % (self.index, ord(self.character))
 
 
-Fault = Union[Bad, Lost]
+Loss = Union[Bad, Lost]
 
 
 class Decoded(NamedTuple):
@@ -37,7 +37,7 @@ class Decoded(NamedTuple):
 
     text: str
     """The text, with U+FFFD for each malformed sequence."""
-    faults: List[Bad]
+    losses: List[Bad]
     """The malformed sequences, in their order."""
 
 
@@ -46,7 +46,7 @@ class Encoded(NamedTuple):
 
     data: bytes
     """The bytes, with a reference, as `&#26085;`, for each character that has none."""
-    faults: List[Lost]
+    losses: List[Lost]
     """The characters without bytes, in their order."""
     faithful: bool
     """Whether the bytes, read again, are the text."""
@@ -57,11 +57,11 @@ class Converted(NamedTuple):
 
     output: bytes
     """The bytes in the output encoding."""
-    faults: List[Fault]
+    losses: List[Loss]
     """What was malformed, and which characters have no bytes, in their order."""
     faithful: bool
     """Whether nothing was malformed, and the output, read again, is the text of the input. It can be false where
-    `faults` is empty: some encodings write a character as bytes that read back as another."""
+    `losses` is empty: some encodings write a character as bytes that read back as another."""
 
 
 class ConvertedPart(NamedTuple):
@@ -69,7 +69,7 @@ class ConvertedPart(NamedTuple):
 
     output: bytes
     """The bytes in the output encoding that the part decides; what is undecided waits for more."""
-    faults: List[Fault]
+    losses: List[Loss]
     """What was malformed, and which characters have no bytes, in their order. Offsets and indexes count from the start
     of the stream."""
 
@@ -86,6 +86,8 @@ class Report(NamedTuple):
     faithful: bool
     """Whether nothing was malformed, and the output, read again, is the text of the input. It can be false where both
     counts are 0: some encodings write a character as bytes that read back as another."""
+    characters: int
+    """How many characters the text has, with U+FFFD for each malformed sequence, and without a mark that was taken."""
 
     @property
     def summary(self) -> str:
@@ -103,13 +105,14 @@ class ConvertedFile(NamedTuple):
     bad: int
     lost: int
     faithful: bool
-    kept_faults: List[Fault]
+    kept_losses: List[Loss]
     """The first of what was malformed or has no bytes, in their order: as many as the call was asked to keep."""
+    characters: int
 
     @property
     def summary(self) -> str:
         """What was lost, in words."""
-        return Report(*self[:4]).summary
+        return Report(*self[:4], self.characters).summary
 
 
 class JillapunError(Exception):
@@ -131,13 +134,13 @@ class TooLong(JillapunError):
 class Stopped(JillapunError):
     """The policy is `stop`, and a character has no bytes in the output encoding."""
 
-    def __init__(self, lost: Lost, output: bytes = b"", faults: List[Fault] = []):
+    def __init__(self, lost: Lost, output: bytes = b"", losses: List[Loss] = []):
         super().__init__("no bytes for U+%04X, before which %d characters stand" % (ord(lost.character), lost.index))
         self.lost = lost
         """The character."""
         self.output = output
         """What was written before it, of a stream by the last call; empty where a file is converted."""
-        self.faults = list(faults)
+        self.losses = list(losses)
         """What was lost up to it, with it: of a `Converter` in the last call, of other streams and of a file what was
         kept of that, and it."""
 
@@ -152,20 +155,20 @@ class NotReplaced(JillapunError):
         """What is told of the conversion."""
 
 
-def faults_in(records: bytes, offset: int = 0, index: int = 0) -> Iterator[Fault]:
+def losses_in(records: bytes, offset: int = 0, index: int = 0) -> Iterator[Loss]:
     """The losses that stand in records of the library, made one by one: most are forgotten at once. The records count
     from so many bytes and so many characters."""
     for place, number, kind in c.LOSS.iter_unpack(records):
         yield Bad(offset + place, number) if kind == c.BAD else Lost(index + place, chr(number))
 
 
-class Faults:
+class Losses:
     """What a stream has lost so far: how much, and the first of it. Each loss is handed on as it comes."""
 
-    def __init__(self, keep: int = 0, on_fault: Optional[Callable[[Any], object]] = None):
+    def __init__(self, keep: int = 0, on_loss: Optional[Callable[[Any], object]] = None):
         self.bad = self.lost = 0
         self.kept: List[Any] = []
-        self._keep, self._on_fault = keep, on_fault
+        self._keep, self._on_loss = keep, on_loss
 
     def add(self, records: bytes, offset: int = 0, index: int = 0) -> None:
         """Takes the next losses. Their records count from so many bytes and so many characters."""
@@ -173,15 +176,15 @@ class Faults:
         bad = kinds.count(c.BAD)
         self.bad += bad
         self.lost += len(kinds) - bad
-        self.kept += faults_in(records[: max(self._keep - len(self.kept), 0) * c.LOSS.size], offset, index)
-        if self._on_fault:
-            for fault in faults_in(records, offset, index):
-                self._on_fault(fault)
+        self.kept += losses_in(records[: max(self._keep - len(self.kept), 0) * c.LOSS.size], offset, index)
+        if self._on_loss:
+            for loss in losses_in(records, offset, index):
+                self._on_loss(loss)
 
     def end(self, done: ConvertedFile) -> None:
         """Is told of a file that was converted, before its output is put in its place."""
 
-    def up_to(self, last: Lost) -> List[Fault]:
+    def up_to(self, last: Lost) -> List[Loss]:
         """What was kept, and the last loss, if it was not."""
         return [*self.kept, *([last] if self.bad + self.lost > len(self.kept) else [])]
 

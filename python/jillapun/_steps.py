@@ -6,7 +6,7 @@ from typing import BinaryIO, List, Optional, Tuple
 
 from . import _library as c
 from ._indexes import Indexes, handle_of, number_of
-from ._results import Faults, Lost, Report, Stopped, refuse
+from ._results import Losses, Lost, Report, Stopped, refuse
 from ._rooms import rooms
 
 # How many bytes a file is read by.
@@ -27,19 +27,19 @@ class Conversion:
         self._lock, self.is_over = threading.RLock(), False
         self.report: Optional[Report] = None
 
-    def put(self, data: bytes, last: bool, faults: Faults) -> bytes:
-        """What these bytes give, and, if they are the last, the end of the input. What they lose goes to `faults`."""
+    def put(self, data: bytes, last: bool, losses: Losses) -> bytes:
+        """What these bytes give, and, if they are the last, the end of the input. What they lose goes to `losses`."""
         with self._lock:
             if self.is_over:
                 raise ValueError("the stream has ended")
             # A callback may call again, and is told that the stream has ended.
             self.is_over = True
-            status, output = self._steps(data, last, faults)
-            self._end(status, output, faults)
+            status, output = self._steps(data, last, losses)
+            self._end(status, output, losses)
             self.is_over = last
             return output
 
-    def _steps(self, data: bytes, last: bool, faults: Faults) -> Tuple[int, bytes]:
+    def _steps(self, data: bytes, last: bool, losses: Losses) -> Tuple[int, bytes]:
         """Converts the bytes: the status of the last step, and what all steps gave."""
         status, at, room, progress = c.GOES_ON, 0, rooms.take(), self._progress
         parts: List[bytes] = []
@@ -50,19 +50,19 @@ class Conversion:
             )
             at += progress.read
             if progress.losses:
-                faults.add(room.losses[: progress.losses * c.LOSS.size])
+                losses.add(room.losses[: progress.losses * c.LOSS.size])
             parts.append(room.bytes[: progress.written])
         rooms.give(room)
         return status, b"".join(parts)
 
-    def _end(self, status: int, output: bytes, faults: Faults) -> None:
+    def _end(self, status: int, output: bytes, losses: Losses) -> None:
         """Keeps what is told at the end of the input, or raises what the status says if the conversion ended before."""
         told = self._told
         if status in (c.OK, c.LOSSY):
-            self.report = Report(told.read, told.bad, told.lost, status == c.OK)
+            self.report = Report(told.read, told.bad, told.lost, status == c.OK, told.characters)
         elif status == c.STOPPED:
             lost = Lost(told.index, chr(told.scalar))
-            raise Stopped(lost, output, faults.up_to(lost))
+            raise Stopped(lost, output, losses.up_to(lost))
         elif status != c.GOES_ON:
             refuse(status)
 

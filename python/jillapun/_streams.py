@@ -7,7 +7,7 @@ from typing import Any, BinaryIO, Callable, Dict, List, Literal, Optional, Union
 
 from . import _library as c
 from ._indexes import Indexes, PathLike
-from ._results import Bad, ConvertedPart, Faults, Lost, Report, Stopped
+from ._results import Bad, ConvertedPart, Losses, Lost, Report, Stopped
 from ._steps import Conversion, chunk_of
 
 _UTF_8 = "utf-8"
@@ -16,8 +16,8 @@ _UTF_8 = "utf-8"
 class Decoder:
     """Decodes a stream chunk by chunk, wherever it is cut. Calls of several threads wait for one another.
 
-    What is malformed is counted, and handed to `on_fault` as it comes: a `Bad`, with its offset from the start of the
-    stream. The first `keep_faults` of them are kept. What `on_fault` raises, `decode` raises, and the stream has ended.
+    What is malformed is counted, and handed to `on_loss` as it comes: a `Bad`, with its offset from the start of the
+    stream. The first `keep_losses` of them are kept. What `on_loss` raises, `decode` raises, and the stream has ended.
     """
 
     def __init__(
@@ -26,33 +26,33 @@ class Decoder:
         *,
         mark: str = "remove",
         indexes: Optional[Indexes] = None,
-        on_fault: Optional[Callable[[Bad], object]] = None,
-        keep_faults: int = 0,
+        on_loss: Optional[Callable[[Bad], object]] = None,
+        keep_losses: int = 0,
     ):
-        self._faults = Faults(keep_faults, on_fault)
+        self._losses = Losses(keep_losses, on_loss)
         self._conversion = Conversion(encoding, _UTF_8, mark, "decimal", c.NO_LIMIT, indexes)
 
     @property
     def bad(self) -> int:
         """How many sequences were malformed so far."""
-        return self._faults.bad
+        return self._losses.bad
 
     @property
-    def kept_faults(self) -> List[Bad]:
+    def kept_losses(self) -> List[Bad]:
         """The first of them."""
-        return list(self._faults.kept)
+        return list(self._losses.kept)
 
     def decode(self, data: bytes, last: bool = False) -> str:
         """The text that these bytes decide; what is undecided waits for more. `last` ends the stream, and after it no
         more can be decoded."""
-        return self._conversion.put(c.bytes_of(data), last, self._faults).decode()
+        return self._conversion.put(c.bytes_of(data), last, self._losses).decode()
 
 
 class Encoder:
     """Encodes a text chunk by chunk. Calls of several threads wait for one another.
 
-    Characters that have no bytes are counted, and handed to `on_fault` as they come: a `Lost`, with how many characters
-    of the text stand before it. The first `keep_faults` of them are kept. What `on_fault` raises, `encode` raises, and
+    Characters that have no bytes are counted, and handed to `on_loss` as they come: a `Lost`, with how many characters
+    of the text stand before it. The first `keep_losses` of them are kept. What `on_loss` raises, `encode` raises, and
     the text has ended.
     """
 
@@ -62,21 +62,21 @@ class Encoder:
         *,
         unmappable: str = "decimal",
         indexes: Optional[Indexes] = None,
-        on_fault: Optional[Callable[[Lost], object]] = None,
-        keep_faults: int = 0,
+        on_loss: Optional[Callable[[Lost], object]] = None,
+        keep_losses: int = 0,
     ):
-        self._faults = Faults(keep_faults, on_fault)
+        self._losses = Losses(keep_losses, on_loss)
         self._conversion = Conversion(_UTF_8, encoding, "keep", unmappable, c.NO_LIMIT, indexes)
 
     @property
     def lost(self) -> int:
         """How many characters so far have no bytes."""
-        return self._faults.lost
+        return self._losses.lost
 
     @property
-    def kept_faults(self) -> List[Lost]:
+    def kept_losses(self) -> List[Lost]:
         """The first of them."""
-        return list(self._faults.kept)
+        return list(self._losses.kept)
 
     @property
     def faithful(self) -> Optional[bool]:
@@ -87,7 +87,7 @@ class Encoder:
     def encode(self, text: str, last: bool = False) -> bytes:
         """The bytes of these characters. `last` ends the text, and after it no more can be encoded. For a character
         without bytes its reference is written, or, with "stop", `Stopped` is raised, which has what was written."""
-        return self._conversion.put(text.encode(), last, self._faults)
+        return self._conversion.put(text.encode(), last, self._losses)
 
 
 class Converter:
@@ -98,11 +98,11 @@ class Converter:
 
     >>> converter = Converter("shift_jis", "utf-8")
     >>> converter.convert(b"A\\x83")
-    ConvertedPart(output=b'A', faults=[])
+    ConvertedPart(output=b'A', losses=[])
     >>> converter.convert(b"\\x6e\\xff", last=True)
-    ConvertedPart(output=b'\\xe3\\x83\\x8f\\xef\\xbf\\xbd', faults=[Bad(offset=3, length=1)])
+    ConvertedPart(output=b'\\xe3\\x83\\x8f\\xef\\xbf\\xbd', losses=[Bad(offset=3, length=1)])
     >>> converter.report
-    Report(read=4, bad=1, lost=0, faithful=False)
+    Report(read=4, bad=1, lost=0, faithful=False, characters=3)
     """
 
     def __init__(
@@ -126,8 +126,8 @@ class Converter:
         """The output that these bytes decide, and what is found lost in it; what is undecided waits for more. `last`
         ends the stream, and after it no more can be converted. Raises `TooLong` if the stream has more than `limit`
         bytes, and what this call made is gone then; and `Stopped`, which has what this call wrote and found."""
-        faults = Faults(keep=sys.maxsize)
-        return ConvertedPart(self._conversion.put(c.bytes_of(data), last, faults), faults.kept)
+        losses = Losses(keep=sys.maxsize)
+        return ConvertedPart(self._conversion.put(c.bytes_of(data), last, losses), losses.kept)
 
 
 class Reader(io.TextIOBase):
@@ -141,10 +141,10 @@ class Reader(io.TextIOBase):
         *,
         mark: str = "sniff",
         indexes: Optional[Indexes] = None,
-        on_fault: Optional[Callable[[Bad], object]] = None,
-        keep_faults: int = 0,
+        on_loss: Optional[Callable[[Bad], object]] = None,
+        keep_losses: int = 0,
     ):
-        self._decoder = Decoder(encoding, mark=mark, indexes=indexes, on_fault=on_fault, keep_faults=keep_faults)
+        self._decoder = Decoder(encoding, mark=mark, indexes=indexes, on_loss=on_loss, keep_losses=keep_losses)
         self._file = file
         self._text, self._at, self._is_ended = "", 0, False
 
@@ -154,9 +154,9 @@ class Reader(io.TextIOBase):
         return self._decoder.bad
 
     @property
-    def kept_faults(self) -> List[Bad]:
+    def kept_losses(self) -> List[Bad]:
         """The first of them."""
-        return self._decoder.kept_faults
+        return self._decoder.kept_losses
 
     def readable(self) -> bool:
         return True
@@ -213,11 +213,11 @@ class Writer(io.TextIOBase):
         *,
         unmappable: str = "decimal",
         indexes: Optional[Indexes] = None,
-        on_fault: Optional[Callable[[Lost], object]] = None,
-        keep_faults: int = 0,
+        on_loss: Optional[Callable[[Lost], object]] = None,
+        keep_losses: int = 0,
     ):
         self._encoder = Encoder(
-            encoding, unmappable=unmappable, indexes=indexes, on_fault=on_fault, keep_faults=keep_faults
+            encoding, unmappable=unmappable, indexes=indexes, on_loss=on_loss, keep_losses=keep_losses
         )
         # A raw file may take less than it is handed.
         self._file: Any = io.BufferedWriter(cast(Any, file)) if isinstance(file, io.RawIOBase) else file
@@ -228,9 +228,9 @@ class Writer(io.TextIOBase):
         return self._encoder.lost
 
     @property
-    def kept_faults(self) -> List[Lost]:
+    def kept_losses(self) -> List[Lost]:
         """The first of them."""
-        return self._encoder.kept_faults
+        return self._encoder.kept_losses
 
     @property
     def faithful(self) -> Optional[bool]:
@@ -275,8 +275,8 @@ def open(
     mark: str = "sniff",
     unmappable: str = "decimal",
     indexes: Optional[Indexes] = None,
-    on_fault: Optional[Callable[[Bad], object]] = None,
-    keep_faults: int = 0,
+    on_loss: Optional[Callable[[Bad], object]] = None,
+    keep_losses: int = 0,
 ) -> Reader:
     ...
 
@@ -290,8 +290,8 @@ def open(
     mark: str = "sniff",
     unmappable: str = "decimal",
     indexes: Optional[Indexes] = None,
-    on_fault: Optional[Callable[[Lost], object]] = None,
-    keep_faults: int = 0,
+    on_loss: Optional[Callable[[Lost], object]] = None,
+    keep_losses: int = 0,
 ) -> Writer:
     ...
 
@@ -304,8 +304,8 @@ def open(
     mark: str = "sniff",
     unmappable: str = "decimal",
     indexes: Optional[Indexes] = None,
-    on_fault: Optional[Callable[[Any], object]] = None,
-    keep_faults: int = 0,
+    on_loss: Optional[Callable[[Any], object]] = None,
+    keep_losses: int = 0,
 ) -> Union[Reader, Writer]:
     """A file of text in an encoding, to read (`"r"`) as a `Reader` or to write (`"w"`, `"a"`, `"x"`) as a `Writer`."""
     if mode not in ("r", "w", "a", "x"):
@@ -314,7 +314,7 @@ def open(
         # Words that are refused leave a file as it was.
         Encoder(encoding, unmappable=unmappable, indexes=indexes)
     file = cast(BinaryIO, builtins.open(path, mode + "b"))
-    told: Dict[str, Any] = {"indexes": indexes, "on_fault": on_fault, "keep_faults": keep_faults}
+    told: Dict[str, Any] = {"indexes": indexes, "on_loss": on_loss, "keep_losses": keep_losses}
     try:
         if mode == "r":
             return Reader(file, encoding, mark=mark, **told)

@@ -6,7 +6,7 @@ from typing import List, Optional, Tuple, cast
 from . import _library as c
 from ._bare import LENGTHS, NO_LIMIT, SHORT, convert_all, converting, decode_short, decoding, encode_short, encoding_to
 from ._indexes import Indexes
-from ._results import Converted, Decoded, Encoded, Fault, Faults, Lost, Report, Stopped, faults_in, refuse
+from ._results import Converted, Decoded, Encoded, Loss, Losses, Lost, Report, Stopped, losses_in, refuse
 from ._rooms import rooms
 from ._steps import Conversion
 
@@ -26,8 +26,8 @@ _new = tuple.__new__
 
 def _run(
     data: bytes, source: str, target: str, mark: str, unmappable: str, limit: int, indexes: Optional[Indexes]
-) -> Tuple[bytes, List[Fault], bool]:
-    """The output, the faults, and whether nothing was lost. If the input is short and all has room, one call does it,
+) -> Tuple[bytes, List[Loss], bool]:
+    """The output, the losses, and whether nothing was lost. If the input is short and all has room, one call does it,
     which takes less time than steps."""
     if len(data) <= _ALL_ROOM:
         words = converting(source, target, mark, unmappable, indexes)
@@ -38,13 +38,13 @@ def _run(
         is_done = status in _DONE
         if is_done:
             output = room.bytes[: room.report.written]
-            faults = list(faults_in(room.losses[: room.report.losses * c.LOSS.size])) if status else []
+            losses = list(losses_in(room.losses[: room.report.losses * c.LOSS.size])) if status else []
         _give(room)
         if status == c.STOPPED:
-            raise Stopped(cast(Lost, faults[-1]), output, faults)
+            raise Stopped(cast(Lost, losses[-1]), output, losses)
         if is_done:
-            return output, faults, status == c.OK
-    conversion, told = Conversion(source, target, mark, unmappable, limit, indexes), Faults(keep=sys.maxsize)
+            return output, losses, status == c.OK
+    conversion, told = Conversion(source, target, mark, unmappable, limit, indexes), Losses(keep=sys.maxsize)
     if len(data) > limit:
         refuse(c.TOO_LONG)
     output = conversion.put(data, True, told)
@@ -54,12 +54,12 @@ def _run(
 def decode(data: bytes, encoding: str, *, mark: str = "remove", indexes: Optional[Indexes] = None) -> Decoded:
     """The text of bytes in an encoding, and what was malformed.
 
-    Each malformed sequence is U+FFFD in the text, and has its offset and length in `faults`. `mark` says what becomes
+    Each malformed sequence is U+FFFD in the text, and has its offset and length in `losses`. `mark` says what becomes
     of a byte order mark at the start: "remove" leaves out that of the encoding, "sniff" lets one of UTF-8 or UTF-16
     decide the encoding, "keep" takes it for text.
 
     >>> decode(b"A\\x83\\x6e\\xff", "shift_jis")
-    Decoded(text='Aハ�', faults=[Bad(offset=3, length=1)])
+    Decoded(text='Aハ�', losses=[Bad(offset=3, length=1)])
     """
     at, is_open, number, at_mark = decoding(encoding, mark, indexes)
     given = data if type(data) is bytes else c.bytes_of(data)
@@ -75,8 +75,8 @@ def decode(data: bytes, encoding: str, *, mark: str = "remove", indexes: Optiona
             _give(room)
             return _new(Decoded, (text, []))
         _give(room)
-    output, faults, _ = _run(given, encoding, _UTF_8, mark, "decimal", c.NO_LIMIT, indexes)
-    return Decoded(output.decode(), faults)  # type: ignore[arg-type]
+    output, losses, _ = _run(given, encoding, _UTF_8, mark, "decimal", c.NO_LIMIT, indexes)
+    return Decoded(output.decode(), losses)  # type: ignore[arg-type]
 
 
 def encode(text: str, encoding: str, *, unmappable: str = "decimal", indexes: Optional[Indexes] = None) -> Encoded:
@@ -86,7 +86,7 @@ def encode(text: str, encoding: str, *, unmappable: str = "decimal", indexes: Op
     raised. A text with a lone surrogate is none: `UnicodeEncodeError` is raised.
 
     >>> encode("é 日", "windows-1252")
-    Encoded(data=b'\\xe9 &#26085;', faults=[Lost(index=2, character='日')], faithful=False)
+    Encoded(data=b'\\xe9 &#26085;', losses=[Lost(index=2, character='日')], faithful=False)
     """
     at, is_open, number, folded = encoding_to(encoding, unmappable, indexes)
     given = str.encode(text)
@@ -120,7 +120,7 @@ def convert(
     the input has more than `limit` bytes, and `Stopped`.
 
     >>> convert(b"caf\\xe9", "windows-1252", "utf-8")
-    Converted(output=b'caf\\xc3\\xa9', faults=[], faithful=True)
+    Converted(output=b'caf\\xc3\\xa9', losses=[], faithful=True)
     """
     most, given = c.limit_of(limit), c.bytes_of(data)
     return _new(Converted, _run(given, source, target, mark, unmappable, most, indexes))

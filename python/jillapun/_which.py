@@ -9,7 +9,7 @@ from typing import Any, BinaryIO, Callable, Dict, List, NamedTuple, Optional, Tu
 
 from . import _library as c
 from ._indexes import Indexes, PathLike, name_of
-from ._results import Faults
+from ._results import Losses
 from ._steps import Conversion, chunk_of
 from ._streams import Decoder
 
@@ -102,11 +102,11 @@ class _Reader:
     """An encoding that reads an input: how much of it is malformed, and a digest of its text."""
 
     def __init__(self, name: str, indexes: Optional[Indexes]):
-        self.name, self.faults, self.text = name, Faults(), hashlib.blake2b(digest_size=16)
+        self.name, self.losses, self.text = name, Losses(), hashlib.blake2b(digest_size=16)
         self._conversion = Conversion(name, _UTF_8, "remove", "decimal", c.NO_LIMIT, indexes)
 
     def take(self, data: bytes) -> None:
-        self.text.update(self._conversion.put(data, not data, self.faults))
+        self.text.update(self._conversion.put(data, not data, self.losses))
 
 
 def which(
@@ -137,7 +137,7 @@ def which(
     sample.end()
     alike: Dict[Tuple[Any, ...], List[str]] = {}
     for reader in readers:
-        key = reader.name == _LAST and read > 0, reader.faults.bad, reader.text.digest()
+        key = reader.name == _LAST and read > 0, reader.losses.bad, reader.text.digest()
         alike.setdefault(key, []).append(reader.name)
     groups = sorted(alike.items(), key=lambda group: group[0][:2])
     readings = [Reading(names, key[1], sample.lines(names[0], lines, read, indexes)) for key, names in groups]

@@ -35,7 +35,7 @@ _ROOM = 1 << 16
 # An input or a text so short is tried by one call first.
 _SHORT = 1 << 10
 
-# So many characters of a text are handed in at a time, and so many after a fault, since each call looks whether all are UTF-8.
+# So many characters of a text are handed in at a time, and so many after a loss, since each call looks whether all are UTF-8.
 _BLOCK, _SMALL = 1 << 14, 1 << 8
 
 
@@ -65,13 +65,13 @@ def _room() -> _Room:
 
 
 def _handled(errors: str, fault: UnicodeError, size: int) -> Tuple[Union[str, bytes], int]:
-    """What the handler of this name has in place of a fault, and where in the object, of this size, it goes on."""
+    """What the handler of this name has in place of a loss, and where in the object, of this size, it goes on."""
     result = codecs.lookup_error(errors)(fault)
     kinds = (str,) if isinstance(fault, UnicodeDecodeError) else (str, bytes)
     if not (
         isinstance(result, tuple) and len(result) == 2 and isinstance(result[0], kinds) and isinstance(result[1], int)
     ):
-        raise TypeError("the handler %r must return what stands in place of the fault, and a position" % errors)
+        raise TypeError("the handler %r must return what stands in place of the loss, and a position" % errors)
     position = result[1] + size if result[1] < 0 else result[1]
     if not 0 <= position <= size:
         raise IndexError("position %d from error handler out of bounds" % result[1])
@@ -305,7 +305,7 @@ class _Encoding:
         return b"".join(self._parts), self._state
 
     def _put_block(self, at: int, block: str) -> Optional[UnicodeEncodeError]:
-        """Encodes what stands at a place of the text, and returns the first fault in it, before which it stops."""
+        """Encodes what stands at a place of the text, and returns the first loss in it, before which it stops."""
         fault = None
         try:
             data = block.encode()
@@ -336,7 +336,7 @@ class _Encoding:
         return UnicodeEncodeError(self._coding.name, self._text, start, end, reason)
 
     def _replace(self, fault: UnicodeEncodeError) -> int:
-        """Writes what the handler has in place of a fault, and returns where it goes on."""
+        """Writes what the handler has in place of a loss, and returns where it goes on."""
         replacement, position = _handled(self._errors, fault, len(self._text))
         if isinstance(replacement, bytes):
             self._parts.append(replacement)

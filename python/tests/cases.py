@@ -99,7 +99,7 @@ class Stream(NamedTuple):
     mark: str
     data: bytes
     text: str
-    faults: List[Tuple[int, int]]
+    losses: List[Tuple[int, int]]
 
 
 def stream_of(words: str) -> Optional[Stream]:
@@ -109,23 +109,23 @@ def stream_of(words: str) -> Optional[Stream]:
     if not (decoded or marked):
         return None
     mark, encoding, pieces = ("keep", decoded[1], decoded[2]) if decoded else (marked[1], marked[2], marked[3])
-    data, text, faults = b"", "", []
+    data, text, losses = b"", "", []
     for piece in pieces.split():
         part, _, characters = piece.partition("=")
         if characters == "!":
-            faults.append((len(data), len(part) // 2))
+            losses.append((len(data), len(part) // 2))
             text += "\ufffd"
         else:
             text += "".join(chr(int(point, 16)) for point in characters.split("+") if point)
         data += bytes.fromhex(part)
-    return Stream(encoding, mark, data, text, faults)
+    return Stream(encoding, mark, data, text, losses)
 
 
 class Text(NamedTuple):
     encoding: str
     text: str
     data: bytes
-    faults: List[Tuple[int, str]]
+    losses: List[Tuple[int, str]]
 
 
 def text_case_of(words: str) -> Optional[Text]:
@@ -133,14 +133,14 @@ def text_case_of(words: str) -> Optional[Text]:
     found = re.fullmatch(r"encode (\S+)((?: \S*=\S*)*)", words)
     if not found:
         return None
-    text, data, faults = "", b"", []
+    text, data, losses = "", b"", []
     for piece in found[2].split():
         point, _, form = piece.partition("=")
         part, sign, reported = form.partition("!")
         data += bytes.fromhex(part)
         if sign:
             scalar = int(reported or point, 16)
-            faults.append((len(text), chr(scalar)))
+            losses.append((len(text), chr(scalar)))
             data += b"&#%d;" % scalar
         text += chr(int(point, 16)) if point else ""
-    return Text(found[1], text, data, faults)
+    return Text(found[1], text, data, losses)

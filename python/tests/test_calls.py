@@ -61,7 +61,7 @@ class Errors(unittest.TestCase):
         self.assertRaises(UnicodeEncodeError, jillapun.encode, "\ud800", "utf-8")
 
     def test_room(self) -> None:
-        """More output, and more faults, than there is room for at once, of inputs that are short and long."""
+        """More output, and more losses, than there is room for at once, of inputs that are short and long."""
         for count in (1, 4096, 4097, 21845, 21846, 100000):
             done = jillapun.convert("日".encode() * count, "utf-8", "windows-1252")
             self.assertEqual(done, (b"&#26085;" * count, [jillapun.Lost(index, "日") for index in range(count)], False))
@@ -93,14 +93,14 @@ class Files(unittest.TestCase):
     def test_faults_of_streams(self) -> None:
         Path(self.path).write_bytes(b"a\xff\nb\x83")
         told = []
-        with jillapun.open(self.path, encoding="shift_jis", on_fault=told.append, keep_faults=1) as file:
+        with jillapun.open(self.path, encoding="shift_jis", on_loss=told.append, keep_losses=1) as file:
             self.assertEqual(file.read(), "a\ufffd\nb\ufffd")
-            self.assertEqual((file.bad, file.kept_faults, told), (2, [(1, 1)], [(1, 1), (4, 1)]))
+            self.assertEqual((file.bad, file.kept_losses, told), (2, [(1, 1)], [(1, 1), (4, 1)]))
         told = []
-        words = {"encoding": "windows-1252", "unmappable": "hexadecimal", "on_fault": told.append, "keep_faults": 1}
+        words = {"encoding": "windows-1252", "unmappable": "hexadecimal", "on_loss": told.append, "keep_losses": 1}
         with jillapun.open(self.path, "w", **words) as file:
             file.write("é日本")
-            self.assertEqual((file.lost, file.kept_faults, told), (2, [(1, "日")], [(1, "日"), (2, "本")]))
+            self.assertEqual((file.lost, file.kept_losses, told), (2, [(1, "日")], [(1, "日"), (2, "本")]))
             self.assertEqual(file.faithful, None)
         self.assertEqual(file.faithful, False)
         self.assertEqual(Path(self.path).read_bytes(), b"\xe9&#x65E5;&#x672C;")
@@ -111,26 +111,27 @@ class Files(unittest.TestCase):
 
     def test_convert_file(self) -> None:
         Path(self.path).write_bytes(TEXT.encode("cp932") + b"\xff")
-        done = jillapun.convert_file(self.path, self.path, "shift_jis", "utf-8", lossy=True, keep_faults=9)
+        done = jillapun.convert_file(self.path, self.path, "shift_jis", "utf-8", lossy=True, keep_losses=9)
         self.assertEqual(Path(self.path).read_text(encoding="utf-8"), TEXT + "\ufffd")
         size = len(TEXT.encode("cp932"))
-        self.assertEqual(done, (size + 1, 1, 0, False, [(size, 1)]))
+        self.assertEqual(done, (size + 1, 1, 0, False, [(size, 1)], len(TEXT) + 1))
 
     def test_convert_file_by_chunks(self) -> None:
-        """A file of some chunks, with more faults in each than a call has records for."""
-        data, told, faults = "é日".encode() * 70000, [], []
+        """A file of some chunks, with more losses in each than a call has records for."""
+        data, told, losses = "é日".encode() * 70000, [], []
         Path(self.path).write_bytes(data)
-        words = {"progress": told.append, "on_fault": faults.append, "keep_faults": 20000, "lossy": True}
+        words = {"progress": told.append, "on_loss": losses.append, "keep_losses": 20000, "lossy": True}
         done = jillapun.convert_file(self.path, self.path, "utf-8", "windows-1252", **words)
         wanted = jillapun.convert(data, "utf-8", "windows-1252")
         self.assertEqual(Path(self.path).read_bytes(), wanted.output)
-        self.assertEqual(faults, wanted.faults)
-        self.assertEqual(done, (len(data), 0, 70000, False, wanted.faults[:20000]))
+        self.assertEqual(losses, wanted.losses)
+        self.assertEqual(done, (len(data), 0, 70000, False, wanted.losses[:20000], 140000))
         self.assertEqual((told[0], told[-1], len(told)), (1 << 16, len(data), 7))
 
     def test_limit_of_file(self) -> None:
         Path(self.path).write_bytes(b"abcd")
-        self.assertEqual(jillapun.convert_file(self.path, self.path, "utf-8", "utf-8", limit=4), (4, 0, 0, True, []))
+        done = jillapun.convert_file(self.path, self.path, "utf-8", "utf-8", limit=4)
+        self.assertEqual(done, (4, 0, 0, True, [], 4))
         with self.assertRaises(jillapun.TooLong):
             jillapun.convert_file(self.path, self.path, "utf-8", "utf-8", limit=3)
         self.assertEqual(os.listdir(self.folder.name), ["a.txt"])
@@ -207,13 +208,13 @@ class Streams(unittest.TestCase):
     def test_faults_as_they_come(self) -> None:
         """Each is handed on once, by the call that reads it."""
         told = []
-        decoder = jillapun.Decoder("shift_jis", on_fault=told.append, keep_faults=2)
+        decoder = jillapun.Decoder("shift_jis", on_loss=told.append, keep_losses=2)
         counts = []
         for data in (b"a\xff", b"\x83", b"\xff\xffa"):
             decoder.decode(data)
             counts.append((decoder.bad, len(told)))
         self.assertEqual(counts, [(1, 1), (1, 1), (3, 3)])
-        self.assertEqual((told, decoder.kept_faults), ([(1, 1), (2, 2), (4, 1)], [(1, 1), (2, 2)]))
+        self.assertEqual((told, decoder.kept_losses), ([(1, 1), (2, 2), (4, 1)], [(1, 1), (2, 2)]))
 
     def test_a_callback_that_raises(self) -> None:
         """The stream has ended: it does not go on with a part missing."""
@@ -221,14 +222,14 @@ class Streams(unittest.TestCase):
         def refuse(fault: jillapun.Bad) -> None:
             raise UnicodeError("%s" % (fault,))
 
-        decoder = jillapun.Decoder("utf-8", on_fault=refuse)
+        decoder = jillapun.Decoder("utf-8", on_loss=refuse)
         self.assertEqual(decoder.decode(b"abc"), "abc")
         self.assertRaisesRegex(UnicodeError, "bad 4 1", decoder.decode, b"d\xffe")
         self.assertRaisesRegex(ValueError, "ended", decoder.decode, b"f")
         with tempfile.TemporaryDirectory() as folder:
             path = os.path.join(folder, "a")
             Path(path).write_bytes(b"d\xffe" * 40000)
-            with jillapun.open(path, encoding="utf-8", on_fault=refuse) as file:
+            with jillapun.open(path, encoding="utf-8", on_loss=refuse) as file:
                 self.assertRaises(UnicodeError, file.read, 1)
                 self.assertRaisesRegex(ValueError, "ended", file.read, 1)
 
@@ -241,7 +242,7 @@ class Streams(unittest.TestCase):
             told.append(jillapun.decode(b"\xff", "utf-8").text)
             self.assertRaisesRegex(ValueError, "ended", decoder.decode, b"x")
 
-        decoder = jillapun.Decoder("utf-8", on_fault=call)
+        decoder = jillapun.Decoder("utf-8", on_loss=call)
         self.assertEqual(decoder.decode(b"a\xffb\xffc", last=True), "a\ufffdb\ufffdc")
         self.assertEqual(told, ["\ufffd", "\ufffd", "\ufffd\ufffd", "\ufffd"])
 
@@ -361,8 +362,8 @@ class Short(unittest.TestCase):
             text = "".join(character for character in self.characters(name) if not (folded and folded(character)))
             for start in range(0, len(text), 300):
                 part = text[start : start + 300]
-                data, faults, faithful = jillapun.encode(part, name)
-                self.assertEqual((faults, faithful), ([], True))
+                data, losses, faithful = jillapun.encode(part, name)
+                self.assertEqual((losses, faithful), ([], True))
                 self.assertEqual(jillapun.decode(data, jillapun.output_name(name), mark="keep"), (part, []), name)
                 self.assertEqual(jillapun.convert(part.encode(), "utf-8", name, mark="keep"), (data, [], True))
 
@@ -371,7 +372,7 @@ class Short(unittest.TestCase):
         every = "".join(map(chr, [*range(0xD800), *range(0xE000, 0x110000)]))
         for label in jillapun._bare.FOLDED:
             folded = jillapun._bare.encoding_to(label, "decimal", None)[3]
-            lost = {fault.index for fault in jillapun.encode(every, label).faults}
+            lost = {fault.index for fault in jillapun.encode(every, label).losses}
             kept = [character for index, character in enumerate(every) if index not in lost and not folded(character)]
             self.assertEqual(jillapun.encode("".join(kept), label)[1:], ([], True))
             for character in filter(folded, every):
@@ -398,7 +399,7 @@ class Short(unittest.TestCase):
         pairs = b"".join(bytes((lead, trail)) for lead in range(0x80, 0x100) for trail in range(0x40, 0x100))
         read = {*jillapun.decode(bytes(range(256)), name).text, *jillapun.decode(pairs, name).text}
         text = "".join(sorted(read - {"\ufffd"}))
-        lost = {fault.character for fault in jillapun.encode(text, name).faults}
+        lost = {fault.character for fault in jillapun.encode(text, name).losses}
         return "".join(character for character in text if character not in lost)
 
     def test_beside_lists(self) -> None:
@@ -406,8 +407,8 @@ class Short(unittest.TestCase):
         for name in self.ENCODINGS:
             for data in (b"", b"abc", b"a\x80\xe9", b"\xef\xbb\xbfa", b"\xff\xfea\0", b"\x1b$B0!", bytes(range(256)) * 4):
                 for mark in ("remove", "sniff", "keep"):
-                    output, faults, _ = jillapun.convert(data, name, "utf-8", mark=mark)
-                    self.assertEqual(jillapun.decode(data, name, mark=mark), (output.decode(), faults))
+                    output, losses, _ = jillapun.convert(data, name, "utf-8", mark=mark)
+                    self.assertEqual(jillapun.decode(data, name, mark=mark), (output.decode(), losses))
             for text in ("", "abc", "é", "日本", "¥‾−", "aｱ", "\ue78d", "\x0e\x1b", "\ufeffa", "\ufffd", "a" * 1023 + "é"):
                 for policy in ("decimal", "hexadecimal"):
                     wanted = jillapun.convert(text.encode(), "utf-8", name, mark="keep", unmappable=policy)

@@ -37,15 +37,15 @@ class Streams(unittest.TestCase):
                 continue
             count += 1
             indexes = TABLES.of(texts)
-            faults = [Bad(*fault) for fault in case.faults]
+            losses = [Bad(*fault) for fault in case.losses]
             with self.subTest(place=place, words=words):
                 done = jillapun.decode(case.data, case.encoding, mark=case.mark, indexes=indexes)
-                self.assertEqual((done.text, done.faults), (case.text, faults))
+                self.assertEqual((done.text, done.losses), (case.text, losses))
                 for cut in range(len(case.data) + 1):
                     told = []
-                    decoder = jillapun.Decoder(case.encoding, mark=case.mark, indexes=indexes, on_fault=told.append)
+                    decoder = jillapun.Decoder(case.encoding, mark=case.mark, indexes=indexes, on_loss=told.append)
                     text = decoder.decode(case.data[:cut]) + decoder.decode(case.data[cut:], last=True)
-                    self.assertEqual((text, told, decoder.bad), (case.text, faults, len(faults)), "cut at %d" % cut)
+                    self.assertEqual((text, told, decoder.bad), (case.text, losses, len(losses)), "cut at %d" % cut)
         self.assertGreater(count, 90)
 
     def test_texts(self) -> None:
@@ -56,15 +56,15 @@ class Streams(unittest.TestCase):
                 continue
             count += 1
             indexes = TABLES.of(texts)
-            faults = [Lost(*fault) for fault in case.faults]
+            losses = [Lost(*fault) for fault in case.losses]
             with self.subTest(place=place, words=words):
                 done = jillapun.encode(case.text, case.encoding, indexes=indexes)
-                self.assertEqual((done.data, done.faults), (case.data, faults))
+                self.assertEqual((done.data, done.losses), (case.data, losses))
                 for cut in range(len(case.text) + 1):
                     told = []
-                    encoder = jillapun.Encoder(case.encoding, indexes=indexes, on_fault=told.append)
+                    encoder = jillapun.Encoder(case.encoding, indexes=indexes, on_loss=told.append)
                     data = encoder.encode(case.text[:cut]) + encoder.encode(case.text[cut:], last=True)
-                    self.assertEqual((data, told, encoder.lost), (case.data, faults, len(faults)), "cut at %d" % cut)
+                    self.assertEqual((data, told, encoder.lost), (case.data, losses, len(losses)), "cut at %d" % cut)
                     self.assertEqual(encoder.faithful, done.faithful)
         self.assertGreater(count, 40)
 
@@ -117,14 +117,14 @@ class Conversions(unittest.TestCase):
             verdict = "faithful" if done.faithful else "lossy"
         except jillapun.Stopped as stop:
             done, verdict = stop, "stopped %d %d" % (stop.lost.index, ord(stop.lost.character))
-        self.assertEqual((done.output, list(map(str, done.faults)), verdict), (case.output, case.log, case.verdict))
+        self.assertEqual((done.output, list(map(str, done.losses)), verdict), (case.output, case.log, case.verdict))
 
     def in_files(self, case: cases.Conversion, mark: str, indexes: jillapun.Indexes, folder: str) -> None:
         given, made = os.path.join(folder, "given"), os.path.join(folder, "made")
         with open(given, "wb") as file:
             file.write(case.data)
         told = []
-        words = {"mark": mark, "unmappable": case.policy, "indexes": indexes, "on_fault": told.append}
+        words = {"mark": mark, "unmappable": case.policy, "indexes": indexes, "on_loss": told.append}
         try:
             done = jillapun.convert_file(given, made, case.source, case.target, **words)
             verdict = "faithful" if done.faithful else "lossy"

@@ -1,5 +1,5 @@
-"""The codecs under Python's names: beside `tools/standard.py`, a plain program of the standard's algorithms, and beside
-Python's own codecs where both agree."""
+"""The codecs under Python's names: beside a plain program of the standard's algorithms, `tools/oracles/standard.py`, and
+beside Python's own codecs where both agree."""
 
 import codecs
 import csv
@@ -18,7 +18,7 @@ import installed
 import jillapun
 from jillapun._labels import LABELS
 
-sys.path.insert(0, os.path.join(cases.TOP, "tools"))
+sys.path.append(os.path.join(cases.TOP, "tools", "oracles"))
 
 import standard  # noqa: E402
 
@@ -76,12 +76,12 @@ def seen_by(name: str, encoding: standard.Encoding, data: bytes) -> Tuple[str, L
     """The text, and where each malformed sequence begins and ends, as the plain program has them."""
     mark = MARKS.get(name, b"")
     begin = len(mark) if mark and data.startswith(mark) else 0
-    text, faults = "", []
+    text, losses = "", []
     for start, end, points in standard.pieces(encoding.decoder(), data[begin:]):
         if points is None:
-            faults.append((begin + start, begin + end))
+            losses.append((begin + start, begin + end))
         text += "\ufffd" if points is None else "".join(map(chr, points))
-    return text, faults
+    return text, losses
 
 
 class Log:
@@ -138,36 +138,36 @@ class Decoders(unittest.TestCase):
                 yield ("web-" + name.lower(), data, *seen_by(name, encoding, data))
 
     def test_whole(self) -> None:
-        for name, data, text, faults in self.each(100):
+        for name, data, text, losses in self.each(100):
             with self.subTest(name=name, data=data):
                 log = Log()
                 self.assertEqual(data.decode(name, "log"), text)
-                self.assertEqual(log.spans, faults)
+                self.assertEqual(log.spans, losses)
                 self.assertEqual(data.decode(name, "replace"), text)
-                self.assertEqual(bytearray(data).decode(name, "ignore"), "".join(self.kept(name, data, faults)))
-                if faults:
+                self.assertEqual(bytearray(data).decode(name, "ignore"), "".join(self.kept(name, data, losses)))
+                if losses:
                     with self.assertRaises(UnicodeDecodeError) as raised:
                         data.decode(name)
                     fault = raised.exception
-                    self.assertEqual((fault.encoding, fault.object, fault.start, fault.end), (name, data, *faults[0]))
+                    self.assertEqual((fault.encoding, fault.object, fault.start, fault.end), (name, data, *losses[0]))
                 else:
                     self.assertEqual(data.decode(name), text)
 
-    def kept(self, name: str, data: bytes, faults: List[Tuple[int, int]]) -> Iterator[str]:
-        """The text but for the U+FFFD of faults: an input may have some of its own."""
+    def kept(self, name: str, data: bytes, losses: List[Tuple[int, int]]) -> Iterator[str]:
+        """The text but for the U+FFFD of losses: an input may have some of its own."""
         marked, log = "\ue000", Log("\ue000")
         yield data.decode(name, "log").replace(marked, "")
-        self.assertEqual(len(log.spans), len(faults))
+        self.assertEqual(len(log.spans), len(losses))
 
     def test_long(self) -> None:
         """More than one call has room for, and than is tried by one call."""
         for name, encoding in self.encodings.items():
             parts = list(inputs(name, 40)) * 12
             data = b"".join(parts)
-            text, faults = seen_by(name, encoding, data)
+            text, losses = seen_by(name, encoding, data)
             log = Log()
             self.assertEqual(data.decode("web-" + name.lower(), "log"), text)
-            self.assertEqual(log.spans, faults)
+            self.assertEqual(log.spans, losses)
             self.assertEqual(data.decode("web-" + name.lower(), "replace"), text)
 
     def test_room(self) -> None:
@@ -179,10 +179,10 @@ class Decoders(unittest.TestCase):
 
     def test_cuts(self) -> None:
         """In two at each place, and byte by byte: text and malformed bytes are as at once."""
-        for name, data, text, faults in self.each(30):
+        for name, data, text, losses in self.each(30):
             with self.subTest(name=name, data=data):
                 decoder_of = codecs.getincrementaldecoder(name)
-                wanted = [data[start:end] for start, end in faults]
+                wanted = [data[start:end] for start, end in losses]
                 for cut in range(len(data) + 1):
                     log, decoder = Log(), decoder_of("log")
                     self.assertEqual(
@@ -375,7 +375,7 @@ class Handlers(unittest.TestCase):
             self.assertEqual("".join(parts) + decoder.decode(b"", True), data.decode("utf-8", errors))
 
     def test_positions_beside_python(self) -> None:
-        """Python finds the same faults in UTF-8, and single bytes without a character in code pages."""
+        """Python finds the same losses in UTF-8, and single bytes without a character in code pages."""
         chance = random.Random(5)
         for name, codec, alphabet in (
             ("web-utf-8", "utf-8", bytes.fromhex(EDGES["UTF-8"])),

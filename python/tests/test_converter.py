@@ -18,12 +18,12 @@ import cases
 import jillapun
 from jillapun import Bad, Lost, _steps
 from jillapun._labels import LABELS
-from jillapun._results import Fault
+from jillapun._results import Loss
 from jillapun._rooms import Rooms
 from test_codecs import inputs
 
 # The output, what was lost, and the verdict, or what it stopped at.
-Made = Tuple[bytes, List[Fault], Any]
+Made = Tuple[bytes, List[Loss], Any]
 
 TARGETS = ("utf-8", "windows-1252", "shift_jis", "iso-2022-jp", "gb18030", "big5", "x-user-defined")
 
@@ -33,23 +33,23 @@ def whole(data: bytes, source: str, target: str, **words: Any) -> Made:
     try:
         return tuple(jillapun.convert(data, source, target, **words))
     except jillapun.Stopped as stop:
-        return stop.output, stop.faults, stop.lost
+        return stop.output, stop.losses, stop.lost
 
 
 def by_parts(parts: List[bytes], source: str, target: str, **words: Any) -> Made:
     """What a converter gives of these parts, the last of which is the last of the stream."""
-    converter, output, faults = jillapun.Converter(source, target, **words), b"", []
+    converter, output, losses = jillapun.Converter(source, target, **words), b"", []
     try:
         for number, data in enumerate(parts, 1):
             assert converter.report is None
             part = converter.convert(data, last=number == len(parts))
-            output, faults = output + part.output, faults + part.faults
+            output, losses = output + part.output, losses + part.losses
     except jillapun.Stopped as stop:
         assert converter.report is None
-        return output + stop.output, faults + stop.faults, stop.lost
-    counts = [sum(isinstance(fault, kind) for fault in faults) for kind in (Bad, Lost)]
+        return output + stop.output, losses + stop.losses, stop.lost
+    counts = [sum(isinstance(fault, kind) for fault in losses) for kind in (Bad, Lost)]
     assert converter.report[:3] == (sum(map(len, parts)), *counts), converter.report
-    return output, faults, converter.report.faithful
+    return output, losses, converter.report.faithful
 
 
 def cuts(data: bytes) -> Iterator[List[bytes]]:
@@ -84,7 +84,7 @@ class Cuts(unittest.TestCase):
             converter = jillapun.Converter("utf-8", "windows-1252")
             for _ in range(2):
                 part = converter.convert("a日".encode() + b"\xff")
-                self.assertEqual((part.output, len(part.faults)), (b"a&#26085;&#65533;", 3))
+                self.assertEqual((part.output, len(part.losses)), (b"a&#26085;&#65533;", 3))
 
     def test_each_target(self) -> None:
         """Texts, of which each encoding lacks some characters, to all encodings."""
@@ -134,13 +134,13 @@ class Limits(unittest.TestCase):
                 self.assertRaises(jillapun.TooLong, whole, data, "utf-8", "iso-2022-jp", limit=limit)
 
     def too_long(self, parts: List[bytes], limit: int, wanted: Made) -> None:
-        converter, output, faults = jillapun.Converter("utf-8", "iso-2022-jp", limit=limit), b"", []
+        converter, output, losses = jillapun.Converter("utf-8", "iso-2022-jp", limit=limit), b"", []
         with self.assertRaises(jillapun.TooLong):
             for part in (*parts, b""):
                 made = converter.convert(part)
-                output, faults = output + made.output, faults + made.faults
+                output, losses = output + made.output, losses + made.losses
         self.assertTrue(wanted[0].startswith(output))
-        self.assertEqual(faults, wanted[1][: len(faults)])
+        self.assertEqual(losses, wanted[1][: len(losses)])
         self.assertRaisesRegex(ValueError, "ended", converter.convert, b"")
 
     def test_words(self) -> None:
@@ -163,10 +163,10 @@ class Calls(unittest.TestCase):
         given = b"a\xff", b"\x83", b"\x6e\xff", b""
         made = [converter.convert(data) for data in given]
         self.assertEqual(b"".join(part.output for part in made), b"a&#65533;&#12495;&#65533;")
-        self.assertEqual(made[0].faults, [Bad(1, 1), Lost(1, "\ufffd")])
-        self.assertEqual([part.faults for part in made[1:]], [[], [Lost(2, "ハ"), Bad(4, 1), Lost(3, "\ufffd")], []])
+        self.assertEqual(made[0].losses, [Bad(1, 1), Lost(1, "\ufffd")])
+        self.assertEqual([part.losses for part in made[1:]], [[], [Lost(2, "ハ"), Bad(4, 1), Lost(3, "\ufffd")], []])
         self.assertEqual((converter.report, converter.convert(b"", last=True)), (None, (b"", [])))
-        self.assertEqual(converter.report, (5, 2, 3, False))
+        self.assertEqual(converter.report, (5, 2, 3, False, 4))
 
     def test_the_end(self) -> None:
         """The verdict can be that something is lost where nothing was told; and after the end there is no more."""
@@ -174,7 +174,7 @@ class Calls(unittest.TestCase):
         for text, is_faithful, words in rows:
             converter = jillapun.Converter("utf-8", "shift_jis")
             converter.convert(text.encode(), last=True)
-            self.assertEqual(converter.report, (len(text.encode()), 0, 0, is_faithful))
+            self.assertEqual(converter.report, (len(text.encode()), 0, 0, is_faithful, 1))
             self.assertEqual(converter.report.summary, words)
             self.assertRaisesRegex(ValueError, "ended", converter.convert, b"")
 
@@ -185,7 +185,7 @@ class Calls(unittest.TestCase):
         with self.assertRaises(jillapun.Stopped) as it:
             converter.convert("日😀日".encode())
         self.assertEqual((it.exception.output, it.exception.lost), (b"\x1b$BF|\x1b(B", (2, "😀")))
-        self.assertEqual((it.exception.faults, converter.report), ([Lost(2, "😀")], None))
+        self.assertEqual((it.exception.losses, converter.report), ([Lost(2, "😀")], None))
         self.assertRaisesRegex(ValueError, "ended", converter.convert, b"")
 
     def test_bytes(self) -> None:
@@ -196,7 +196,7 @@ class Calls(unittest.TestCase):
         for given in (2, "ab", None):
             self.assertRaises(TypeError, converter.convert, given)
         self.assertEqual(converter.convert(b"c", last=True), (b"c", []))
-        self.assertEqual(converter.report, (7, 0, 0, True))
+        self.assertEqual(converter.report, (7, 0, 0, True, 7))
 
     def test_threads(self) -> None:
         """Each loss is told to one of the calls, and each byte is written by one."""
@@ -213,10 +213,10 @@ class Calls(unittest.TestCase):
             thread.join()
         converter.convert(b"", last=True)
         self.assertEqual({part.output for part in made}, {b"a&#65533;" * 100})
-        self.assertEqual({len(part.faults) for part in made}, {200})
-        places = sorted(fault.offset for part in made for fault in part.faults if isinstance(fault, Bad))
+        self.assertEqual({len(part.losses) for part in made}, {200})
+        places = sorted(fault.offset for part in made for fault in part.losses if isinstance(fault, Bad))
         self.assertEqual(places, list(range(1, 40000, 2)))
-        self.assertEqual(converter.report, (40000, 20000, 20000, False))
+        self.assertEqual(converter.report, (40000, 20000, 20000, False, 40000))
 
 
 class Documents(unittest.TestCase):

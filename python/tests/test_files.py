@@ -67,7 +67,7 @@ class Folder(unittest.TestCase):
 class InPlace(Folder):
     def test_nothing_is_lost(self) -> None:
         self.put("a", GOOD)
-        self.assertEqual(self.convert(self.path), (len(GOOD), 0, 0, True, []))
+        self.assertEqual(self.convert(self.path), (len(GOOD), 0, 0, True, [], 8))
         self.holds(a=GOOD_MADE)
 
     def test_something_would_be_lost(self) -> None:
@@ -75,8 +75,8 @@ class InPlace(Folder):
         self.put("a", BAD + GOOD)
         told = []
         with self.assertRaisesRegex(jillapun.NotReplaced, "malformed sequences: 1, characters without bytes: 1") as it:
-            self.convert(self.path, on_fault=told.append)
-        self.assertEqual(it.exception.done, (len(BAD + GOOD), 1, 1, False, []))
+            self.convert(self.path, on_loss=told.append)
+        self.assertEqual(it.exception.done, (len(BAD + GOOD), 1, 1, False, [], 13))
         self.assertEqual(told, [jillapun.Bad(3, 1), jillapun.Lost(3, "\ufffd")])
         self.holds(a=BAD + GOOD)
 
@@ -93,7 +93,7 @@ class InPlace(Folder):
 
     def test_lossy(self) -> None:
         self.put("a", BAD)
-        self.assertEqual(self.convert(self.path, lossy=True, keep_faults=1), (len(BAD), 1, 1, False, [(3, 1)]))
+        self.assertEqual(self.convert(self.path, lossy=True, keep_losses=1), (len(BAD), 1, 1, False, [(3, 1)], 5))
         self.holds(a=BAD_MADE)
 
     def test_backup(self) -> None:
@@ -349,7 +349,7 @@ class InPlace(Folder):
         """It ends the conversion, be it an interruption."""
         self.put("a", BAD)
         for fault in (KeyboardInterrupt, SystemExit, RuntimeError):
-            for name in ("progress", "on_fault"):
+            for name in ("progress", "on_loss"):
                 with self.assertRaises(fault):
                     self.convert(self.path, lossy=True, **{name: mock.Mock(side_effect=fault)})
         self.holds(a=BAD)
@@ -359,7 +359,7 @@ class InPlace(Folder):
         for options in ({}, {"lossy": True}, {"backup": "~"}):
             with self.assertRaises(jillapun.Stopped) as it:
                 self.convert(self.path, unmappable="stop", **options)
-            self.assertEqual((it.exception.lost, it.exception.faults), ((1, "日"), [(1, "日")]))
+            self.assertEqual((it.exception.lost, it.exception.losses), ((1, "日"), [(1, "日")]))
             self.assertEqual(it.exception.output, b"")
         self.holds(a="é日".encode())
 

@@ -18,7 +18,7 @@ import installed
 AFTER = {
     "csv": ("print([dict(row) for row in rows])", "[{'name': 'Größe', 'price': '3 €'}]\n"),
     "pandas": ("print(frame.to_dict('list'))", "{'name': ['Größe'], 'price': ['3 €']}\n"),
-    "requests": ("print(repr(text), faults)", "'<title>日本</title>\ufffd\\n' [Bad(offset=19, length=1)]\n"),
+    "requests": ("print(repr(text), losses)", "'<title>日本</title>\ufffd\\n' [Bad(offset=19, length=1)]\n"),
     "html5lib": (
         "print(tree.findtext('.//{http://www.w3.org/1999/xhtml}title'))",
         "日本\n",

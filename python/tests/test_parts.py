@@ -70,12 +70,12 @@ def input_of(chance: random.Random, source: str) -> bytes:
 class Parts(Folder):
     def found(self, *words: str, processes: int = 1, part: int = 1, **options: Any) -> Tuple[Any, ...]:
         """The result or the exception of a conversion of the file `a`, the losses that were told, and the output."""
-        told: List[jillapun._results.Fault] = []
+        told: List[jillapun._results.Loss] = []
         read: List[int] = []
         try:
             with mock.patch("jillapun._parts.PART", part):
                 result: Any = jillapun.convert_file(
-                    self.path, self.at("b"), *words, processes=processes, on_fault=told.append, keep_faults=3,
+                    self.path, self.at("b"), *words, processes=processes, on_loss=told.append, keep_losses=3,
                     progress=read.append, **options,
                 )  # fmt: skip
             self.assertEqual((read, read[-1]), (sorted(read), result.read))
@@ -163,6 +163,21 @@ class Parts(Folder):
             done = jillapun.convert_file(self.at("pipe"), self.at("b"), "utf-8", "windows-1252", processes=2)
         self.assertEqual((done.read, Path(self.at("b")).read_bytes()), (7, b"caf\xe9 \n"))
 
+    def test_the_encoding_of_parts(self) -> None:
+        rows = [
+            ("sjis", "utf-8", "sniff", b"a\n", "Shift_JIS"),
+            ("sjis", "utf-16le", "sniff", b"", "Shift_JIS"),
+            ("sjis", "utf-8", "sniff", b"\xef\xbb\xbfa", "UTF-8"),
+            ("sjis", "utf-8", "remove", b"\xef\xbb\xbfa", "Shift_JIS"),
+            ("sjis", "utf-8", "sniff", b"\xff\xfe", None),
+            ("sjis", "utf-8", "keep", b"\xff\xfe", "Shift_JIS"),
+            ("utf-16le", "utf-8", "sniff", b"\xef\xbb\xbf", "UTF-8"),
+            ("sjis", "iso-2022-jp", "sniff", b"a", None),
+            ("replacement", "utf-8", "sniff", b"a", None),
+        ]
+        for source, target, mark, head, want in rows:
+            self.assertEqual(jillapun.part_encoding(head, source, target, mark=mark), want, (source, target, mark, head))
+
     def test_so_many_at_once(self) -> None:
         """Three parts are converted at once, and no more."""
         together, work = threading.Barrier(3), _parts._Block.convert
@@ -204,7 +219,7 @@ class Parts(Folder):
         self.put("a", BAD * 1000)
         threads = threading.active_count()
         for fault in (KeyboardInterrupt, SystemExit, RuntimeError):
-            for name in ("progress", "on_fault"):
+            for name in ("progress", "on_loss"):
                 calls = mock.Mock(side_effect=[None, None, fault])
                 with self.assertRaises(fault), mock.patch("jillapun._parts.PART", 10):
                     jillapun.convert_file(

@@ -20,7 +20,7 @@ from jillapun import __main__ as program
 from jillapun._names import shown
 from test_files import BAD, BAD_MADE, GOOD, GOOD_MADE, Folder
 
-sys.path.insert(0, os.path.join(cases.TOP, "tools"))
+sys.path.append(os.path.join(cases.TOP, "tools", "gate"))
 
 import places  # noqa: E402
 
@@ -361,10 +361,10 @@ class Memory(Folder):
 
     PARTS = {
         "the program": "program.main(['--from', 'utf-8', '--to', 'utf-8', '--lossy', path])",
-        "a file": "jillapun.convert_file(path, path + '.made', 'shift_jis', 'utf-8', on_fault=id, keep_faults=9)",
+        "a file": "jillapun.convert_file(path, path + '.made', 'shift_jis', 'utf-8', on_loss=id, keep_losses=9)",
         "which": "jillapun.which(path)",
         "places": "program.main(['places', '--from', 'utf-8', '--to', 'big5', path])",
-        "a reader": "file = jillapun.open(path, encoding='utf-8', on_fault=id)\nwhile file.read(1 << 16): pass",
+        "a reader": "file = jillapun.open(path, encoding='utf-8', on_loss=id)\nwhile file.read(1 << 16): pass",
         "a decoder": "code = jillapun.Decoder('utf-8')\nfor _ in range(size >> 10): code.decode(b'\\xff' * 1024)",
         "an encoder": "code = jillapun.Encoder('big5')\nfor _ in range(size >> 10): code.encode('é' * 1024)",
         "a converter": "code = jillapun.Converter('utf-8', 'big5')\n"

@@ -1,5 +1,5 @@
-"""Beside Python's own codecs, where the Encoding Standard and Python agree: `tools/standard.py`, a plain program of the
-standard's algorithms, says where."""
+"""Beside Python's own codecs, where the Encoding Standard and Python agree: a plain program of the standard's algorithms,
+`tools/oracles/standard.py`, says where."""
 
 import os
 import random
@@ -9,7 +9,7 @@ import unittest
 import cases
 import jillapun
 
-sys.path.insert(0, os.path.join(cases.TOP, "tools"))
+sys.path.append(os.path.join(cases.TOP, "tools", "oracles"))
 
 import standard  # noqa: E402
 
@@ -82,7 +82,7 @@ class Codecs(unittest.TestCase):
             data = bytes(chance.choices(edges, k=chance.randrange(12)))
             done = jillapun.decode(data, "utf-8", mark="keep")
             self.assertEqual(done.text, data.decode("utf-8", "replace"))
-            self.assertEqual(len(done.faults), done.text.count("\ufffd"))
+            self.assertEqual(len(done.losses), done.text.count("\ufffd"))
 
 
 if __name__ == "__main__":

@@ -21,7 +21,7 @@ from test_codecs import EDGES, inputs, seen_by
 from test_files import Folder
 from test_program import COMMAND, ENVIRONMENT, Programs
 
-sys.path.insert(0, os.path.join(cases.TOP, "tools"))
+sys.path += [os.path.join(cases.TOP, "tools", folder) for folder in ("gate", "oracles")]
 
 import places  # noqa: E402
 import standard  # noqa: E402
@@ -146,7 +146,7 @@ class Places(Folder):
                 self.assertEqual(self.heads(data, job), wanted, (data, job))
 
     def test_written(self) -> None:
-        """Files of which `tools/places.py` has the output by hand."""
+        """Files of which `tools/gate/places.py` has the output by hand."""
         for words, data, output in places.WRITTEN:
             if "--folds" not in words:
                 wanted = [line[1:] for line in output.splitlines() if line.startswith(":")]

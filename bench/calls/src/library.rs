@@ -28,9 +28,16 @@ struct IndexFault {
 }
 
 #[repr(C)]
-pub struct Handle {
+struct Coder {
     at: *mut c_void,
     is_open: bool,
+}
+
+#[repr(C)]
+pub struct Handle {
+    coder: Coder,
+    // What the handle tells of the encoder: three numbers of a byte each.
+    words: [u8; 3],
 }
 
 #[repr(C)]
@@ -87,7 +94,7 @@ pub struct Encoder(Handle);
 
 impl Encoder {
     pub fn new(tables: Tables, encoding: u8) -> Self {
-        let mut handle = Handle { at: std::ptr::null_mut(), is_open: false };
+        let mut handle = Handle { coder: Coder { at: std::ptr::null_mut(), is_open: false }, words: [0; 3] };
         assert_eq!(unsafe { jillapun_encoder_new(tables, encoding, &mut handle) }, 0);
         Encoder(handle)
     }

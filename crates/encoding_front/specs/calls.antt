@@ -6,6 +6,7 @@ pub mod BomDecoderState
 pub mod TakesMark
 pub mod Latin1Prefix
 pub mod Stream
+pub mod RoomRules
 pub mod VariantDecoders
 pub mod DecodedText
 pub mod DecoderCall

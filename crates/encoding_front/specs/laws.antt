@@ -6,4 +6,5 @@ pub mod Input
 pub mod Parts
 pub mod Seeking
 pub mod Stream
+pub mod RoomRules
 pub mod ReportedCharacter

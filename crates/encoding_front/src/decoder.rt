@@ -26,6 +26,8 @@ ghost use Rattle.encoding_front.specs.laws.Stream.{named_by, room_named, widest_
 ghost use Rattle.encoding_front.specs.declared.mark.Mark.{Mark};
 ghost use Rattle.encoding_front.specs.declared.seeking.BomMatch.{BomMatch};
 
+pub(crate) mod room_rule;
+
 use crate::coder_result::CoderResult;
 use crate::encoder::fill_spare;
 use crate::encoding::Encoding;

@@ -51,6 +51,7 @@ pub mod decoder;
 pub mod encoder;
 pub mod encoding;
 pub mod laws;
+mod lengths;
 pub mod mark;
 mod one_shot_decoding;
 mod one_shot_encoding;
@@ -80,6 +81,7 @@ pub use constants::{
     X_USER_DEFINED_INIT,
 };
 // end
+pub use decoder::room_rule::RoomRule;
 pub use decoder::{Decoder, StreamDecoder};
 pub use encoder::Encoder;
 pub use encoding::Encoding;

@@ -14,10 +14,10 @@ converts_with : (j : Job) (input output : List ℕ) (losses : List Loss) (report
     → ConvertsInMemory j input output losses (told_with report written records) status
 converts_with j input output losses report status written records h = record {
   made = h.made;
-  counts = λ is. let k = h.counts is in record { read = k.read; bad = k.bad; lost = k.lost; no_character = k.no_character };
+  counts = λ is. let k = h.counts is in record { read = k.read; bad = k.bad; lost = k.lost; characters = k.characters; no_character = k.no_character };
   faithful = h.faithful;
   lossy = h.lossy;
-  stopped = λ is. let k = h.stopped is in record { policy = k.policy; first = k.first; no_counts = record { read = k.no_counts.read; bad = k.no_counts.bad; lost = k.no_counts.lost } };
+  stopped = λ is. let k = h.stopped is in record { policy = k.policy; first = k.first; no_counts = record { read = k.no_counts.read; bad = k.no_counts.bad; lost = k.no_counts.lost; characters = k.no_counts.characters } };
 }
 
 pub handed_over : (j : Job) (input dst dst' made : List ℕ) (losses losses' records : List Loss) (report report' : Report) (status written count : ℕ)

@@ -1,5 +1,5 @@
 -- What the calls of a converter make together.
-use Rattle.std.proofs.Common.{◌≡◌, ◌≢◌, ℕ, ◌+◌, ◌<◌, ◌⊎◌, inl, inr, Bool, true, false, IsTrue, List, [], ◌∷◌, ◌++◌, length, map, take, refl, sym, ◌∙◌, ap, subst, arith, append_assoc, append-nil, length-append, length-drop, length-take, drop, IsFalse, ◌-◌, ◌≤◌, ◌↔◌, Option, Some, None}
+use Rattle.std.proofs.Common.{◌≡◌, ◌≢◌, ℕ, ◌+◌, ◌<◌, ◌⊎◌, inl, inr, Bool, true, false, List, [], ◌∷◌, ◌++◌, length, map, take, refl, sym, ◌∙◌, ap, subst, arith, append_assoc, append-nil, length-append, length-drop, length-take, drop, IsFalse, ◌-◌, ◌≤◌, ◌↔◌, Option, Some, None}
 use Rattle.std.proofs.lemmas.Grind.{flat_map-append}
 use Rattle.std.proofs.lemmas.List.{drop-drop, length-take-le}
 use Rattle.encoding_mem.specs.Coding.{reference_bytes}
@@ -9,24 +9,23 @@ use Rattle.recode_log.specs.Line.{line_bytes}
 use Rattle.recode_log.specs.declared.line.LogLine.{LogLine}
 use Rattle.recode_log.specs.declared.line.LogLine.TheVariants.{Bad, Lost}
 use Rattle.recode.specs.Converter.{AllIsConverted, ConverterView, ConvertsPart, ConvertedSoFar, IsReportButCalls, found_items, owes}
-use Rattle.recode.specs.Job.{input_text, log_of, lost_log_lines, output_of, target_of, trace, whole_trace}
+use Rattle.recode.specs.Job.{input_text, lost_log_lines, target_of, trace, whole_trace}
 use Rattle.recode.specs.Policy.{reference_form, up_to_loss, written_under}
-use Rattle.recode.specs.TaggedByte.{IsPrefix, TaggedByte, log_bytes, output_bytes, tagged, tagged_item}
+use Rattle.recode.specs.TaggedByte.{TaggedByte, log_bytes, output_bytes, tagged, tagged_item}
 use Rattle.recode.specs.WrittenItems.{IsSpared, StopsAtLoss, lost_line_count}
-use Rattle.recode.specs.calls.ConverterView.{converter_view}
 use Rattle.recode.specs.declared.converter.ConverterResult.{ConverterResult}
 use Rattle.recode.specs.declared.converter.ConverterResult.TheVariants.{Found, InputEmpty, OutputFull}
 use Rattle.recode.specs.declared.job.Job.{Job}
 use Rattle.recode.specs.declared.job.Policy.{Policy}
 use Rattle.recode.specs.declared.job.Report.{Report as RunReport}
-use Rattle.recode.specs.laws.Calls.{owed_on, part_none, taken_first, taken_on, taken_report, taken_whole}
+use Rattle.recode.specs.laws.Calls.{owed_on, part_none, taken_characters, taken_first, taken_on, taken_report, taken_whole}
 use Rattle.recode.specs.laws.Items.{log_bytes-append, log_bytes-bytes, log_bytes-lines, lost_line_count-append, lost_line_count-bytes, output_bytes-append, output_bytes-bytes, output_bytes-lines, spared_append, spared_bytes, tagged-append, written_spared, written_whole}
 use Rattle.jillapun_c.proofs.ConverterTurnLemmas.{length_none, owes_split}
 use Rattle.jillapun_c.specs.Coders.{converter_in}
 use Rattle.jillapun_c.specs.ConverterRuns.{Carries, HasConverted, IsFirstPartOf, IsOverWith, JoinsToCalls, IsAtStage, EndsAtLoss, WritesUnder}
-use Rattle.jillapun_c.specs.ConverterTurns.{CanTurn, PassesLimit, TurnEnds, MakesTurn, found_log, found_reference, stage_at}
+use Rattle.jillapun_c.specs.ConverterTurns.{CanTurn, TurnEnds, MakesTurn, found_log, found_reference, stage_at}
 use Rattle.jillapun_c.specs.Conversions.{ConvertsInMemory, IsMadeOf, IsToldReport, IsToldStop}
-use Rattle.jillapun_c.specs.Converters.{ConvertsAll, HandsOut, HoldsNothing, IsNewConverter, TellsStage, TellsStatus, TellsVerdict, held_losses, listed, view_in}
+use Rattle.jillapun_c.specs.Converters.{ConvertsAll, HandsOut, HoldsNothing, IsNewConverter, TellsStage, TellsStatus, held_losses, listed, view_in}
 use Rattle.jillapun_c.specs.Losses.{log_of_losses, loss_bytes}
 use Rattle.jillapun_c.specs.Room.{FillsRoom, IsFilled}
 use Rattle.jillapun_c.specs.declared.coder.Coder.{Coder}
@@ -283,11 +282,11 @@ never_stopped true status ok lossy is = omega (arith, ok refl, is)
 never_stopped false status ok lossy is = omega (arith, lossy refl, is)
 
 -- all was converted
-all_told : (j : Job) (x y : List ℕ) (records : List Loss) (p : RunReport) (report : Report) (status : ℕ) → IsMadeOf j x y records → IsReportButCalls j x p
-    → IsToldReport p report status → ConvertsInMemory j x y records report status
-all_told j x y records p report status made r t = record {
+all_told : (j : Job) (x y : List ℕ) (records : List Loss) (p : RunReport) (characters : ℕ) (report : Report) (status : ℕ) → IsMadeOf j x y records → IsReportButCalls j x p
+    → characters ≡ length (input_text j x) → IsToldReport p characters report status → ConvertsInMemory j x y records report status
+all_told j x y records p characters report status made r counted t = record {
   made = λ d. made;
-  counts = λ v. record { read = t.read ∙ r.read; bad = t.bad ∙ r.bad; lost = t.lost ∙ r.lost; no_character = t.no_character };
+  counts = λ v. record { read = t.read ∙ r.read; bad = t.bad ∙ r.bad; lost = t.lost ∙ r.lost; characters = t.characters_ ∙ counted; no_character = t.no_character };
   faithful = λ ok. r.faithful.0 (told_ok p.faithful status t.lossy ok);
   lossy = λ lossy f. told_lossy p.faithful status t.faithful lossy (r.faithful.1 f);
   stopped = λ e. absurd (never_stopped p.faithful status t.faithful t.lossy e);
@@ -347,9 +346,9 @@ stage_told law Open j last x rest y records v items report status taken w stands
       let end : ConvertedSoFar j true x [] items v = subst (λ b. ConvertedSoFar j b x [] items v) o.last_ (subst (λ (z : List ℕ). ConvertedSoFar j last x z items v) o.none taken) in
       let all : items ≡ whole_trace j x = taken_whole j x items v end o.whole in
       let done = tells.done is in
-      all_told j x y records done.0 report status
+      all_told j x y records done.0 v.state.counts.index report status
       (record { is_output = w.is_output ∙ ap (λ z. output_bytes (tagged (written_under j.policy z))) all; is_log = w.is_log ∙ ap (λ z. log_bytes (tagged (written_under j.policy z))) all })
-      (taken_report j x items v done.0 end o.whole done.1) done.2
+      (taken_report j x items v done.0 end o.whole done.1) (taken_characters j x items v end o.whole) done.2
   | inr is ↦ nothing_said j x y records report status (omega (arith, (tells.open_ is).1)) (λ e. omega (arith, e, (tells.open_ is).1))
 ]
 stage_told law (Stopped index scalar) j last x rest y records v items report status taken w stands over tells =

@@ -1,5 +1,5 @@
 -- What a call did of a part of a text, if it did not come to the end of it, it did of the text.
-use Rattle.std.proofs.Common.{◌≡◌, ◌≢◌, ℕ, zero, suc, ◌+◌, ◌<◌, ◌≤◌, ◌⊎◌, inl, inr, Bool, true, false, List, [], ◌∷◌, ◌++◌, length, refl, sym, ◌∙◌, ap, arith, append_assoc, length-append}
+use Rattle.std.proofs.Common.{◌≢◌, ℕ, inl, inr, Bool, false, List, [], ◌∷◌, ◌++◌, refl, ◌∙◌, ap, arith, append_assoc, length-append}
 use Rattle.encoding_mem.specs.Coding.{Coding}
 use Rattle.encoding_mem.specs.calls.EncoderCalls.{EncodeEndsWith, Encodes, IsSetOfNext, Leaves}
 use Rattle.encoding_mem.specs.calls.EncoderRule.{Tight}

@@ -6,6 +6,7 @@ mod ConverterRunLemmas
 mod ConverterTurnLemmas
 mod EncoderPartLemmas
 mod EncodingNumberLemmas
+mod HandleWordLemmas
 mod FrontPartLemmas
 mod IndexFileLemmas
 mod Openings

@@ -1,17 +1,16 @@
 -- A text whose start was overwritten, and the rest of the character that was cut is cleared. The text of units.
-use Rattle.std.proofs.Common.{◌≡◌, ℕ, zero, suc, ◌+◌, ◌*◌, ◌-◌, ◌<◌, ◌≤◌, ◌⊎◌, inl, inr, Bool, true, false, cond, List, [], ◌∷◌, ◌++◌, length, take, drop, get_or, map, min, refl, sym, ◌∙◌, ap, subst, arith, encode_utf8_all, length-append, length-drop}
+use Rattle.std.proofs.Common.{◌≡◌, ℕ, zero, suc, ◌+◌, ◌-◌, ◌<◌, ◌≤◌, ◌⊎◌, inl, inr, true, false, cond, List, [], ◌∷◌, ◌++◌, length, take, drop, get_or, map, min, refl, sym, ◌∙◌, ap, subst, arith, encode_utf8_all, length-append, length-drop}
 use Rattle.std.specs.Int.{is_in_range}
 use Rattle.std.specs.Option.{unwrap_or}
 use Rattle.std.specs.Str.{IsUtf8, IsAscii, IsCharBoundary, all_scalars}
 use Rattle.std.specs.Char.{encode_utf8}
 use Rattle.std.specs.Char.Utf16.{utf16_lossy_chars, lone_unit_char, surrogate_pair_char}
 use Rattle.std.proofs.lemmas.Bool.{cases_lt, and_parts, le-leb, lt-leb}
-use Rattle.std.proofs.lemmas.Bool.Decides.{nat_tests}
 use Rattle.std.proofs.Math.Utf8.{scalar, low_scalar}
 use Rattle.std.proofs.lemmas.List.{append-nil, take-append-drop, drop_at, drop_all, drop-drop, length-take-le, take_all, take_at, take_rest}
 use Rattle.std.proofs.Math.Seq.{get_or-drop}
 use Rattle.std.proofs.str.Utf16.{lone_unit_char_low, lone_unit_char_high, lone_unit_char_surrogate}
-use Rattle.std.proofs.lemmas.Str.{IsUtf8-append, IsUtf8-nil, IsUtf8-drop, IsUtf8-from_ascii, IsCharBoundary-start, IsCharBoundary-end, IsCharBoundary-from_rest, IsCharBoundary-at_seam, length-encode, len_utf8_bounds, utf16_chars-nil, utf16_chars_lone, utf16_chars_pair}
+use Rattle.std.proofs.lemmas.Str.{IsUtf8-append, IsUtf8-nil, IsUtf8-drop, IsUtf8-from_ascii, IsCharBoundary-start, IsCharBoundary-from_rest, IsCharBoundary-at_seam, length-encode, len_utf8_bounds, utf16_chars-nil, utf16_chars_lone, utf16_chars_pair}
 use borrow.Rule.Slice.PartMut.{put_mid, post_of}
 use Rattle.encoding_mem.specs.calls.TextDestination.{cleared}
 use Rattle.encoding_mem.specs.Surrogates.{IsSurrogatePair}

@@ -10,7 +10,6 @@ use Rattle.recode.specs.declared.job.Report.{Report as RunReport}
 use Rattle.jillapun_c.specs.Losses.{log_of_losses}
 use Rattle.jillapun_c.specs.declared.losses.Loss.{Loss}
 use Rattle.jillapun_c.specs.declared.report.Report.{Report}
-use Rattle.jillapun_c.specs.declared.report.TheConstants.Report.{NONE}
 use Rattle.jillapun_c.specs.declared.status.TheConstants.{LOSSY, NO_MEMORY, OK, ROOM, STOPPED, TOO_LONG}
 
 -- some bytes and some records are what a job makes of an input: all, or, if its policy stops, all up to there
@@ -23,6 +22,7 @@ pub record AreCountsOf (j : Job) (input : List ℕ) (report : Report) : Type 0 w
   pub read : report.read ≡ length input
   pub bad : report.bad ≡ malformed_count (input_pieces j input)
   pub lost : report.lost ≡ lost_count (target_of j) (input_text j input)
+  pub characters : report.characters ≡ length (input_text j input)
   pub no_character : (report.index ≡ 0) × (report.scalar ≡ 0)
 
 -- the counts that are reported are 0
@@ -30,6 +30,7 @@ pub record HasNoCounts (report : Report) : Type 0 where
   pub read : report.read ≡ 0
   pub bad : report.bad ≡ 0
   pub lost : report.lost ≡ 0
+  pub characters : report.characters ≡ 0
 
 -- the policy stopped a job at the first character of the input's text that has no bytes, and the report names it, and
 -- counts nothing
@@ -59,13 +60,14 @@ pub record ConvertsInMemory (j : Job) (input output : List ℕ) (losses : List L
 abbrev pub HasNoSizes : Report → Type 0
 HasNoSizes report = (report.written ≡ 0) × (report.losses ≡ 0)
 
--- what the report of a run becomes
-pub record IsToldReport (p : RunReport) (report : Report) (status : ℕ) : Type 0 where
+-- what the report of a run becomes that counted so many characters
+pub record IsToldReport (p : RunReport) (characters : ℕ) (report : Report) (status : ℕ) : Type 0 where
   pub faithful : p.faithful ≡ true → status ≡ OK
   pub lossy : p.faithful ≡ false → status ≡ LOSSY
   pub read : report.read ≡ p.read
   pub bad : report.bad ≡ p.bad
   pub lost : report.lost ≡ p.lost
+  pub characters_ : report.characters ≡ characters
   pub no_character : (report.index ≡ 0) × (report.scalar ≡ 0)
   pub no_sizes : HasNoSizes report
 

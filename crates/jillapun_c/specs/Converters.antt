@@ -59,7 +59,7 @@ TellsNoEnd report status = (report ≡ NONE) × (status ≡ GOES_ON)
 -- what they tell of one that nothing ended before its time: the counts and the verdict, if all was converted, and else
 -- that it goes on
 pub record TellsVerdict (v : ConverterView) (report : Report) (status : ℕ) : Type 0 where
-  pub done : v.over ≡ true → (p : RunReport) × ReportsOn v.state p × IsToldReport p report status
+  pub done : v.over ≡ true → (p : RunReport) × ReportsOn v.state p × IsToldReport p v.state.counts.index report status
   pub open_ : v.over ≡ false → TellsNoEnd report status
 
 -- what they tell of one at this stage

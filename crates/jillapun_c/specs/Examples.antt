@@ -3,10 +3,13 @@ use Rattle.std.proofs.Common.{arith, inl, inr}
 use Rattle.std.specs.Prelude.{◌≡◌, true, false, None, Some, [], ◌∷◌, codes, refl}
 use lib.Utf8.{encode}
 use Rattle.std.specs.Fmt.{digits}
+use Rattle.encoding_mem.specs.declared.form.EscapeState.TheVariants as set
 use Rattle.encoding_index.specs.declared.fault.IndexFaultKind.TheVariants as fault
 use Rattle.encoding_index.specs.declared.fault.LoadFault.TheVariants.{Text, Table}
 use Rattle.encoding_index.specs.IndexText.{memory_fault}
 use Rattle.encoding_tables.specs.declared.table_fault.TableFault.TheVariants as table
+use Rattle.encoding_tables.specs.IndexLists.{IndexLists}
+use Rattle.encoding_front.specs.calls.Encoder.{EncoderState}
 use Rattle.encoding_front.specs.declared.encoding.Encoding.{Encoding}
 use Rattle.encoding_front.specs.declared.mark.Mark.{Mark}
 use Rattle.recode_log.specs.declared.line.LogLine.TheVariants.{Bad, Lost}
@@ -15,6 +18,7 @@ use Rattle.recode.specs.declared.job.Policy.{Policy}
 use Rattle.jillapun_c.specs.Asked.{policy_at}
 use Rattle.jillapun_c.specs.ConverterTurns.{found_log, line_reference, stage_at}
 use Rattle.jillapun_c.specs.EncodingNumbers.{encoding_at, mark_at, needed_file}
+use Rattle.jillapun_c.specs.HandleWords.{decoder_words, encoder_words, is_other_set}
 use Rattle.jillapun_c.specs.IndexFiles.{told_of}
 use Rattle.jillapun_c.specs.Room.{rest_cleared}
 use Rattle.jillapun_c.specs.TextParts.{IsLookedAt, most_read, told_outcome}
@@ -98,7 +102,7 @@ nothing_is_encoded = refl
 pub nothing_is_converted : converter_.NONE ≡ record { read = 0; written = 0; losses = 0; wants_room = false }
 nothing_is_converted = refl
 
-pub nothing_is_reported : report_.NONE ≡ record { read = 0; bad = 0; lost = 0; written = 0; losses = 0; index = 0; scalar = 0 }
+pub nothing_is_reported : report_.NONE ≡ record { read = 0; bad = 0; lost = 0; characters = 0; written = 0; losses = 0; index = 0; scalar = 0 }
 nothing_is_reported = refl
 
 -- the most that a call reads: as many bytes as it has room for, in UTF-8 and what is written as UTF-8; else four each
@@ -180,3 +184,16 @@ log_of_malformed = refl
 
 pub log_of_nothing : found_log OutputFull ≡ []
 log_of_nothing = refl
+
+-- what handles tell of encoders
+abbrev in_jis : IndexLists → EncoderState
+in_jis tables = record { tables = tables; encoding = Encoding.Iso2022Jp; set = set.Jis }
+
+pub escape_is_pending : (tables : IndexLists) → encoder_words (Some (in_jis tables)) ≡ record { is_there = true; has_pending_state = true; encoding = 6 }
+escape_is_pending tables = refl
+
+pub no_escape_in_ascii : is_other_set set.Ascii ≡ false
+no_escape_in_ascii = refl
+
+pub closed_tells_no_decoder : (decoder_words None).is_there ≡ false
+closed_tells_no_decoder = refl

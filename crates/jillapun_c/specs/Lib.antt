@@ -9,10 +9,12 @@ pub mod DecoderCalls
 pub mod EncoderCalls
 pub mod EncodingNumbers
 pub mod Examples
+pub mod HandleWords
 pub mod IndexFiles
 pub mod Losses
 pub mod Openings
 pub mod Ownership
+pub mod Parts
 pub mod Room
 pub mod TextParts
 pub mod Whole

@@ -148,6 +148,7 @@ mod tests {
         assert_eq!(rt; left.dst, *b"A\xE3\x83\x8F........");
         assert_eq!(rt; left.report.written, 4);
         assert_eq!(rt; left.report.read, 3);
+        assert_eq!(rt; left.report.characters, 2);
         assert_eq!(rt; left.report.losses, 0);
         assert_eq!(rt; left.losses[0].kind, 9);
         Ok(())

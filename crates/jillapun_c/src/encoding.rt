@@ -1,10 +1,12 @@
 //! The exports on encodings: found by a label or a mark, and what is told of each. An encoding
 //! crosses as its number, from 0 to 39, in the order of the names.
 
-ghost use Rattle.std.specs.Prelude.{◌≡◌, MatchOption};
+ghost use Rattle.std.specs.Prelude.{◌≡◌, ◌↔◌, false, IsTrue, MatchOption};
 ghost use Rattle.std.specs.Option.{option_map};
 ghost use Rattle.encoding_front.specs.EncodingTable.{encoding_name, number_of};
-ghost use Rattle.encoding_front.specs.Encodings.{HasLabel, mark_at_start, output_encoding_of};
+ghost use Rattle.encoding_front.specs.Encodings.{HasLabel, IsUtf8Encoding, mark_at_start};
+ghost use Rattle.encoding_front.specs.Encodings.{is_ascii_compatible_of, is_single_byte_of};
+ghost use Rattle.encoding_front.specs.Encodings.{output_encoding_of};
 ghost use Rattle.encoding_front.specs.declared.encoding.Encoding.{Encoding};
 ghost use Rattle.jillapun_c.specs.EncodingNumbers.{IsReadyStatus, Writes, WritesIfAny};
 ghost use Rattle.jillapun_c.specs.EncodingNumbers.{encoding_at, needed_file};
@@ -15,7 +17,7 @@ use crate::status::{CLOSED, NO_ENCODING, NOT_READY, OK, REFUSED, UNKNOWN};
 use crate::tables_handle::TablesHandle;
 use encoding_front::Encoding;
 
-/// The number of the encoding that has this label, or `NO_ENCODING` where no encoding has it ("get
+/// The number of the encoding that has this label, or `NO_ENCODING` if no encoding has it ("get
 /// an encoding" of the Encoding Standard, section 4.2). White space at both ends (the bytes 09, 0A,
 /// 0C, 0D and 20) and the case of ASCII letters do not matter.
 #[unsafe(no_mangle)]
@@ -24,6 +26,23 @@ pub extern "C" fn jillapun_for_label(label: &[u8]) -> u8
     ensures none { ((e : Encoding) → ¬ (HasLabel e label.now)) → result ≡ NO_ENCODING }
 {
     match Encoding::for_label(label) {
+        Some(encoding) => number_of(encoding),
+        None => NO_ENCODING,
+    }
+}
+
+/// The number of the encoding that has this label, or `NO_ENCODING` if no encoding but
+/// replacement has it: for a caller to whom a label of replacement is an error, as an unknown one
+/// is. White space at both ends (the bytes 09, 0A, 0C, 0D and 20) and the case of ASCII letters do
+/// not matter.
+#[unsafe(no_mangle)]
+pub extern "C" fn jillapun_for_label_no_replacement(label: &[u8]) -> u8
+    ensures found { (e : Encoding) → HasLabel e label.now → ¬ (e ≡ Encoding.Replacement)
+        → result ≡ number_of e }
+    ensures none { ((e : Encoding) → HasLabel e label.now → e ≡ Encoding.Replacement)
+        → result ≡ NO_ENCODING }
+{
+    match Encoding::for_label_no_replacement(label) {
         Some(encoding) => number_of(encoding),
         None => NO_ENCODING,
     }
@@ -66,7 +85,7 @@ pub extern "C" fn jillapun_name(encoding: u8, name: &mut [u8]) -> usize
 
 /// The number of the encoding in which text is written that is asked for in this one ("get an
 /// output encoding" of the Encoding Standard, section 4.3): UTF-8 for UTF-16BE, UTF-16LE and
-/// replacement, and the encoding itself for all others. `NO_ENCODING` where no encoding has the
+/// replacement, and the encoding itself for all others. `NO_ENCODING` if no encoding has the
 /// number.
 #[unsafe(no_mangle)]
 pub extern "C" fn jillapun_output_encoding(encoding: u8) -> u8
@@ -76,6 +95,48 @@ pub extern "C" fn jillapun_output_encoding(encoding: u8) -> u8
     match encoding_of(encoding) {
         Some(encoding) => number_of(encoding.output_encoding()),
         None => NO_ENCODING,
+    }
+}
+
+/// Whether each character is one byte: so in the 28 single-byte encodings (the Encoding Standard,
+/// section 9), in which a byte that the index lacks is malformed, and in x-user-defined (section
+/// 14.5). False if no encoding has the number.
+#[unsafe(no_mangle)]
+pub extern "C" fn jillapun_is_single_byte(encoding: u8) -> bool
+    ensures { MatchOption (encoding_at encoding) (result ≡ false)
+        (λ e. result ≡ is_single_byte_of e) }
+{
+    match encoding_of(encoding) {
+        Some(encoding) => encoding.is_single_byte(),
+        None => false,
+    }
+}
+
+/// Whether each byte below 80 stands for the character of its number if a character begins there,
+/// and such a character is written as that byte: so in all encodings but UTF-16BE, UTF-16LE,
+/// replacement and ISO-2022-JP. False if no encoding has the number.
+#[unsafe(no_mangle)]
+pub extern "C" fn jillapun_is_ascii_compatible(encoding: u8) -> bool
+    ensures { MatchOption (encoding_at encoding) (result ≡ false)
+        (λ e. result ≡ is_ascii_compatible_of e) }
+{
+    match encoding_of(encoding) {
+        Some(encoding) => encoding.is_ascii_compatible(),
+        None => false,
+    }
+}
+
+/// Whether every character has bytes in the output encoding: so if that is UTF-8. The output of
+/// gb18030 lacks some characters (the Encoding Standard, section 10.2.2). False if no encoding
+/// has the number.
+#[unsafe(no_mangle)]
+pub extern "C" fn jillapun_can_encode_everything(encoding: u8) -> bool
+    ensures { MatchOption (encoding_at encoding) (result ≡ false)
+        (λ e. IsTrue result ↔ IsUtf8Encoding (output_encoding_of e)) }
+{
+    match encoding_of(encoding) {
+        Some(encoding) => encoding.can_encode_everything(),
+        None => false,
     }
 }
 

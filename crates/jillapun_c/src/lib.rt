@@ -21,6 +21,7 @@ mod lists;
 mod loose;
 mod losses;
 mod mem;
+mod parts;
 mod progress;
 mod report;
 mod request;

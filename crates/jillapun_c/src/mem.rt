@@ -1,6 +1,7 @@
-//! The functions of `encoding_mem`, under the names that the crates `encoding_c_mem` and
-//! `encoding_c` give those of encoding_rs; five that those lack, or have in another form, begin
-//! with `jillapun_mem_`. They need no tables, and hold no memory.
+//! The functions of `encoding_mem`, with the parameters that the crates `encoding_c_mem` and
+//! `encoding_c` give those of encoding_rs, and with `jillapun_` in place of `encoding_` in their
+//! names; and five that those lack, or have in another form. They need no tables, and hold no
+//! memory.
 //!
 //! If the room is too small, encoding_rs panics, and these write nothing and return `SIZE_MAX`.
 

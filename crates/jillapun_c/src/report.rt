@@ -8,12 +8,17 @@ use crate::status::{LOSSY, OK, STOPPED};
 #[repr(C)]
 #[derive(Clone, Copy)]
 pub struct Report {
-    /// The bytes of the input. Told at `OK` and `LOSSY`, as the two counts that follow, and else 0.
+    /// The bytes of the input. Told at `OK` and `LOSSY`, as the three counts that follow, and else
+    /// 0.
     pub read: u64,
     /// The malformed sequences of the input.
     pub bad: u64,
     /// The characters of the text that the output encoding has no bytes for.
     pub lost: u64,
+    /// The characters of the text of the input, with U+FFFD for each malformed sequence, and
+    /// without a mark that was taken. The indexes of what follows the input, if that is converted
+    /// by itself, are moved by it.
+    pub characters: u64,
     /// The bytes of the output, in memory: so many stand at the start of `dst`, or, at `ROOM`, so
     /// many are wanted. 0 if nothing was written, and in a conversion by steps: its calls tell it.
     pub written: u64,
@@ -33,6 +38,7 @@ impl Report {
         read: 0,
         bad: 0,
         lost: 0,
+        characters: 0,
         written: 0,
         losses: 0,
         index: 0,
@@ -53,14 +59,16 @@ pub(crate) fn told_stop(index: u64, scalar: char) -> (u8, Report)
     (STOPPED, report)
 }
 
-/// The status of a conversion that came to its end, and what is reported of it.
-pub(crate) fn told_report(run: recode::Report) -> (u8, Report)
-    ensures { IsToldReport run result.1 result.0 }
+/// The status of a conversion that came to its end, and what is reported of it and of the
+/// characters that it counted.
+pub(crate) fn told_report(run: recode::Report, characters: u64) -> (u8, Report)
+    ensures { IsToldReport run characters result.1 result.0 }
 {
     let report = Report {
         read: run.read,
         bad: run.bad,
         lost: run.lost,
+        characters,
         ..Report::NONE
     };
     (if run.faithful { OK } else { LOSSY }, report)

@@ -16,10 +16,10 @@ use crate::encoder::utf8::{
 use crate::encoder::{EncoderHandle, jillapun_encoder_free, jillapun_encoder_new};
 use crate::encoder_progress::EncoderProgress;
 use crate::encoding::{
-    jillapun_for_bom, jillapun_for_label, jillapun_name, jillapun_needs, jillapun_output_encoding,
-    jillapun_tables_is_ready,
+    jillapun_can_encode_everything, jillapun_for_bom, jillapun_for_label,
+    jillapun_for_label_no_replacement, jillapun_is_ascii_compatible, jillapun_is_single_byte,
+    jillapun_name, jillapun_needs, jillapun_output_encoding, jillapun_tables_is_ready,
 };
-use crate::handle::CoderHandle;
 use crate::index_files::IndexFile;
 use crate::progress::Progress;
 use crate::status::{
@@ -93,11 +93,29 @@ fn faulty_indexes_are_told(rt: HostRuntime) {
 }
 
 #[test]
+fn encodings_are_asked(rt: HostRuntime) {
+    assert_eq!(rt; jillapun_for_label_no_replacement(b" LATIN1\n"), 31);
+    assert_eq!(rt; jillapun_for_label(b"iso-2022-kr"), 23);
+    assert_eq!(rt;
+        jillapun_for_label_no_replacement(b"iso-2022-kr"),
+        NO_ENCODING
+    );
+    assert_eq!(rt; jillapun_for_label_no_replacement(b"latin-1"), NO_ENCODING);
+    assert!(rt; jillapun_is_single_byte(39));
+    assert!(rt; !jillapun_is_single_byte(25));
+    assert!(rt; !jillapun_is_single_byte(40));
+    assert!(rt; jillapun_is_ascii_compatible(24));
+    assert!(rt; !jillapun_is_ascii_compatible(6));
+    assert!(rt; !jillapun_is_ascii_compatible(40));
+    assert!(rt; jillapun_can_encode_everything(26));
+    assert!(rt; !jillapun_can_encode_everything(3));
+    assert!(rt; !jillapun_can_encode_everything(40));
+}
+
+#[test]
 fn stream_is_decoded(rt: HostRuntime) {
     let alloc = rt.alloc();
-    let mut decoder = DecoderHandle {
-        coder: CoderHandle::none(),
-    };
+    let mut decoder = DecoderHandle::none();
     let mut progress = Progress::NONE;
     let mut text = [0; 8];
     let status = jillapun_decoder_decode_to_utf8(
@@ -185,9 +203,7 @@ fn stream_is_decoded(rt: HostRuntime) {
 #[test]
 fn stream_is_encoded(rt: HostRuntime) {
     let alloc = rt.alloc();
-    let mut encoder = EncoderHandle {
-        coder: CoderHandle::none(),
-    };
+    let mut encoder = EncoderHandle::none();
     let mut progress = EncoderProgress::NONE;
     let mut bytes = [0; 40];
     assert_eq!(rt;

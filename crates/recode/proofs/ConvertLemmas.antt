@@ -5,7 +5,7 @@ use Rattle.std.specs.Str.{all_scalars, chars}
 use Rattle.std.specs.Char.Utf16.{utf16_lossy_chars}
 use Rattle.encoding_front.specs.calls.Stream.{finishes, DecoderView}
 use Rattle.encoding_front.specs.declared.encoding.Encoding.{Encoding}
-use Rattle.encoding_mem.specs.Piece.{sizes}
+use Rattle.encoding_mem.specs.Piece.{sizes, text}
 use Rattle.encoding_mem.specs.Items.{Byte, Item}
 use Rattle.encoding_mem.specs.calls.Decoding.{DecoderState}
 use Rattle.encoding_mem.specs.declared.decoder_result.DecoderResult.{DecoderResult}
@@ -190,6 +190,7 @@ done_in c src last need law is empty open_ sound closed tells told =
       settled = open_.2;
       ready = λ on. record { open_ = open_.1 ∙ on; sound = omega (arith, sound'.index, sound'.bad, sound'.lost); tells = tells on };
       end = λ end. none_owed (reference_form s.policy) s.decoder s.coding s.set s.counts law (closed end) (open_.3 end).1;
+      counted = λ end. omega (arith, ap (λ ps. length (text ps)) (open_.3 end).1);
       told = λ end. verdict_told (reference_form s.policy) s.coding need law s.verdict s.set (s.decoder.pieces []) (open_.3 end).1 (closed end) (told end);
     }
 

@@ -22,7 +22,7 @@ use Rattle.recode.specs.Job.{input_pieces, log_lines, lost_log_lines, target_of}
 use Rattle.recode.specs.calls.Chunk.{ConvertsChunk}
 use Rattle.recode.specs.Latency.{HasReached, WroteDecided}
 use Rattle.recode.specs.Policy.{reference_form}
-use Rattle.recode.specs.State.{State, to_write}
+use Rattle.recode.specs.State.{State, characters_with, to_write}
 use Rattle.recode.specs.Step.{Advances, Finishes, HasRun, IsNearlyDecided, StepsOn}
 use Rattle.recode.specs.Devices.{Devices, Gave, GaveToEnd, Grew, KeepsWritten, Written}
 use Rattle.recode.specs.TaggedByte.{IsPrefix, log_bytes, tagged, output_bytes}
@@ -137,6 +137,7 @@ finishes before after limit s s1 chunk last given none within ends k =
       within = within;
       pays = record { written_items = pays.written_items; wrote = pays.wrote; counted = pays.counted; spared = pays.spared; equals = ap (to_write s) (sym whole) ∙ pays.equals [] (λ h. refl) ∙ ap (λ l. pays.written_items ++ l) (k.done.end ends) };
       source = ap s.source (sym whole) ∙ k.source [] (λ h. refl);
+      characters = sym (ap (characters_with s) (sym whole) ∙ k.characters [] (λ h. refl) ∙ k.done.counted ends);
       verdict = both_ways (rw whole at (k.verdict [] (λ h. refl))) (k.done.told ends);
       calls = omega (arith, rw (whole, k.done.end ends) at (k.calls [] (λ h. refl)));
       least = λ under. omega (arith, k.least under, ap length none);

@@ -5,6 +5,7 @@ pub mod VerdictLemmas
 pub mod CodecCallLemmas
 pub mod StopLemmas
 pub mod StepLemmas
+pub mod ConversionLemmas
 pub mod RunLemmas
 pub mod InputLemmas
 pub mod PartLemmas

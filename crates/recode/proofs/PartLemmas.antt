@@ -256,8 +256,9 @@ source_where_found j x found is = ap (source_if (takes_mark_of j.mark j.from) j.
 
 -- ---- runs on parts
 
-pub runs_on_parts : (j : Job) (x y : List ℕ) (v w : Written) (p q : Report) → IsValidJob j → CanBeCut j x → IsConverted unwritten v j x p → IsConverted unwritten w (later j x) y q → AreOfWhole j x y v w p q
-runs_on_parts j x y v w p q valid c one other =
+pub runs_on_parts : (j : Job) (x y : List ℕ) (v w : Written) (p q : Report) (characters : ℕ) → IsValidJob j → CanBeCut j x → IsConverted unwritten v j x p → characters ≡ length (input_text j x) → IsConverted unwritten w (later j x) y q
+    → AreOfWhole j x y v w p q characters
+runs_on_parts j x y v w p q characters valid c one counted other =
     let k = length (input_text j x) in
     let ls = lines_of (later j x) y in
     let through = one.whole.unstopped in
@@ -269,6 +270,7 @@ runs_on_parts j x y v w p q valid c one other =
           ∙ ap (flat_map line_bytes) (two_lines j x y valid c through)
           ∙ flat_map-append line_bytes (lines_of j x) (map (moved_line (length x) k) ls)
           ∙ ap (λ l. l ++ flat_map line_bytes (map (moved_line (length x) k) ls)) (sym (log_bytes-noted (trace j x)) ∙ sym one.whole.logged)
-          ∙ ap (λ n. v.log ++ flat_map line_bytes (map (moved_line n k) ls)) (sym one.report.read);
+          ∙ ap (λ n. v.log ++ flat_map line_bytes (map (moved_line n k) ls)) (sym one.report.read)
+          ∙ ap (λ m. v.log ++ flat_map line_bytes (map (moved_line p.read m) ls)) (sym counted);
       faithful = verdicts_say j x y valid c p q one.report.faithful other.report.faithful;
     }

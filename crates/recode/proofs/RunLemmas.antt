@@ -1,6 +1,8 @@
 -- From steps to runs.
-use Rattle.std.proofs.Common.{◌≡◌, ℕ, ◌+◌, ◌*◌, ◌≤◌, true, List, [], ◌++◌, length, sym, ◌∙◌, ap, subst, arith, append-nil}
-use Rattle.encoding_mem.specs.Piece.{AreWellFormed}
+use Rattle.std.proofs.Common.{◌≡◌, ℕ, ◌+◌, ◌*◌, ◌≤◌, true, List, [], ◌∷◌, ◌++◌, length, sym, ◌∙◌, ap, subst, arith, append-nil}
+use Rattle.std.proofs.lemmas.List.{append_cancel_left, append_cancel_right}
+use Rattle.std.specs.List.{concat}
+use Rattle.encoding_mem.specs.Piece.{AreWellFormed, text}
 use Rattle.encoding_mem.specs.Coding.{AllMapped}
 use Rattle.encoding_front.specs.Encodings.{KeepsCharacters}
 use Rattle.encoding_front.specs.laws.Encodings.{reads_back_exactly}
@@ -13,8 +15,9 @@ use Rattle.recode.specs.Job.{IsValidJob, Faithful, input_pieces, output_pieces, 
 use Rattle.recode.specs.Latency.{WroteDecided}
 use Rattle.recode.specs.Policy.{reference_form}
 use Rattle.recode.specs.Session.{View, IsNewSession, Tells, Completes, Fails}
+use Rattle.recode.specs.State.{State}
 use Rattle.recode.specs.Step.{Finishes}
-use Rattle.recode.specs.Devices.{Devices}
+use Rattle.recode.specs.Devices.{Devices, GaveToEnd}
 use Rattle.recode.specs.declared.job.Fault.{Fault}
 use Rattle.recode.specs.declared.job.Job.{Job}
 use Rattle.recode.specs.declared.job.Policy.{Policy}
@@ -71,6 +74,19 @@ completes before after j v u p valid b f t =
       },
       calls,
     )
+
+-- calls gave one input to its end
+given_once : (a b : List (List ℕ)) (x y : List ℕ) → GaveToEnd a b x → GaveToEnd a b y → x ≡ y
+given_once a b x y p q =
+    let end : List (List ℕ) = [] ∷ [] in
+    let same = append_cancel_right p.0 q.0 end (append_cancel_left a (p.0 ++ end) (q.0 ++ end) (sym p.1 ∙ q.1)) in
+    sym p.2 ∙ ap concat same ∙ q.2
+
+-- all characters of its text are counted
+pub counts_text : (before after : Devices) (j : Job) (v : View) (w : State) → IsNewSession v j → Finishes before after j.limit v.state w
+    → (x : List ℕ) → GaveToEnd before.reads after.reads x → w.counts.index ≡ length (input_text j x)
+counts_text before after j v w b f x given =
+    omega (arith, f.characters, b.index, ap (λ ps. length (text ps)) (b.pieces f.chunk), ap (λ y. length (input_text j y)) (given_once before.reads after.reads f.chunk x f.given given))
 
 pub fails : (before after : Devices) (j : Job) (v : View) (f : Fault) → IsNewSession v j → HasStopped before after j.limit v.state f → Fails before after j f
 fails before after j v f b s =

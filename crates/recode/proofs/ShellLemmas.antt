@@ -136,6 +136,7 @@ module _ {W L : Type 0} {contents : W → Option (List ℕ)} {logged : L → Opt
         policy = t.policy;
         sound = record { index = omega (arith, t.sound.index); bad = omega (arith, t.sound.bad); lost = t.sound.lost };
         source = t.source;
+        characters = t.characters;
         pays = record {
           written_items = h.items;
           wrote = subst (λ items. Wrote (written_by w0) (written_by w2) (tagged items)) (sym all) passes.wrote;
@@ -272,7 +273,11 @@ ends_in j c x last free InputEmpty h = record {
   settled = h.3.settled;
   over = and-true last;
   ended = ap (λ a. is_last_text a last) h.1;
-  whole = λ e. record { written = rw (none_waits c h.1 h.2) (none_owed c.state (h.3.end e)); told = rw (none_waits c h.1 h.2) (h.3.told e) };
+  whole = λ e. record {
+    written = rw (none_waits c h.1 h.2) (none_owed c.state (h.3.end e));
+    counted = rw (none_waits c h.1 h.2) (h.3.counted e);
+    told = rw (none_waits c h.1 h.2) (h.3.told e);
+  };
 }
 ends_in j c x last free _ h = (h.0, and-false last)
 

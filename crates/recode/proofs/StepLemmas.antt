@@ -1,21 +1,26 @@
--- How a step's parts make its clauses. What is left if a conversion failed.
-use Rattle.std.proofs.Common.{Err, Ok, ◌⊎◌, ◌≡◌, ℕ, ◌+◌, ◌≤◌, ◌<◌, add-zero, arith, length-append, append_assoc, List, [], ◌∷◌, ◌++◌, length, Bool, true, false, refl, sym, ap, ◌∙◌, subst, append-nil, take, inl, inr}
-use Rattle.recode.proofs.TraceLemmas.{Gave-nil, Gave-one, Gave-trans, GaveThen-after, GaveToEnd-is, Grew-trans, WritesItemsFor-start, Wrote-nil, Wrote-trans, left_behind}
+-- How a step's parts make its clauses, and how a run and flushes make a conversion.
+use Rattle.std.proofs.Common.{Result, OnOk, IfErr, Err, Ok, ◌⊎◌, ◌≡◌, ℕ, ◌+◌, ◌≤◌, ◌<◌, add-zero, arith, length-append, append_assoc, List, [], ◌∷◌, ◌++◌, length, Bool, true, false, refl, sym, ap, ◌∙◌, subst, append-nil, inl, inr}
+use Rattle.std.specs.Prelude.{if◌then◌else◌}
+use Rattle.recode.proofs.TraceLemmas.{Gave-nil, Gave-one, Gave-trans, GaveThen-after, GaveToEnd-is, WritesItemsFor-start, Wrote-nil, Wrote-trans, left_behind}
 use Rattle.encoding_mem.specs.Items.{Item}
+use Rattle.encoding_mem.specs.Piece.{text}
+use Rattle.encoding_mem.specs.laws.Piece.{text-append}
 use Rattle.recode.specs.State.{State, to_write}
-use Rattle.recode.specs.Devices.{CountsFault, Devices, Failures, Gave, GaveToEnd, Grew, KeepsWritten, Written}
-use Rattle.recode.specs.TaggedByte.{Wrote, tagged, TaggedByte, log_bytes}
+use Rattle.recode.specs.Devices.{Devices, Failures, Gave, GaveToEnd, KeepsWritten, Ports, Written, devices_of}
+use Rattle.recode.specs.TaggedByte.{Wrote, tagged, TaggedByte}
 use Rattle.recode.specs.Policy.{written_under}
 use Rattle.recode.specs.WrittenItems.{IsLeft, IsStop, WritesPrefixFor}
-use Rattle.recode.specs.Step.{Finishes, HasRun, IsNearlyDecided, StepsOn, Stops, WasRead}
+use Rattle.recode.specs.Step.{Finishes, HasRun, IsNearlyDecided, RunCalls, StepsOn, Stops, WasRead}
+use Rattle.recode.specs.Runs.{RunReturns}
 use Rattle.recode.specs.Fault.{of_other}
 use Rattle.recode.specs.declared.job.Fault.{Fault}
-use Rattle.recode.specs.declared.job.Fault.TheVariants.{Read, Write, Log, TooLong}
+use Rattle.recode.specs.declared.job.Fault.TheVariants.{Read, Write, Log, TooLong, Unmappable}
 use Rattle.recode.proofs.LatencyLemmas.{advances_more}
 use Rattle.recode.proofs.VerdictLemmas.{both_ways}
 use Rattle.recode.specs.laws.Items.{tagged-append, AreCounted-trans, spared_append}
-use Rattle.recode_log.specs.Counted.{IsTold}
-use Rattle.recode.specs.Conversion.{Breaks, CountsFlushes, IsFlushCause, RisesBy, message_of}
+use Rattle.recode_log.specs.Counted.{TellsMessage}
+use Rattle.recode_log.specs.declared.counted.Counted.{Counted}
+use Rattle.recode.specs.Conversion.{Converts, IsConversion, IsFlushed, message_of, after_flushes, status_of}
 use Rattle.recode.specs.Job.{trace}
 use Rattle.recode.specs.Session.{Completes, Fails}
 use Rattle.recode.specs.declared.job.Job.{Job}
@@ -128,6 +133,10 @@ goes_on_finish a b c limit s s1 s2 p q = record {
     equals = p.pays.equals q.chunk (λ k. cc) ∙ ap (λ t. p.pays.written_items ++ t) q.pays.equals ∙ sym (append_assoc p.pays.written_items q.pays.written_items []);
   };
   source = p.source q.chunk ∙ q.source;
+  characters =
+      let f = p.advances in
+      let behind = s1.decoder.pieces q.chunk in
+      omega (arith, q.characters, f.index, ap (λ ps. length (text ps)) (f.rest q.chunk), ap length (text-append f.taken behind), length-append (text f.taken) (text behind));
   verdict = both_ways (p.verdict q.chunk) q.verdict;
   calls = omega (arith, p.calls q.chunk, q.calls, length-append p.chunk q.chunk);
   least = λ under.
@@ -158,64 +167,80 @@ goes_on_stop a b c limit s s1 f p q = record {
   latest = λ h. let kept = q.untouched h in (b, s1, p, sym (append-nil p.chunk) ∙ ap (λ x. p.chunk ++ x) (sym kept.0), kept.1);
 }
 
--- What is left if a conversion failed.
+-- What a conversion did.
 
--- counts after a run, and after the flushes
-module _ (n k : Devices) (m : Failures) (r : m.reader ≡ k.failures.reader) (w : RisesBy 0 k.failures.writer m.writer) (l : RisesBy 0 k.failures.log m.log) where
-  -- a run's fault is counted
-  pub run_counted : (f : Fault) → CountsFault {T = Report} n k (Err f) → CountsFlushes n.failures m f
-  run_counted f c = omega arith
-
-  -- a flush's fault is counted
-  pub flush_counted : (p : Report) (f : Fault) → CountsFault n k (Ok p) → IsFlushCause k.failures.writer m.writer k.failures.log m.log f → CountsFlushes n.failures m f
-  flush_counted p Write c h = omega arith
-  flush_counted p Log c h = omega arith
-  flush_counted p _ c h = absurd h
-
--- the log with its message, after what was written and flushed
-module _ (before after : Devices) (flushed : Written) (log : List ℕ) (m : Failures) (untold : ℕ) (j : Job) (kept : KeepsWritten after.written flushed) where
-  told_log : (taken : List TaggedByte) (message : List ℕ) → Wrote before.written after.written taken → Grew flushed.log log message → Grew before.written.log log (log_bytes taken ++ message)
-  told_log taken message wrote told =
-      Grew-trans before.written.log flushed.log log (log_bytes taken) message (kept.log ∙ wrote.lined) told
-
-  -- by a run that failed
-  pub run_broke : (f : Fault) → Fails before after j f → (k : ℕ) × IsTold untold m.log (message_of f) k × Grew flushed.log log (take k (message_of f))
-      → CountsFlushes before.failures (record m { log = untold }) f → Breaks before (record { reads = after.reads; written = record { output = flushed.output; log = log }; failures = m }) j
-  run_broke f k told counted = record {
-    read = k.read;
-    within = k.within;
-    limited = k.limited;
-    taken = k.taken;
-    fault = f;
-    untold = untold;
-    counted = counted;
-    told = told.0;
-    whole = told.1;
-    output = kept.output ∙ k.wrote.output;
-    logged = told_log k.taken (take told.0 (message_of f)) k.wrote told.2;
-    prefix = k.prefix;
-    stopped = k.stopped;
-  }
-
-  -- by a flush that failed
-  pub flush_broke : (p : Report) (g : Fault) → Completes before.reads after.reads before.written after.written j p → (k : ℕ) × IsTold untold m.log (message_of g) k × Grew flushed.log log (take k (message_of g))
-      → CountsFlushes before.failures (record m { log = untold }) g → (writes writes' logs logs' : ℕ) → IsFlushCause writes writes' logs logs' g
-      → Breaks before (record { reads = after.reads; written = record { output = flushed.output; log = log }; failures = m }) j
-  flush_broke p g k told counted writes writes' logs logs' cause =
+module _ (before ran : Devices) (j : Job) where
+  -- a whole run, after which a writer failed, left what that fault may leave
+  whole_fails : (p : Report) (f : Fault) → of_other {T = Report} (Err f) ≡ 0 → ((index scalar : ℕ) → f ≡ Unmappable index scalar → ⊥) → Completes before.reads ran.reads before.written ran.written j p → Fails before ran j f
+  whole_fails p f writing unstopped k =
       let w = k.converted.whole in
       let all : List TaggedByte = tagged (trace j k.input) in
       record {
-        read = record { input = k.input; refused = []; ended = true; given = subst (Gave before.reads after.reads) (sym (append-nil k.input)) (GaveToEnd-is before.reads after.reads k.input k.given); end = λ h. k.given; spared = λ h. refl; last = λ is. absurd (rw is at cause) };
+        read = record { input = k.input; refused = []; ended = true; given = subst (Gave before.reads ran.reads) (sym (append-nil k.input)) (GaveToEnd-is before.reads ran.reads k.input k.given); end = λ h. k.given; spared = λ h. refl; last = λ is. absurd (omega (arith, rw is at writing)) };
         within = w.within;
-        limited = λ is. absurd (rw is at cause);
+        limited = λ is. absurd (omega (arith, rw is at writing));
         taken = all;
-        fault = g;
-        untold = untold;
-        counted = counted;
-        told = told.0;
-        whole = told.1;
-        output = kept.output ∙ w.output;
-        logged = told_log all (take told.0 (message_of g)) (record { output = w.output; lined = w.logged }) told.2;
+        wrote = record { output = w.output; lined = w.logged };
         prefix = λ r h. ([], ap (λ t. tagged (trace j t)) (ap (λ t. k.input ++ t) (h refl) ∙ append-nil k.input) ∙ sym (append-nil all));
-        stopped = λ r h i c is. absurd (rw is at cause);
+        stopped = λ r h i c is. absurd (unstopped i c is);
+        latest = λ h. absurd (elim h [ inl is ↦ omega (arith, rw is at writing) | inr is ↦ omega (arith, rw is at writing) ]);
       }
+
+  -- so what the first fault is of was left
+  broke : (answer : Result Report Fault) (writer_failed log_failed : Bool) → RunReturns before ran j answer → IfErr (after_flushes answer writer_failed log_failed) (Fails before ran j)
+  broke (Err f) w l h = h.fails
+  broke (Ok p) true l h = whole_fails p Write refl (λ i c is. cc) h.completes
+  broke (Ok p) false true h = whole_fails p Log refl (λ i c is. cc) h.completes
+  broke (Ok p) false false h = tt
+
+  -- the status says whether anything was lost
+  pub converts_whole : (after : Devices) (p : Report) (status : ℕ) → Completes before.reads ran.reads before.written ran.written j p → after.reads ≡ ran.reads → KeepsWritten ran.written after.written → status ≡ status_of (Ok p)
+      → Converts before after j status
+  converts_whole after p status k same kept is =
+      let w = k.converted.whole in
+      let f = k.converted.report.faithful in
+      record {
+        input = k.input;
+        given = rw same k.given;
+        whole = record { within = w.within; unstopped = w.unstopped; output = kept.output ∙ w.output; logged = kept.log ∙ w.logged };
+        known = known p.faithful is;
+        faithful = λ zero. f.0 (is_faithful p.faithful is zero);
+        lossy = λ one h. is_lossy p.faithful is one (f.1 h);
+      }
+    where
+      known : (b : Bool) → status ≡ (if b then 0 else 1) → (status ≡ 0) ⊎ (status ≡ 1)
+      known true is = inl is
+      known false is = inr is
+
+      is_faithful : (b : Bool) → status ≡ (if b then 0 else 1) → status ≡ 0 → b ≡ true
+      is_faithful true is zero = refl
+      is_faithful false is zero = absurd (omega (arith, is, zero))
+
+      is_lossy : (b : Bool) → status ≡ (if b then 0 else 1) → status ≡ 1 → b ≡ true → ⊥
+      is_lossy true is one h = omega (arith, is, one)
+      is_lossy false is one h = cc
+
+-- a run, the flushes and what was told
+module _ {R W L : Type 0} (before ran after : Ports R W L) (flushed : Counted L) (j : Job) (room : ℕ) (answer : Result Report Fault) (writer_failed log_failed : Bool)
+    (returns : RunReturns (devices_of before) (devices_of ran) j answer) (calls : RunCalls before.reader ran.reader before.writer ran.writer before.log ran.log room answer)
+    (unread : after.reader ≡ ran.reader) (writer : IsFlushed ran.writer after.writer writer_failed) (log : IsFlushed ran.log flushed log_failed) where
+  pub conversion : (came_to : Result Report Fault) (status : ℕ) → came_to ≡ after_flushes answer writer_failed log_failed → OnOk came_to (after.log ≡ flushed) → IfErr came_to (λ f. TellsMessage flushed after.log (message_of f)) → status ≡ status_of came_to
+      → IsConversion before after j room status
+  conversion came_to status first quiet tells answered = record {
+    ran = ran;
+    answer = answer;
+    returns = returns;
+    calls = calls;
+    unread = unread;
+    writer_failed = writer_failed;
+    writer = writer;
+    log_failed = log_failed;
+    flushed = flushed;
+    log = log;
+    came_to = came_to;
+    first = first;
+    fails = subst (λ (r : Result Report Fault). IfErr r (Fails (devices_of before) (devices_of ran) j)) (sym first) (broke (devices_of before) (devices_of ran) j answer writer_failed log_failed returns);
+    quiet = quiet;
+    tells = tells;
+    answered = answered;
+  }

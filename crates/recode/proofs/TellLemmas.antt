@@ -1,27 +1,26 @@
--- What the devices of a conversion tell after calls in a row, which call was the last, and what the clauses of a run
--- and of a conversion say of devices that tell.
-use Rattle.std.proofs.Common.{◌≡◌, ◌<◌, ℕ, List, [], ◌∷◌, ◌++◌, Option, Some, None, Result, Ok, Err, OnErr, IfErr, IsErrAnd, inl, inr, sym, ap, subst, ◌∙◌, append_assoc, append-nil, length, take, arith, rules}
+-- What the devices of a conversion tell after calls in a row, which call was the last, and what the clauses of a run say
+-- of devices that tell.
+use Rattle.std.proofs.Common.{◌≡◌, ◌<◌, ◌≤◌, ◌+◌, ℕ, Bool, true, false, is_err, List, [], ◌∷◌, ◌++◌, Option, Some, None, Result, Ok, Err, OnOk, OnErr, IfErr, IsErrAnd, sym, ap, subst, ◌∙◌, append_assoc, append-nil, length, arith, rules}
 use Rattle.std.specs.Io.KnownBytes.{Appends, Consumes, IsAtEnd}
 use Rattle.std.specs.List.{All, concat}
 use Rattle.std.proofs.lemmas.List.{append_cancel_left, same_from_push}
 use Rattle.std.proofs.lemmas.List.Elements.{All-append, All-cons, All-nil}
-use Rattle.recode_log.specs.Call.{Call, Failed, Flush, Passed, passed_by, failed_read}
-use Rattle.recode_log.specs.Counted.{CountsWrites, history_of}
+use Rattle.recode_log.specs.Call.{Call, Failed, Flush, FlushesOnce, Passed, passed_by, failed_read, failed_write}
+use Rattle.recode_log.specs.Counted.{CountsWrites, failures_of, history_of}
 use Rattle.recode_log.specs.declared.counted.Counted.{Counted}
 use Rattle.recode_log.specs.laws.Calls.{passed_failed, passed_one}
 use Rattle.recode_log.specs.laws.Counts.{counts_none, counts_then}
+use Rattle.recode.specs.Conversion.{IsFlushed}
 use Rattle.recode.specs.Devices.{Devices, Gave, GaveToEnd, Grew, IsOf}
-use Rattle.recode.specs.Fault.{EndsAtFault, EndsAtWriterFault, of_other, reader_failures}
+use Rattle.recode.specs.Fault.{EndsAtFault, reader_failures}
 use Rattle.recode.specs.Step.{GaveSome, IsReadInto, RunCalls, StepCalls}
 use Rattle.recode_log.specs.Told.{TellsReads, TellsTaken}
 use Rattle.recode_log.specs.laws.Told.{NoneYet, flushed_none, taken_kept, reads_none, reads_after, reads_one, reads_then, taken_none, taken_then}
 use Rattle.recode.specs.Told.{Told, TellWhatPassed}
 use Rattle.recode.specs.declared.job.Fault.{Fault}
-use Rattle.recode.specs.declared.job.Fault.TheVariants.{Read}
 use Rattle.recode.proofs.TraceLemmas.{GaveToEnd-is}
-use Rattle.recode.specs.Conversion.{Breaks, Converts, message_of}
 use Rattle.recode.specs.Job.{log_of, output_of}
-use Rattle.recode.specs.RunsTold.{BreaksTold, CompletesTold, ConvertsTold, FailsTold}
+use Rattle.recode.specs.RunsTold.{CompletesTold, FailsTold}
 use Rattle.recode.specs.Session.{Completes, Fails}
 use Rattle.recode.specs.TaggedByte.{log_bytes, output_bytes}
 use Rattle.recode.specs.declared.job.Job.{Job}
@@ -113,32 +112,36 @@ pub tells_more : (d e f : Devices) (t u v : Told) → TellWhatPassed d e t u →
     → TellWhatPassed d f t v
 tells_more d e f t u v h same still k l = record { input = rw (same, still) h.input; output = taken_then _ _ _ _ _ _ h.output k; log = taken_then _ _ _ _ _ _ h.log l }
 
--- a flush
-pub ruleset flush_rules = (flushed_none, taken_kept)
+-- a flush, which fails or not
+pub flushed_as : {W T E : Type 0} (before after : Counted W) (r : Result T E) → FlushesOnce (history_of before) (history_of after) r → OnOk r (failures_of after ≡ failures_of before)
+    → OnErr r (failures_of after ≡ failures_of before + 1) → IsFlushed before after (is_err r)
+flushed_as before after (Ok x) once same more = record { once = once; counted = omega (arith, same) }
+flushed_as before after (Err e) once same more = record { once = once; counted = more }
+
+pub flush_rises : (failed : Bool) → failed_write (Flush failed) ≤ 1
+flush_rises true = omega arith
+flush_rises false = omega arith
+
+pub ruleset flush_rules = (flushed_as, flushed_none, taken_kept)
 
 -- ---- the last call
 
--- a fault of a writer is one of a device
-pub last_of_writers : {T : Type 0} (r : Result T Fault) (reader writer log : List Call) → of_other r ≡ 0 → IfErr r (EndsAtWriterFault writer log) → IfErr r (EndsAtFault reader writer log)
-last_of_writers (Err Read) reader writer log none h = absurd (omega (arith, none))
-last_of_writers _ reader writer log none h = h
-
 -- a call of a writer or of the log failed
 pub last_failed : {T : Type 0} (g : Fault) (r : Result T Fault) (writer log : List Call)
-    → IfErr r (λ (f : Fault). f ≡ g) → OnErr r (EndsAtWriterFault writer log g) → IfErr r (EndsAtWriterFault writer log)
+    → IfErr r (λ (f : Fault). f ≡ g) → OnErr r (EndsAtFault writer log g) → IfErr r (EndsAtFault writer log)
 last_failed g (Ok x) writer log is h = tt
 last_failed g (Err f) writer log is h = rw is h
 
 -- the calls of a step
 pub step_calls : {R W L T : Type 0} {r r' : Counted R} {w w' : Counted W} {l l' : Counted L} {room : ℕ} {answer : Result T Fault} (call : Call) → history_of r' ≡ history_of r ++ (call ∷ []) → IsReadInto room call
-    → failed_read call ≡ reader_failures answer → CountsWrites w w' → CountsWrites l l' → IfErr answer (EndsAtFault (history_of r') (history_of w') (history_of l')) → StepCalls r r' w w' l l' room answer
+    → failed_read call ≡ reader_failures answer → CountsWrites w w' → CountsWrites l l' → IfErr answer (EndsAtFault (history_of w') (history_of l')) → StepCalls r r' w w' l l' room answer
 step_calls call once is failed writes lines last = record { call = call; once = once; is = is; failed = failed; writes = writes; lines = lines; last = last }
 
 pub ruleset step_rules = (step_calls, counts_none, reads_one, taken_none)
 
 -- the calls of a run whose last step made these
 pub run_calls : {R W L S T : Type 0} (r0 r r' : Counted R) (w0 w w' : Counted W) (l0 l l' : Counted L) (room : ℕ) {room' : ℕ} {s : Result S Fault} {result : Result T Fault} → ReadsSome (history_of r0) (history_of r) room
-    → CountsWrites w0 w → CountsWrites l0 l → room' ≡ room → StepCalls r r' w w' l l' room' s → reader_failures s ≡ reader_failures result → IfErr result (EndsAtFault (history_of r') (history_of w') (history_of l')) → RunCalls r0 r' w0 w' l0 l' room result
+    → CountsWrites w0 w → CountsWrites l0 l → room' ≡ room → StepCalls r r' w w' l l' room' s → reader_failures s ≡ reader_failures result → IfErr result (EndsAtFault (history_of w') (history_of l')) → RunCalls r0 r' w0 w' l0 l' room result
 run_calls r0 r r' w0 w w' l0 l l' room h writes lines same k failed last = record {
   earlier = h.earlier;
   call = k.call;
@@ -168,22 +171,4 @@ module _ (d e : Devices) (t u : Told) (tells : TellWhatPassed d e t u) (j : Job)
     end = λ h. reads_end d.reads e.reads t.input u.input k.read.input tells.input (k.read.end h);
     output = taken_is d.written.output e.written.output t.output u.output (output_bytes k.taken) tells.output k.wrote.output;
     logged = taken_is d.written.log e.written.log t.log u.log (log_bytes k.taken) tells.log k.wrote.lined;
-  }
-
-  pub converts_told : (status : ℕ) → Converts d e j status → ConvertsTold d e t u j status
-  converts_told status k = record {
-    converts = k;
-    consumed = reads_are d.reads e.reads t.input u.input k.input tells.input (GaveToEnd-is d.reads e.reads k.input k.given);
-    end = reads_end d.reads e.reads t.input u.input k.input tells.input k.given;
-    output = taken_is d.written.output e.written.output t.output u.output (output_of j k.input) tells.output k.whole.output;
-    logged = taken_is d.written.log e.written.log t.log u.log (log_of j k.input) tells.log k.whole.logged;
-  }
-
-  pub breaks_told : Breaks d e j → BreaksTold d e t u j
-  breaks_told k = record {
-    breaks = k;
-    consumed = reads_are d.reads e.reads t.input u.input (k.read.input ++ k.read.refused) tells.input k.read.given;
-    end = λ h. reads_end d.reads e.reads t.input u.input k.read.input tells.input (k.read.end h);
-    output = taken_is d.written.output e.written.output t.output u.output (output_bytes k.taken) tells.output k.output;
-    logged = taken_is d.written.log e.written.log t.log u.log (log_bytes k.taken ++ take k.told (message_of k.fault)) tells.log k.logged;
   }

@@ -17,7 +17,7 @@ use Rattle.recode.specs.Policy.{reference_form}
 use Rattle.recode.specs.State.{State}
 use Rattle.recode.specs.Work.{IsCounted}
 use Rattle.recode.specs.calls.Text.{TargetState, text_items}
-use Rattle.recode.specs.calls.Turns.{AreCountedSoundly, EncodesTurn, Standing, TakesTurns, WillBeKept, due_calls, owed, reported, spare_calls, pieces_of_text, waiting, TakesPieces}
+use Rattle.recode.specs.calls.Turns.{AreCountedSoundly, EncodesTurn, Standing, TakesTurns, WillBeKept, characters_in, due_calls, owed, reported, spare_calls, pieces_of_text, waiting, TakesPieces}
 use Rattle.recode.specs.calls.Verdict.{IsFaithfulFor, VerdictIsKept, VerdictView}
 use Rattle.recode.specs.declared.counts.Counts.{Counts}
 use Rattle.recode.proofs.CodecCallLemmas.{IsDecoded, trace_well_formed}
@@ -96,6 +96,7 @@ turns_more {c} {c1} {c2} {last} {x} {y} {z} {a} {b} most least up down p q = rec
   sound = q.sound;
   lines = AreCounted-trans c.state.counts c1.state.counts c2.state.counts a b p.lines q.lines;
   source = λ r h. p.source r h ∙ q.source r h;
+  characters = λ r h. p.characters r h ∙ q.characters r h;
   owes = λ r h. p.owes r h ∙ ap (λ l. a ++ l) (q.owes r h) ∙ sym (append_assoc a b (owed c2 (z ++ r)));
   verdict = λ r h. both_ways (p.verdict r h) (q.verdict r h);
   calls = λ r h. omega (arith, p.calls r h, q.calls r h, up);
@@ -144,13 +145,19 @@ module _ (s : State) (d : DecoderState) (finished : Bool) (source : List ℕ →
       (omega (arith, sound.index, k.counted, k.fits, waiting_size t (reported (Some answer)), text_pieces_size t))
       ∙ ap (trace_from (reference_form s.policy) s.coding s.set o' s.counts.index) (sym (append_assoc (pieces_of_text t) (reported (Some answer)) (d.pieces (drop read src ++ r))))
 
+  turn_text : (r : List ℕ) → (last ≡ true → r ≡ []) → text (s.decoder.pieces (src ++ r)) ≡ text ((pieces_of_text t ++ reported (Some answer)) ++ d.pieces (drop read src ++ r))
+  turn_text r h =
+      let tail = reported (Some answer) ++ d.pieces (drop read src ++ r) in
+      ap text (k.rest r h) ∙ text-append k.front tail ∙ ap (λ x. x ++ text tail) (well_formed_text k.front k.fine ∙ sym k.text_is) ∙ sym (waiting_text t tail)
+      ∙ ap text (sym (append_assoc (pieces_of_text t) (reported (Some answer)) (d.pieces (drop read src ++ r))))
+
   turn_verdict : (r : List ℕ) → (last ≡ true → r ≡ []) → WillBeKept (nothing_waits s) (src ++ r) ↔ WillBeKept (record { state = decoded_state s d finished source read calls; answer = Some answer; text = t }) (drop read src ++ r)
   turn_verdict r h =
       let tail = reported (Some answer) ++ d.pieces (drop read src ++ r) in
       let now = append_assoc (pieces_of_text t) (reported (Some answer)) (d.pieces (drop read src ++ r)) in
       same_faithful (reference_form s.policy) s.verdict s.coding s.set (s.decoder.pieces (src ++ r)) ((pieces_of_text t ++ reported (Some answer)) ++ d.pieces (drop read src ++ r))
       (rw (k.rest r h, now) (both_ways (fine_before k.front tail k.fine) (let w = waiting_fine t tail in (w.1, w.0))))
-      (ap text (k.rest r h) ∙ text-append k.front tail ∙ ap (λ x. x ++ text tail) (well_formed_text k.front k.fine ∙ sym k.text_is) ∙ sym (waiting_text t tail) ∙ ap text (sym now))
+      (turn_text r h)
 
   pub decode_turn : TakesTurns (nothing_waits s) (record { state = decoded_state s d finished source read calls; answer = Some answer; text = t }) last src (drop read src) [] 0 0
   decode_turn = record {
@@ -160,6 +167,7 @@ module _ (s : State) (d : DecoderState) (finished : Bool) (source : List ℕ →
     sound = omega (arith, k.counted, k.fits, waiting_size t (reported (Some answer)));
     lines = omega arith;
     source = same_source;
+    characters = λ r h. ap (λ x. s.counts.index + length x) (turn_text r h);
     owes = turn_owes;
     verdict = turn_verdict;
     calls = λ r h. omega (arith, one.at_most, (set_aside answer t some).0, waiting_count t (reported (Some answer)), ap length (turn_owes r h));
@@ -227,6 +235,14 @@ module _ (c : Standing) (set : EscapeState) (v : VerdictView) (x : Counts) (rest
       rw (append_assoc (pieces_of_text c.text) (reported c.answer) (c.state.decoder.pieces (src ++ r)), append_assoc (pieces_of_text rest) (reported c.answer) (c.state.decoder.pieces (src ++ r)))
       (front_faithful ref c.state.coding ended c.state.verdict v c.state.set set c.text rest tail e.verdict (λ end. ap text (tail_is end r h)))
 
+  encode_count : (r : List ℕ) → characters_in c (src ++ r) ≡ characters_in (after_encoder c set v x rest) (src ++ r)
+  encode_count r =
+      let more : List Piece = c.state.decoder.pieces (src ++ r) in
+      let tail : List Piece = reported c.answer ++ more in
+      let was = ap (λ ps. length (text ps)) (append_assoc (pieces_of_text c.text) (reported c.answer) more) in
+      let now = ap (λ ps. length (text ps)) (append_assoc (pieces_of_text rest) (reported c.answer) more) in
+      omega (arith, e.index, was, now, waiting_count c.text tail, waiting_count rest tail)
+
   pub encode_turn : TakesTurns c (after_encoder c set v x rest) last src src items (2 * n) n
   encode_turn = record {
     counted = omega (arith, e.read);
@@ -235,6 +251,7 @@ module _ (c : Standing) (set : EscapeState) (v : VerdictView) (x : Counts) (rest
     sound = omega (arith, e.bad, e.lost, waiting_size c.text (reported c.answer), waiting_size rest (reported c.answer), e.read, e.index);
     lines = e.lines;
     source = λ r h. refl;
+    characters = λ r h. encode_count r;
     owes = encode_owes;
     verdict = encode_verdict;
     calls = λ r h. omega (arith, e.calls, e.index, waiting_count c.text (reported c.answer), waiting_count rest (reported c.answer), ap length (encode_owes r h), ap length e.owes, length-append items (owed (after_encoder c set v x rest) (src ++ r)), length-append items (text_items (target_with c.state set v x) ended rest));
@@ -266,6 +283,7 @@ finish_turn c c1 a last x y items m l answer empty none most least turned =
       sound = record { index = omega (arith, p.sound.index); bad = p.sound.bad; lost = p.sound.lost };
       lines = p.lines;
       source = p.source;
+      characters = λ r h. rw none at (p.characters r h);
       owes = λ r h. rw none at (p.owes r h);
       verdict = λ r h. rw none at (p.verdict r h);
       calls = λ r h. omega (arith, rw none at (p.calls r h), most);
@@ -299,6 +317,7 @@ replace_turn c c1 a b last x y items bad empty some pending turned =
       sound = record { index = omega (arith, p.sound.index, some); bad = omega (arith, p.sound.bad); lost = p.sound.lost };
       lines = AreCounted-trans c.state.counts s.counts (replaced_state s).counts items line p.lines (record { bad = omega arith; lost = omega arith });
       source = p.source;
+      characters = p.characters;
       owes = λ r h. p.owes r h ∙ ap (λ l. items ++ l) (owes r) ∙ sym (append_assoc items line (owed next (y ++ r)));
       verdict = λ r h. both_ways (p.verdict r h) (λ never. absurd never.1.0, λ never. absurd (false≢true never.0));
       calls = λ r h. omega (arith, p.calls r h, ap length (owes r));

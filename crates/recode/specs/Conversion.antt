@@ -1,17 +1,14 @@
--- What a whole conversion says by its status.
-use Rattle.std.specs.Prelude.{◌≡◌, ℕ, ◌+◌, ◌<◌, ◌≤◌, ◌⊎◌, Option, List, [], ◌∷◌, ◌++◌, length, take, Bool, Err, true, codes}
-use Rattle.recode_log.specs.Call.{Call, Flush}
-use Rattle.recode_log.specs.Counted.{IsTold, failures_of, history_of, inner_of, passed_of}
-use Rattle.recode_log.specs.Told.{TellsTaken}
+-- What a whole conversion did, and what it says by its status.
+use Rattle.std.specs.Prelude.{if◌then◌else◌, ◌≡◌, ℕ, ◌+◌, ◌⊎◌, List, [], ◌∷◌, ◌++◌, Bool, true, false, Result, Ok, Err, OnOk, IfErr, codes}
+use Rattle.recode_log.specs.Call.{Flush, failed_write}
+use Rattle.recode_log.specs.Counted.{TellsMessage, failures_of, history_of}
 use Rattle.recode_log.specs.declared.counted.Counted.{Counted}
 use Rattle.recode_log.specs.Line.{row_bytes}
-use Rattle.recode.specs.Job.{trace, Faithful}
-use Rattle.recode.specs.Session.{WroteWhole}
-use Rattle.recode.specs.Step.{WasRead}
-use Rattle.recode.specs.Devices.{Devices, Failures, GaveToEnd, Grew}
-use Rattle.recode.specs.Fault.{log_failures, reader_failures, writer_failures}
-use Rattle.recode.specs.TaggedByte.{TaggedByte, IsPrefix, tagged, output_bytes, log_bytes}
-use Rattle.recode.specs.WrittenItems.{IsStop}
+use Rattle.recode.specs.Job.{Faithful}
+use Rattle.recode.specs.Runs.{RunReturns}
+use Rattle.recode.specs.Session.{Fails, WroteWhole}
+use Rattle.recode.specs.Step.{RunCalls}
+use Rattle.recode.specs.Devices.{Devices, GaveToEnd, Ports, devices_of}
 use Rattle.recode.specs.declared.job.Fault.{Fault}
 use Rattle.recode.specs.declared.job.Fault.TheVariants.{Read, Write, Log, TooLong, Unmappable}
 use Rattle.recode.specs.declared.job.Job.{Job}
@@ -27,38 +24,6 @@ pub record Converts (before after : Devices) (j : Job) (status : ℕ) : Type 0 w
   pub faithful : status ≡ 0 → Faithful j input
   pub lossy : status ≡ 1 → ¬ (Faithful j input)
 
--- a count rose by a number, or by one more
-abbrev pub RisesBy : (n before after : ℕ) → Type 0
-RisesBy n before after = (before + n ≤ after) × (after ≤ before + n + 1)
-
--- The count of the device that the fault is of rose by one. That of the writer and that of the log may have risen by one
--- more, as each is flushed once, whatever came before.
-pub record CountsFlushes (before after : Failures) (fault : Fault) : Type 0 where
-  pub reader : after.reader ≡ before.reader + reader_failures {T = Report} (Err fault)
-  pub writer : RisesBy (writer_failures {T = Report} (Err fault)) before.writer after.writer
-  pub log : RisesBy (log_failures {T = Report} (Err fault)) before.log after.log
-
--- a flush failed of the writer that the fault is of, and of the log alone if the fault is of it
-abbrev pub IsFlushCause : (writes writes' logs logs' : ℕ) → Fault → Type 0
-IsFlushCause writes writes' logs logs' Read = ⊥
-IsFlushCause writes writes' logs logs' Write = writes < writes'
-IsFlushCause writes writes' logs logs' Log = (writes' ≡ writes) × (logs < logs')
-IsFlushCause writes writes' logs logs' TooLong = ⊥
-IsFlushCause writes writes' logs logs' (Unmappable index scalar) = ⊥
-
--- the last call of a history was a flush
-pub record EndsInFlush (calls : List Call) : Type 0 where
-  pub earlier : List Call
-  pub failed : Bool
-  pub ends : calls ≡ earlier ++ (Flush failed ∷ [])
-
--- A writer was flushed, by its last call, which may have failed: its count rose by one at most. What it tells that it
--- holds, if it does, grew by what its calls took.
-pub record IsFlushed {W : Type 0} (contents : W → Option (List ℕ)) (before after : Counted W) : Type 0 where
-  pub told : TellsTaken (passed_of before) (passed_of after) (contents (inner_of before)) (contents (inner_of after))
-  pub ends : EndsInFlush (history_of after)
-  pub count : RisesBy 0 (failures_of before) (failures_of after)
-
 -- what is said of a fault
 abbrev pub message_of : Fault → List ℕ
 message_of Read = codes "recode: read fault\n"
@@ -67,22 +32,40 @@ message_of Log = codes "recode: log fault\n"
 message_of TooLong = codes "recode: input too long\n"
 message_of (Unmappable index scalar) = row_bytes (codes "recode: unmappable ") index scalar
 
--- What a failed conversion leaves. Output and log are a prefix of what any continuation of the bytes read gives (none
--- if the end was read), in their one order. After it the log has a prefix of the message of the fault, and all of it if
--- no call of the log failed while it was written. If the policy stopped the run, `stopped` says at which character.
--- `untold` is what the log's count may have been when the message was begun: the counts say that the fault came, and
--- that nothing failed but it and flushes. They do not say which of two failed calls came first.
-pub record Breaks (before after : Devices) (j : Job) : Type 0 where
-  pub fault : Fault
-  pub read : WasRead before.reads after.reads fault
-  pub within : length read.input ≤ j.limit
-  pub limited : fault ≡ TooLong → j.limit < length (read.input ++ read.refused)
-  pub taken : List TaggedByte
-  pub untold : ℕ
-  pub counted : CountsFlushes before.failures (record after.failures { log = untold }) fault
-  pub told : ℕ
-  pub whole : IsTold untold after.failures.log (message_of fault) told
-  pub output : Grew before.written.output after.written.output (output_bytes taken)
-  pub logged : Grew before.written.log after.written.log (log_bytes taken ++ take told (message_of fault))
-  pub prefix : (r : List ℕ) → (read.ended ≡ true → r ≡ []) → IsPrefix taken (tagged (trace j (read.input ++ r)))
-  pub stopped : (r : List ℕ) → (read.ended ≡ true → r ≡ []) → IsStop j.policy fault taken (trace j (read.input ++ r))
+-- what a conversion comes to: what its run returned, or, if that was a report, the fault of the first flush that failed
+abbrev pub after_flushes : Result Report Fault → (writer_failed log_failed : Bool) → Result Report Fault
+after_flushes (Err f) writer_failed log_failed = Err f
+after_flushes (Ok p) true log_failed = Err Write
+after_flushes (Ok p) false true = Err Log
+after_flushes (Ok p) false false = Ok p
+
+-- the status of what a conversion comes to
+abbrev pub status_of : Result Report Fault → ℕ
+status_of (Ok p) = if p.faithful then 0 else 1
+status_of (Err f) = 4
+
+-- a writer was flushed once, and its count rose by one if that failed
+pub record IsFlushed {W : Type 0} (before after : Counted W) (failed : Bool) : Type 0 where
+  pub once : history_of after ≡ history_of before ++ (Flush failed ∷ [])
+  pub counted : failures_of after ≡ failures_of before + failed_write (Flush failed)
+
+-- What a conversion did: a run, which left the devices as `ran` has them, then one flush of the writer and one of the log,
+-- and, if no fault came, nothing more. After a fault the log was told the message of the first. Output and log have, before
+-- the message, what a run leaves that ends with this fault.
+pub record IsConversion {R W L : Type 0} (before after : Ports R W L) (j : Job) (room status : ℕ) : Type 0 where
+  pub ran : Ports R W L
+  pub answer : Result Report Fault
+  pub returns : RunReturns (devices_of before) (devices_of ran) j answer
+  pub calls : RunCalls before.reader ran.reader before.writer ran.writer before.log ran.log room answer
+  pub unread : after.reader ≡ ran.reader
+  pub writer_failed : Bool
+  pub writer : IsFlushed ran.writer after.writer writer_failed
+  pub log_failed : Bool
+  pub flushed : Counted L
+  pub log : IsFlushed ran.log flushed log_failed
+  pub came_to : Result Report Fault
+  pub first : came_to ≡ after_flushes answer writer_failed log_failed
+  pub fails : IfErr came_to (Fails (devices_of before) (devices_of ran) j)
+  pub quiet : OnOk came_to (after.log ≡ flushed)
+  pub tells : IfErr came_to (λ f. TellsMessage flushed after.log (message_of f))
+  pub answered : status ≡ status_of came_to

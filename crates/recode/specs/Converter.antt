@@ -8,7 +8,7 @@ use Rattle.recode_log.specs.Line.{IsValid}
 use Rattle.recode_log.specs.declared.line.LogLine.TheVariants.{Bad, Lost}
 use Rattle.recode.specs.Job.{Faithful, input_pieces, input_text, source_in, target_of, whole_trace}
 use Rattle.recode.specs.Policy.{reference_form}
-use Rattle.recode.specs.State.{State}
+use Rattle.recode.specs.State.{State, characters_after, text_after}
 use Rattle.recode.specs.Step.{IsNearlyDecided}
 use Rattle.recode.specs.WrittenItems.{AreCounted}
 use Rattle.recode.specs.calls.Verdict.{IsFaithfulFor}
@@ -44,6 +44,10 @@ owes v = owed_after v.waiting v.state
 abbrev pub WillKeep : ConverterView → List ℕ → Type 0
 WillKeep v = WillBeKeptAfter v.waiting v.state
 
+-- how many characters the whole text has with the bytes to come
+abbrev pub characters_of : ConverterView → List ℕ → ℕ
+characters_of v = characters_after v.waiting v.state
+
 -- ---- its calls
 
 -- a converter of a job that has read nothing
@@ -55,6 +59,8 @@ pub record IsFreshConverter (v : ConverterView) (j : Job) : Type 0 where
   pub read : v.state.counts.read ≡ 0
   pub bad : v.state.counts.bad ≡ 0
   pub lost : v.state.counts.lost ≡ 0
+  pub index : v.state.counts.index ≡ 0
+  pub text_ : (x : List ℕ) → text_after v.waiting v.state x ≡ input_text j x
   pub ended : v.ended ≡ false
   pub over : v.over ≡ false
 
@@ -79,6 +85,7 @@ pub record ConvertsPart (v v' : ConverterView) (last : Bool) (bytes rest : List 
   pub verdict : (r : List ℕ) → (last ≡ true → r ≡ []) → WillKeep v (bytes ++ r) ↔ WillKeep v' (rest ++ r)
   pub source : (r : List ℕ) → (last ≡ true → r ≡ []) → v.state.source (bytes ++ r) ≡ v'.state.source (rest ++ r)
   pub counted : v'.state.counts.read + length rest ≡ v.state.counts.read + length bytes
+  pub characters : (r : List ℕ) → (last ≡ true → r ≡ []) → characters_of v (bytes ++ r) ≡ characters_of v' (rest ++ r)
   pub lines : AreCounted v.state.counts v'.state.counts items
   pub ended : v'.ended ≡ true → (last ≡ true) × (rest ≡ [])
 
@@ -97,9 +104,10 @@ pub record IsReportButCalls (j : Job) (x : List ℕ) (p : Report) : Type 0 where
   pub encoding : p.encoding ≡ source_in j x
   pub faithful : IsTrue p.faithful ↔ Faithful j x
 
--- nothing is owed, and whether anything was lost is known
+-- nothing is owed, all characters of the text are counted, and whether anything was lost is known
 pub record IsWhole (v : ConverterView) : Type 0 where
   pub written : owes v [] ≡ []
+  pub counted : characters_of v [] ≡ v.state.counts.index
   pub told : WillKeep v [] ↔ IsTrue v.state.verdict.faithful
 
 -- All that was handed in is read, and all that it decides is written: no piece waits, and what the decoder holds is

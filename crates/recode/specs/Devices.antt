@@ -72,6 +72,20 @@ devices_in reader writer log = record {
   failures = record { reader = failures_of reader; writer = failures_of writer; log = failures_of log };
 }
 
+-- a reader, a writer and a log, as they are at one moment
+pub record Ports (R W L : Type 0) : Type 0 where
+  pub reader : Counted R
+  pub writer : Counted W
+  pub log : Counted L
+
+-- a reader, a writer and a log as one value
+abbrev pub ports : {R W L : Type 0} → Counted R → Counted W → Counted L → Ports R W L
+ports reader writer log = record { reader = reader; writer = writer; log = log }
+
+-- what passed through them, and how many calls of each have failed
+abbrev pub devices_of : {R W L : Type 0} → Ports R W L → Devices
+devices_of p = devices_in p.reader p.writer p.log
+
 -- The count of the device that a fault is of rose by one; the others stayed.
 pub record CountsFault {T : Type 0} (before after : Devices) (result : Result T Fault) : Type 0 where
   pub reader : after.failures.reader ≡ before.failures.reader + reader_failures result

@@ -1,6 +1,6 @@
--- Which device a fault is of, as what its count rises by, and as which call is its last.
-use Rattle.std.specs.Prelude.{◌≡◌, ℕ, List, [], ◌∷◌, ◌++◌, Result, Err}
-use Rattle.recode_log.specs.Call.{Call, EndsInFailedWrite, Failed}
+-- Which device a fault is of, as what its count rises by, and as which call of a writer is its last.
+use Rattle.std.specs.Prelude.{ℕ, List, Result, Err}
+use Rattle.recode_log.specs.Call.{Call, EndsInFailedWrite}
 use Rattle.recode.specs.declared.job.Fault.{Fault}
 use Rattle.recode.specs.declared.job.Fault.TheVariants.{Read, Write, Log, TooLong, Unmappable}
 
@@ -25,24 +25,10 @@ of_other (Err Read) = 1
 of_other (Err TooLong) = 1
 of_other _ = 0
 
--- the last call of the history of a reader failed
-pub record EndsInFailedRead (calls : List Call) : Type 0 where
-  pub earlier : List Call
-  pub room : ℕ
-  pub ends : calls ≡ earlier ++ (Failed room ∷ [])
-
 -- if the fault is of the writer or of the log, its last call is the one that failed
-abbrev pub EndsAtWriterFault : (writer log : List Call) → Fault → Type 0
-EndsAtWriterFault writer log Read = Unit {0}
-EndsAtWriterFault writer log Write = EndsInFailedWrite writer
-EndsAtWriterFault writer log Log = EndsInFailedWrite log
-EndsAtWriterFault writer log TooLong = Unit {0}
-EndsAtWriterFault writer log (Unmappable index scalar) = Unit {0}
-
--- if the fault is of a device, the last call of that is the one that failed
-abbrev pub EndsAtFault : (reader writer log : List Call) → Fault → Type 0
-EndsAtFault reader writer log Read = EndsInFailedRead reader
-EndsAtFault reader writer log Write = EndsInFailedWrite writer
-EndsAtFault reader writer log Log = EndsInFailedWrite log
-EndsAtFault reader writer log TooLong = Unit {0}
-EndsAtFault reader writer log (Unmappable index scalar) = Unit {0}
+abbrev pub EndsAtFault : (writer log : List Call) → Fault → Type 0
+EndsAtFault writer log Read = Unit {0}
+EndsAtFault writer log Write = EndsInFailedWrite writer
+EndsAtFault writer log Log = EndsInFailedWrite log
+EndsAtFault writer log TooLong = Unit {0}
+EndsAtFault writer log (Unmappable index scalar) = Unit {0}

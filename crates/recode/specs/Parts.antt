@@ -20,7 +20,7 @@ pub record CanBeCut (j : Job) (x : List ℕ) : Type 0 where
   pub source : is_ascii_compatible_of (source_in j x) ≡ true
   pub target : is_ascii_compatible_of (output_encoding_of j.to) ≡ true
 
--- the job of the parts after x: they are in the encoding that x is in, and marks are kept
+-- the job of the parts behind x: they are in the encoding that x is in, and marks are kept
 abbrev pub later : Job → List ℕ → Job
 later j x = record j { from = source_in j x; mark = Keep }
 
@@ -78,9 +78,10 @@ abbrev pub unwritten : Written
 unwritten = record { output = []; log = [] }
 
 -- What two runs wrote for the parts x and y of an input, v and w, is what is written for the whole, with the lines of
--- the second log moved. Both say that nothing was lost exactly if nothing of the whole is.
-pub record AreOfWhole (j : Job) (x y : List ℕ) (v w : Written) (p q : Report) : Type 0 where
+-- the second log moved: by the bytes that the first run read, and by the characters that it counted. Both say that
+-- nothing was lost exactly if nothing of the whole is.
+pub record AreOfWhole (j : Job) (x y : List ℕ) (v w : Written) (p q : Report) (characters : ℕ) : Type 0 where
   pub output : output_of j (x ++ y) ≡ v.output ++ w.output
   pub second : w.log ≡ flat_map line_bytes (lines_of (later j x) y)
-  pub log : log_of j (x ++ y) ≡ v.log ++ flat_map line_bytes (map (moved_line p.read (length (input_text j x))) (lines_of (later j x) y))
+  pub log : log_of j (x ++ y) ≡ v.log ++ flat_map line_bytes (map (moved_line p.read characters) (lines_of (later j x) y))
   pub faithful : Faithful j (x ++ y) ↔ (IsTrue p.faithful × IsTrue q.faithful)

@@ -7,7 +7,7 @@ use Rattle.encoding_index.specs.Loads.{Loads, text_fault}
 use Rattle.encoding_tables.specs.FileNames.{file_name_of}
 use Rattle.encoding_tables.specs.IndexLists.{IndexLists, has}
 use Rattle.encoding_tables.specs.declared.index_kind.IndexKind.{IndexKind}
-use Rattle.recode_log.specs.Counted.{history_of}
+use Rattle.recode_log.specs.Counted.{TellsMessage}
 use Rattle.recode_log.specs.declared.counted.Counted.{Counted}
 use Rattle.recode_words.specs.Request.{AsksFor, HasMeaninglessValue, IsRefusedByClap}
 use Rattle.recode_words.specs.declared.request.Request.{Request}
@@ -15,11 +15,10 @@ use Rattle.recode_words.specs.declared.request.Request.TheVariants.{Run, Help, V
 use Rattle.recode_words.specs.declared.words.MarkWord.{MarkWord}
 use Rattle.recode_words.specs.declared.words.PolicyWord.{PolicyWord}
 use Rattle.recode_words.specs.declared.words.Words.{Words}
-use Rattle.recode.specs.Conversion.{Breaks, Converts, EndsInFlush}
-use Rattle.recode.specs.Devices.{Devices, devices_in}
+use Rattle.recode.specs.Conversion.{Converts, IsConversion}
+use Rattle.recode.specs.Devices.{Ports, devices_of}
 use Rattle.recode.specs.Job.{IsValidJob}
-use Rattle.recode.specs.RunsTold.{BreaksTold, ConvertsTold}
-use Rattle.recode.specs.Told.{told_in}
+use Rattle.recode.specs.Told.{TellWhatPassed, told_in}
 use Rattle.recode.specs.declared.job.Job.{Job}
 use Rattle.recode.specs.declared.job.Policy.{Policy}
 
@@ -93,36 +92,24 @@ pub record AddsFromFiles (holds holds' : FileTexts) (dir : List ℕ) (old new : 
 abbrev pub AreKept : IndexLists → IndexLists → Type 0
 AreKept old new = (kind : IndexKind) → has old kind ≡ true → has new kind ≡ true
 
--- a reader, a writer and a log, as they are at one moment
-pub record Ports (R W L : Type 0) : Type 0 where
-  pub reader : Counted R
-  pub writer : Counted W
-  pub log : Counted L
-
--- a reader, a writer and a log as one value
-abbrev pub ports : {R W L : Type 0} → Counted R → Counted W → Counted L → Ports R W L
-ports reader writer log = record { reader = reader; writer = writer; log = log }
-
--- What `convert` promises: the conversion is whole, and no call of a device failed, or it broke off.
-pub record IsConversion (before after : Devices) (j : Job) (status : ℕ) : Type 0 where
-  pub converts : status ≢ 4 → Converts before after j status
-  pub quiet : status ≢ 4 → after.failures ≡ before.failures
-  pub broken : status ≡ 4 → Breaks before after j
-
--- The promise of `convert`, of a reader, a writer and a log: whole, or broken off, and so of what they tell, if they do.
--- The last call of the writer was a flush, and that of the log, unless it was told a fault after it.
+-- The promise of `convert`, of a reader, a writer and a log, with room for 4096 bytes in each read: what it did, and what
+-- that says by the status, and of what devices tell, if they do.
 pub record IsConversionOn {R W L : Type 0} (remaining : R → Option (List ℕ)) (contents : W → Option (List ℕ)) (logged : L → Option (List ℕ)) (before after : Ports R W L) (j : Job) (status : ℕ) : Type 0 where
-  pub passed : IsConversion (devices_in before.reader before.writer before.log) (devices_in after.reader after.writer after.log) j status
-  pub converts_told : status ≢ 4 → ConvertsTold (devices_in before.reader before.writer before.log) (devices_in after.reader after.writer after.log)
-      (told_in remaining contents logged before.reader before.writer before.log) (told_in remaining contents logged after.reader after.writer after.log) j status
-  pub broken_told : status ≡ 4 → BreaksTold (devices_in before.reader before.writer before.log) (devices_in after.reader after.writer after.log)
-      (told_in remaining contents logged before.reader before.writer before.log) (told_in remaining contents logged after.reader after.writer after.log) j
-  pub flushes : EndsInFlush (history_of after.writer) × (status ≢ 4 → EndsInFlush (history_of after.log))
+  pub conversion : IsConversion before after j 4096 status
+  pub converts : status ≢ 4 → Converts (devices_of before) (devices_of after) j status
+  pub quiet : status ≢ 4 → (devices_of after).failures ≡ (devices_of before).failures
+  pub told : TellWhatPassed (devices_of before) (devices_of after)
+      (told_in remaining contents logged before.reader before.writer before.log) (told_in remaining contents logged after.reader after.writer after.log)
 
--- Nothing is read, and nothing is written except to the log.
+-- a message was told to a writer
+abbrev pub TellsSome : {T : Type 0} → (before after : Counted T) → Type 0
+TellsSome before after = (message : List ℕ) × TellsMessage before after message
+
+-- Nothing is read, and nothing is written but a message to the log.
 pub record IsLeftAlone {R W L : Type 0} (before after : Ports R W L) : Type 0 where
   pub unread : after.reader ≡ before.reader
   pub unwritten : after.writer ≡ before.writer
+  pub told : TellsSome before.log after.log
 
 -- What is returned for words that clap takes: a label is unknown, or an index or memory is missing, or their job is
 -- converted, with the indexes of the folder's files.
@@ -133,23 +120,24 @@ AnswersWords holds remaining contents logged before after w status =
     ⊎ ((j : Job) × IsJobOf w j × AreOfFiles holds w.indexes.now j.tables.now × IsConversionOn remaining contents logged before after j status))
 
 -- The status is 2: clap refuses the words, a value stands for nothing, or a label is unknown. Nothing is read, and
--- nothing is written except to the log.
+-- nothing is written but a message to the log.
 pub record RefusesWords {R W L : Type 0} (before after : Ports R W L) (words : List (List ℕ)) (status : ℕ) : Type 0 where
   pub answered : status ≡ 2
   pub refused : IsRefusedByClap words ⊎ (HasMeaninglessValue words ⊎ NamesUnknown words)
   pub alone : IsLeftAlone before after
 
--- the start fails, with status 3: nothing is read, and nothing is written except to the log
+-- the start fails, with status 3: nothing is read, and nothing is written but a message to the log
 pub record FailsToStart {R W L : Type 0} (before after : Ports R W L) (status : ℕ) : Type 0 where
   pub answered : status ≡ 3
   pub alone : IsLeftAlone before after
 
--- the words ask for a text of the program's own: the status is 0, nothing is read or logged
+-- the words ask for a text of the program's own: the status is 0, a text is told, and nothing is read or logged
 pub record TellsText {R W L : Type 0} (before after : Ports R W L) (words : List (List ℕ)) (status : ℕ) : Type 0 where
   pub answered : status ≡ 0
   pub asked : AskForText words
   pub unread : after.reader ≡ before.reader
   pub unlogged : after.log ≡ before.log
+  pub told : TellsSome before.writer after.writer
 
 -- the words ask for a run: their job is converted, with the indexes of the folder's files
 pub record RunsJob {R W L : Type 0} (holds : FileTexts) (remaining : R → Option (List ℕ)) (contents : W → Option (List ℕ)) (logged : L → Option (List ℕ)) (before after : Ports R W L) (words : List (List ℕ)) (status : ℕ) : Type 0 where

@@ -1,8 +1,7 @@
--- What a run and a conversion say of devices that tell their bytes: it is these bytes that a reader lost, and that a
+-- What a run says of devices that tell their bytes: it is these bytes that a reader lost, and that a
 -- writer and a log hold.
-use Rattle.std.specs.Prelude.{◌≡◌, ℕ, ◌++◌, take, true}
+use Rattle.std.specs.Prelude.{◌≡◌, ◌++◌, true}
 use Rattle.std.specs.Io.KnownBytes.{Appends, Consumes, IsAtEnd}
-use Rattle.recode.specs.Conversion.{Breaks, Converts, message_of}
 use Rattle.recode.specs.Devices.{Devices}
 use Rattle.recode.specs.Job.{log_of, output_of}
 use Rattle.recode.specs.Session.{Completes, Fails}
@@ -29,19 +28,3 @@ pub record FailsTold (before after : Devices) (told told' : Told) (j : Job) (f :
   pub end : fails.read.ended ≡ true → IsAtEnd told'.input
   pub output : Appends told.output told'.output (output_bytes fails.taken)
   pub logged : Appends told.log told'.log (log_bytes fails.taken)
-
--- a whole conversion: the same as of a run that came to its end
-pub record ConvertsTold (before after : Devices) (told told' : Told) (j : Job) (status : ℕ) : Type 0 where
-  pub converts : Converts before after j status
-  pub consumed : Consumes told.input told'.input converts.input
-  pub end : IsAtEnd told'.input
-  pub output : Appends told.output told'.output (output_of j converts.input)
-  pub logged : Appends told.log told'.log (log_of j converts.input)
-
--- a failed conversion: the same as of a run that a fault ended, and the message after it
-pub record BreaksTold (before after : Devices) (told told' : Told) (j : Job) : Type 0 where
-  pub breaks : Breaks before after j
-  pub consumed : Consumes told.input told'.input (breaks.read.input ++ breaks.read.refused)
-  pub end : breaks.read.ended ≡ true → IsAtEnd told'.input
-  pub output : Appends told.output told'.output (output_bytes breaks.taken)
-  pub logged : Appends told.log told'.log (log_bytes breaks.taken ++ take breaks.told (message_of breaks.fault))

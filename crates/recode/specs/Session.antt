@@ -36,11 +36,13 @@ phase_after (Ok Progress.More) = Open
 phase_after (Ok Progress.Done) = Done
 phase_after (Err f) = Stopped
 
--- what holds of each step: the job stays, and the phase says how it ended
+-- what holds of each step: the job stays, and the phase says how it ended. At `Read` and `TooLong` the conversion stands
+-- where it stood.
 pub record IsStepped (v v' : View) (answer : Result Progress Fault) : Type 0 where
   pub job : v'.job ≡ v.job
   pub target : v'.state.coding ≡ v.state.coding
   pub phase : v'.phase ≡ phase_after answer
+  pub unread : (answer ≡ Err Read) ⊎ (answer ≡ Err TooLong) → v'.state ≡ v.state
 
 -- a session that has read nothing
 pub record IsNewSession (v : View) (j : Job) : Type 0 where

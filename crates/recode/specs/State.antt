@@ -1,8 +1,9 @@
 -- Where a conversion stands, as contracts see it.
-use Rattle.std.specs.Prelude.{Bool, List, ℕ}
+use Rattle.std.specs.Prelude.{Bool, List, [], ℕ, ◌+◌, ◌++◌, length}
 use Rattle.encoding_mem.specs.Coding.{Coding}
 use Rattle.encoding_mem.specs.calls.Decoding.{DecoderState}
 use Rattle.encoding_mem.specs.Items.{Item}
+use Rattle.encoding_mem.specs.Piece.{Piece, text}
 use Rattle.encoding_mem.specs.declared.form.EscapeState.{EscapeState}
 use Rattle.encoding_front.specs.declared.encoding.Encoding.{Encoding}
 use Rattle.recode.specs.Policy.{reference_form}
@@ -31,3 +32,15 @@ to_write s r = trace_to_write (reference_form s.policy) s.decoder s.coding s.set
 -- nothing was lost so far, and nothing will be of these bytes
 abbrev pub WillBeFaithful : State → List ℕ → Type 0
 WillBeFaithful s r = IsFaithfulFor (reference_form s.policy) s.verdict s.coding s.set (s.decoder.pieces r)
+
+-- the text that is still to be encoded, if these pieces wait, with the bytes to come
+abbrev pub text_after : List Piece → State → List ℕ → List ℕ
+text_after waiting s r = text (waiting ++ s.decoder.pieces r)
+
+-- how many characters the whole text has then: those that were encoded, and those that are still to be
+abbrev pub characters_after : List Piece → State → List ℕ → ℕ
+characters_after waiting s r = s.counts.index + length (text_after waiting s r)
+
+-- the same, if no piece waits
+abbrev pub characters_with : State → List ℕ → ℕ
+characters_with s r = characters_after [] s r

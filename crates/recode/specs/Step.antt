@@ -13,7 +13,7 @@ use Rattle.recode_log.specs.Line.{line_bytes}
 use Rattle.recode.specs.Fault.{EndsAtFault, reader_failures}
 use Rattle.recode.specs.Job.{log_lines}
 use Rattle.recode.specs.Policy.{reference_form}
-use Rattle.recode.specs.State.{State, WillBeFaithful, to_write}
+use Rattle.recode.specs.State.{State, WillBeFaithful, characters_with, to_write}
 use Rattle.recode.specs.Devices.{Devices, Gave, GaveThen, GaveToEnd, Grew, KeepsWritten, Written}
 use Rattle.recode.specs.TaggedByte.{TaggedByte, Wrote, IsPrefix, tagged}
 use Rattle.recode.specs.calls.TraceToWrite.{AreSound}
@@ -76,7 +76,7 @@ pub record HasRun (before after : Devices) (limit : ℕ) (s s' : State) : Type 0
   pub least : TakesAtLeast (3 * (s'.counts.bad - s.counts.bad) + 2 * min 1 (length chunk)) s.counts s'.counts
 
 -- The end was read, and all the rest of the trace was written: under a policy that stops, none of it a lost character.
--- It may stand for some steps and the one that ended.
+-- All characters of the text are counted. It may stand for some steps and the one that ended.
 pub record Finishes (before after : Devices) (limit : ℕ) (s s' : State) : Type 0 where
   pub chunk : List ℕ
   pub given : GaveToEnd before.reads after.reads chunk
@@ -84,6 +84,7 @@ pub record Finishes (before after : Devices) (limit : ℕ) (s s' : State) : Type
   pub within : s'.counts.read ≤ limit
   pub pays : WritesItems before.written after.written s.counts s'.counts s.policy (to_write s chunk) []
   pub source : s.source chunk ≡ s'.source []
+  pub characters : s'.counts.index ≡ characters_with s chunk
   pub verdict : WillBeFaithful s chunk ↔ IsTrue s'.verdict.faithful
   pub calls : TakesCalls (3 * length chunk + 3) s.counts s'.counts (to_write s chunk) []
   pub least : TakesAtLeast (3 * (s'.counts.bad - s.counts.bad) + 2 * min 1 (length chunk) + 2) s.counts s'.counts
@@ -132,7 +133,7 @@ GaveSome room (Flush failed) = ⊥
 
 -- The reader was called at least once, each time by a read with room for so many bytes. Each call but the last gave
 -- some, and the last failed exactly if the fault is of the reader. The writer and the log were called by writes of some
--- bytes, and their counts rose by as many as failed. If a device failed, its last call is the one that did.
+-- bytes, and their counts rose by as many as failed. If one of them failed, its last call is the one that did.
 pub record RunCalls {R W L T : Type 0} (reader reader' : Counted R) (writer writer' : Counted W) (log log' : Counted L) (room : ℕ) (result : Result T Fault) : Type 0 where
   pub earlier : List Call
   pub call : Call
@@ -142,7 +143,7 @@ pub record RunCalls {R W L T : Type 0} (reader reader' : Counted R) (writer writ
   pub failed : failed_read call ≡ reader_failures result
   pub writes : CountsWrites writer writer'
   pub lines : CountsWrites log log'
-  pub last : IfErr result (EndsAtFault (history_of reader') (history_of writer') (history_of log'))
+  pub last : IfErr result (EndsAtFault (history_of writer') (history_of log'))
 
 -- A step called the reader once, with room for so many bytes; the rest as of a run.
 pub record StepCalls {R W L T : Type 0} (reader reader' : Counted R) (writer writer' : Counted W) (log log' : Counted L) (room : ℕ) (result : Result T Fault) : Type 0 where
@@ -152,4 +153,4 @@ pub record StepCalls {R W L T : Type 0} (reader reader' : Counted R) (writer wri
   pub failed : failed_read call ≡ reader_failures result
   pub writes : CountsWrites writer writer'
   pub lines : CountsWrites log log'
-  pub last : IfErr result (EndsAtFault (history_of reader') (history_of writer') (history_of log'))
+  pub last : IfErr result (EndsAtFault (history_of writer') (history_of log'))

@@ -9,3 +9,4 @@ pub mod Conversion
 pub mod Work
 pub mod Converter
 pub mod Turns
+pub mod Step

@@ -1,17 +1,16 @@
 //! A whole conversion: a run, the flushes, the status and the message.
 
-ghost use Rattle.std.specs.Prelude.{◌≡◌, ◌≢◌, ◌≤◌, ◌<◌, ◌^◌, ◌+◌, ◌-◌, ◌++◌, ℕ, take, OnOk, IfErr};
-ghost use Rattle.std.specs.Io.KnownBytes.{Appends};
-ghost use Rattle.recode_log.specs.Counted.{IsTold, inner_of, failures_of, history_of, passed_of};
+ghost use Rattle.std.specs.Prelude.{◌≡◌, ◌≢◌, ◌<◌, ◌^◌, ◌-◌, length};
+ghost use Rattle.recode_log.specs.Counted.{TellsMessage, inner_of, failures_of, passed_of};
+ghost use Rattle.recode_log.specs.Told.{TellsTaken};
 ghost use Rattle.recode.specs.Job.{IsValidJob};
 ghost use Rattle.recode.specs.calls.Buffers.{AreEnough, KeepSizes};
-ghost use Rattle.recode.specs.Devices.{HaveFailedAtMost, KeepsWritten, devices_in, written_in};
-ghost use Rattle.recode.specs.Conversion.{Breaks, Converts, EndsInFlush, IsFlushCause, IsFlushed};
+ghost use Rattle.recode.specs.Devices.{HaveFailedAtMost, devices_in, ports};
+ghost use Rattle.recode.specs.Conversion.{Converts, IsConversion, IsFlushed, after_flushes};
 ghost use Rattle.recode.specs.Conversion.{message_of};
-ghost use Rattle.recode.specs.RunsTold.{BreaksTold, ConvertsTold};
-ghost use Rattle.recode.specs.Told.{told_in};
+ghost use Rattle.recode.specs.Told.{TellWhatPassed, told_in};
 
-use crate::job::{Buffers, Fault, Job};
+use crate::job::{Buffers, Fault, Job, Report};
 use crate::session::run;
 use recode_log::counted::Counted;
 use recode_log::deliver::tell;
@@ -30,30 +29,30 @@ pub const NOT_FAITHFUL: u8 = 1;
 /// conversion.
 pub const FAULT: u8 = 4;
 
-// Flushes both, and returns the first fault.
+// Flushes a writer, and returns whether that failed.
 #[tactic(auto, using(crate::proofs::TellLemmas::flush_rules))]
-fn flush_both<W: Write, L: Write>(
-    writer: &mut Counted<W>,
-    log: &mut Counted<L>,
-) -> Result<(), Fault>
-    requires writer { failures_of writer.old < 2 ^ 64 - 1 }
-    requires log { failures_of log.old < 2 ^ 64 - 1 }
-    ensures kept { KeepsWritten (written_in writer.old log.old) (written_in writer.new log.new) }
-    ensures writer { IsFlushed W.contents writer.old writer.new }
-    ensures log { IsFlushed L.contents log.old log.new }
-    ensures ok { OnOk result ((failures_of writer.new ≡ failures_of writer.old)
-        × (failures_of log.new ≡ failures_of log.old)) }
-    ensures err { IfErr result (IsFlushCause (failures_of writer.old) (failures_of writer.new)
-        (failures_of log.old) (failures_of log.new)) }
+fn flush<W: Write>(writer: &mut Counted<W>) -> bool
+    requires { failures_of writer.old < 2 ^ 64 - 1 }
+    ensures flushed { IsFlushed writer.old writer.new result }
+    ensures kept { passed_of writer.new ≡ passed_of writer.old }
+    ensures told { TellsTaken (passed_of writer.old) (passed_of writer.new)
+        (W.contents (inner_of writer.old)) (W.contents (inner_of writer.new)) }
 {
-    let written = writer.flush();
-    let logged = log.flush();
-    if written.is_err() {
-        Err(Fault::Write)
-    } else if logged.is_err() {
-        Err(Fault::Log)
-    } else {
-        Ok(())
+    writer.flush().is_err()
+}
+
+// What a conversion comes to: the report of its run, or the first fault.
+fn after_flushes(
+    answer: Result<Report, Fault>,
+    writer_failed: bool,
+    log_failed: bool,
+) -> Result<Report, Fault>
+    ensures { result ≡ after_flushes answer writer_failed log_failed }
+{
+    match answer {
+        Ok(_) if writer_failed => Err(Fault::Write),
+        Ok(_) if log_failed => Err(Fault::Log),
+        answer => answer,
     }
 }
 
@@ -76,11 +75,9 @@ fn message_of(fault: Fault, numbers: &mut [u8; 64]) -> &[u8]
 // Writes the message of a fault to the log; if that fails, the rest of it is dropped.
 fn tell_fault<L: Write>(log: &mut Counted<L>, fault: Fault)
     requires { failures_of log.old < 2 ^ 64 - 1 }
-    ensures { (n : ℕ) × IsTold (failures_of log.old) (failures_of log.new)
-        (message_of fault) n
-        × Appends (L.contents (inner_of log.old)) (L.contents (inner_of log.new))
-        (take n (message_of fault))
-        × (passed_of log.new ≡ passed_of log.old ++ take n (message_of fault)) }
+    ensures tells { TellsMessage log.old log.new (message_of fault) }
+    ensures told { TellsTaken (passed_of log.old) (passed_of log.new)
+        (L.contents (inner_of log.old)) (L.contents (inner_of log.new)) }
 {
     let mut numbers = [0; 64];
     tell(log, message_of(fault, &mut numbers));
@@ -99,7 +96,11 @@ fn tell_fault<L: Write>(log: &mut Counted<L>, fault: Fault)
 ///   right for the bytes read, however they go on. If the policy stopped, they have all that comes
 ///   before the character, and its line. After that the log has the message of the first fault, as
 ///   `recode: write fault` or `recode: unmappable INDEX SCALAR`, and a line feed; what can't be
-///   written of that is dropped.
+///   written of that is dropped. The first fault is that of the run, or else that of the writer's
+///   flush, or else that of the log's.
+///
+/// Devices are called as by `run`, then the writer and the log are flushed once, also after a
+/// fault, and then the message is written, as by `recode_log::deliver::tell`.
 ///
 /// Conditions: the job is valid (`Job::is_valid`), the buffers are enough (`Buffers::is_enough`),
 /// and at most 2^64 - 5 calls of each device have failed (`Counted::failures`).
@@ -116,40 +117,28 @@ pub fn convert<R: Read, W: Write, L: Write>(
         (devices_in reader.old writer.old log.old).failures }
 
     ensures buffers { KeepSizes buffers.old buffers.new }
+    ensures conversion { IsConversion (ports reader.old writer.old log.old)
+        (ports reader.new writer.new log.new) job.entry (length buffers.old.input.now) result }
     ensures converts { result ≢ 4 → Converts (devices_in reader.old writer.old log.old)
         (devices_in reader.new writer.new log.new) job.entry result }
     ensures quiet { result ≢ 4 → (devices_in reader.new writer.new log.new).failures
         ≡ (devices_in reader.old writer.old log.old).failures }
-    ensures broken { result ≡ 4 → Breaks (devices_in reader.old writer.old log.old)
-        (devices_in reader.new writer.new log.new) job.entry }
-    ensures converts_told { result ≢ 4 → ConvertsTold
+    ensures told { TellWhatPassed
         (devices_in reader.old writer.old log.old) (devices_in reader.new writer.new log.new)
         (told_in R.remaining W.contents L.contents reader.old writer.old log.old)
-        (told_in R.remaining W.contents L.contents reader.new writer.new log.new) job.entry
-        result }
-    ensures broken_told { result ≡ 4 → BreaksTold
-        (devices_in reader.old writer.old log.old) (devices_in reader.new writer.new log.new)
-        (told_in R.remaining W.contents L.contents reader.old writer.old log.old)
-        (told_in R.remaining W.contents L.contents reader.new writer.new log.new) job.entry }
-    ensures flushes { EndsInFlush (history_of writer.new)
-        × (result ≢ 4 → EndsInFlush (history_of log.new)) }
+        (told_in R.remaining W.contents L.contents reader.new writer.new log.new) }
 {
-    let result = run(reader, writer, log, job, buffers);
-    let flushed = flush_both(writer, log);
-    match result {
-        Ok(report) => match flushed {
-            Ok(()) => {
-                if report.faithful {
-                    FAITHFUL
-                } else {
-                    NOT_FAITHFUL
-                }
+    let answer = run(reader, writer, log, job, buffers);
+    let writer_failed = flush(writer);
+    let log_failed = flush(log);
+    match after_flushes(answer, writer_failed, log_failed) {
+        Ok(report) => {
+            if report.faithful {
+                FAITHFUL
+            } else {
+                NOT_FAITHFUL
             }
-            Err(fault) => {
-                tell_fault(log, fault);
-                FAULT
-            }
-        },
+        }
         Err(fault) => {
             tell_fault(log, fault);
             FAULT

@@ -177,6 +177,16 @@ impl<'t> Converter<'t> {
         }
     }
 
+    /// How many characters of the text were encoded so far: the index of the next one, as the lines
+    /// of lost characters have it. Once all is written (`is_over`), it is the number of characters
+    /// of the text of the input, with U+FFFD for each malformed sequence, and without a mark that
+    /// was taken.
+    pub fn characters(&self) -> u64
+        ensures { result ≡ (converter_view self.now).state.counts.index }
+    {
+        self.engine.counts.index
+    }
+
     /// How many more bytes of the input the job's limit allows. The test of a condition of
     /// `convert`.
     pub fn bytes_left(&self) -> u64

@@ -3,10 +3,10 @@
 ghost use Rattle.std.specs.Prelude.{◌≡◌, ◌⊎◌, ◌≤◌, ◌<◌, ◌^◌, ◌-◌, length, map, OnOk};
 ghost use Rattle.encoding_front.specs.Encodings.{IsReady, output_encoding_of};
 ghost use Rattle.recode_log.specs.Counted.{failures_of};
-ghost use Rattle.recode.specs.Devices.{HaveFailedAtMost, devices_in};
+ghost use Rattle.recode.specs.Devices.{HaveFailedAtMost, devices_in, ports};
 ghost use Rattle.recode.specs.Job.{IsValidJob};
 ghost use Rattle.recode.specs.Program.{AddsFromFiles, AnswersProgram, AnswersWords};
-ghost use Rattle.recode.specs.Program.{IsConversionOn, ports, mark_of_word, policy_of_word};
+ghost use Rattle.recode.specs.Program.{IsConversionOn, TellsSome, mark_of_word, policy_of_word};
 
 use crate::conversion::{FAITHFUL, convert};
 use crate::indexes::{IndexSource, StartFault, load_indexes};
@@ -30,7 +30,8 @@ pub const NOT_STARTED: u8 = 3;
 // Writes a text that the words ask for.
 fn tell_text<W: Write>(writer: &mut Counted<W>, text: &str) -> u8
     requires { failures_of writer.old < 2 ^ 64 - 1 }
-    ensures { result ≡ 0 }
+    ensures status { result ≡ 0 }
+    ensures told { TellsSome writer.old writer.new }
 {
     tell(writer, text.as_bytes());
     FAITHFUL
@@ -39,7 +40,8 @@ fn tell_text<W: Write>(writer: &mut Counted<W>, text: &str) -> u8
 // Reports why the words are refused.
 fn refuse_words<L: Write>(log: &mut Counted<L>, message: &str) -> u8
     requires { failures_of log.old < 2 ^ 64 - 1 }
-    ensures { result ≡ 2 }
+    ensures status { result ≡ 2 }
+    ensures told { TellsSome log.old log.new }
 {
     tell(log, message.as_bytes());
     REFUSED
@@ -48,7 +50,8 @@ fn refuse_words<L: Write>(log: &mut Counted<L>, message: &str) -> u8
 // Reports which index is not there, or that memory was refused.
 fn refuse_start<L: Write>(alloc: Global, log: &mut Counted<L>, fault: &StartFault) -> u8
     requires { failures_of log.old < 2 ^ 64 - 1 }
-    ensures { result ≡ 3 }
+    ensures status { result ≡ 3 }
+    ensures told { TellsSome log.old log.new }
 {
     match format!(in alloc; "recode: {fault}\n") {
         Ok(message) => tell(log, message.as_bytes()),
@@ -60,7 +63,8 @@ fn refuse_start<L: Write>(alloc: Global, log: &mut Counted<L>, fault: &StartFaul
 // Reports that no encoding has the label.
 fn refuse_label<L: Write>(alloc: Global, log: &mut Counted<L>, label: &str) -> u8
     requires { failures_of log.old < 2 ^ 64 - 1 }
-    ensures { (result ≡ 2) ⊎ (result ≡ 3) }
+    ensures status { (result ≡ 2) ⊎ (result ≡ 3) }
+    ensures told { TellsSome log.old log.new }
 {
     match format!(in alloc; "recode: unknown label {label}\n") {
         Ok(message) => refuse_words(log, &message),

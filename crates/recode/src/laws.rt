@@ -29,7 +29,8 @@ ghost use Rattle.recode_log.specs.declared.line.LogLine.TheVariants.{Lost};
 ghost use Rattle.recode.specs.Job.{Faithful, IsValidJob, input_pieces, input_text, log_lines};
 ghost use Rattle.recode.specs.Job.{log_of, lost_log_lines, output_of, output_pieces, target_of};
 ghost use Rattle.recode.specs.Converter.{ConverterView, ConvertsPart, ConvertedSoFar};
-ghost use Rattle.recode.specs.Converter.{IsFreshConverter, IsReportButCalls, IsWhole, owes};
+ghost use Rattle.recode.specs.Converter.{IsFreshConverter, IsReportButCalls, IsWhole};
+ghost use Rattle.recode.specs.Converter.{characters_of, owes};
 ghost use Rattle.recode.specs.Job.{trace, whole_trace};
 ghost use Rattle.recode.specs.Job.{RunsThrough, lines_up_to_loss};
 ghost use Rattle.recode.specs.Parts.{AddsUp, AreFaithful, AreOfWhole, AreParts, CanBeCut, later};
@@ -322,7 +323,8 @@ pub fn steps_add_up()
 /// A session stepped by hand keeps the promise of `run`: steps that went on, and the one that ended
 /// them, are a run. At the start there are none, and each that returns `More` is added. With one
 /// that returns `Done`, and with the session's report, they are a run that came to its end; with
-/// one that returns a fault, a run that it ended. The report says as few calls as one of `run`.
+/// one that returns a fault, a run that it ended. The report says as few calls as one of `run`. At
+/// the end the session has counted the characters of the text of what was read.
 pub fn steps_are_a_run()
     ensures begins { (t : Devices) (j : Job) (v : View) → IsNewSession v j
         → HasRun t t j.limit v.state v.state }
@@ -335,6 +337,9 @@ pub fn steps_are_a_run()
     ensures fails { (t t1 t2 : Devices) (j : Job) (v : View) (s : State) (f : Fault)
         → IsNewSession v j → HasRun t t1 j.limit v.state s
         → Stops t1 t2 j.limit s f → Fails t t2 j f }
+    ensures characters { (t t1 t2 : Devices) (j : Job) (v : View) (s w : State) (x : List ℕ)
+        → IsNewSession v j → HasRun t t1 j.limit v.state s → Finishes t1 t2 j.limit s w
+        → GaveToEnd t.reads t2.reads x → w.counts.index ≡ length (input_text j x) }
 {}
 
 /// After a step, a conversion has converted the longest list of pieces that the input so far
@@ -368,7 +373,8 @@ pub fn calls_add_up()
 
 /// Once all is written, what calls of a converter wrote and found is what the job makes of all that
 /// they were handed, if its policy stops nothing, and what is reported is the report on it, but for
-/// the number of calls. Before that it is the first part of it, however the input goes on.
+/// the number of calls. The characters that are counted are those of its text. Before that it is
+/// the first part of it, however the input goes on.
 pub fn calls_are_a_conversion()
     ensures owes { (j : Job) (last : Bool) (bytes rest : List ℕ) (items : List Item)
         (v : ConverterView) → ConvertedSoFar j last bytes rest items v
@@ -379,6 +385,13 @@ pub fn calls_are_a_conversion()
     ensures report { (j : Job) (bytes : List ℕ) (items : List Item) (v : ConverterView)
         (p : Report) → ConvertedSoFar j true bytes [] items v → IsWhole v → ReportsOn v.state p
         → IsReportButCalls j bytes p }
+    ensures so_far { (j : Job) (last : Bool) (bytes rest : List ℕ) (items : List Item)
+        (v : ConverterView) → ConvertedSoFar j last bytes rest items v
+        → (r : List ℕ) → (last ≡ true → r ≡ [])
+        → length (input_text j (bytes ++ r)) ≡ characters_of v (rest ++ r) }
+    ensures characters { (j : Job) (bytes : List ℕ) (items : List Item) (v : ConverterView)
+        → ConvertedSoFar j true bytes [] items v → IsWhole v
+        → v.state.counts.index ≡ length (input_text j bytes) }
 {}
 
 /// An input is cut behind a byte below 30, as a line feed is, if its encoding and the output
@@ -433,9 +446,12 @@ pub fn many_parts_are_the_whole()
 
 /// Two runs on the parts of an input, each with an output and a log of its own that were empty:
 /// joined, they are what a run on the whole writes. The lines of the second log are moved by the
-/// bytes that the first run read, and by the characters of its input's text.
+/// bytes that the first run read (`Report::read`), and by the characters that it counted
+/// (`Session::characters`, `Converter::characters`), which are those of its input's text.
 pub fn runs_on_parts_are_a_run()
-    ensures { (j : Job) (x y : List ℕ) (v w : Written) (p q : Report) → IsValidJob j
-        → CanBeCut j x → IsConverted unwritten v j x p → IsConverted unwritten w (later j x) y q
-        → AreOfWhole j x y v w p q }
+    ensures { (j : Job) (x y : List ℕ) (v w : Written) (p q : Report) (characters : ℕ)
+        → IsValidJob j → CanBeCut j x
+        → IsConverted unwritten v j x p → characters ≡ length (input_text j x)
+        → IsConverted unwritten w (later j x) y q
+        → AreOfWhole j x y v w p q characters }
 {}

@@ -105,6 +105,19 @@ impl<'t> Session<'t> {
         }
     }
 
+    /// How many characters of the text were encoded so far: the index of the next one, as the lines
+    /// of lost characters have it. The text has U+FFFD for each malformed sequence, and no mark
+    /// that was taken.
+    ///
+    /// After `Ok(More)` it counts all that the bytes read so far decide, and after `Ok(Done)` the
+    /// text of the whole input. After `Fault::Read` and `Fault::TooLong` it is what it was before
+    /// that step; of other faults nothing is promised.
+    pub fn characters(&self) -> u64
+        ensures { result ≡ (view_of self.now).state.counts.index }
+    {
+        self.engine.counts.index
+    }
+
     /// One read, and all that follows from it: what it gives is decoded, encoded and written, and
     /// what is lost is logged.
     ///

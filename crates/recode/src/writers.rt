@@ -21,7 +21,7 @@ pub struct MalformedLine {
 
 /// Where a conversion writes: its output, and the log of what is lost.
 ///
-/// What is to be written is held first: the line of a malformed sequence, and after it bytes of
+/// What is to be written is held first: the line of a malformed sequence, and behind it bytes of
 /// the output, at the start of the buffer. It is delivered before the next line, so that each line
 /// is written after the bytes that come before it; if the buffer has little room left; and at the
 /// end of a step. All bytes that are held go out in one call, and so do two lines with no bytes
@@ -102,7 +102,7 @@ impl<'w, W: Write, L: Write> Writers<'w, W, L> {
     }
 
     /// Delivers what is held and writes a line to the log, all of that or a prefix. A line that is
-    /// held with no bytes after it goes in the same call.
+    /// held with no bytes behind it goes in the same call.
     pub fn log_line(&mut self, line: LogLine) -> Result<(), Fault>
         requires valid { IsValid line }
         requires ready { AreReady self.old }

@@ -1,6 +1,6 @@
 -- Two writes of neighbouring parts are one write of both. How long a line can be, and what stays after a part that
 -- is written. What is read of a row that has been written: its two numbers, on either side of the first space.
-use Rattle.std.proofs.Common.{◌≡◌, ◌≤◌, arith, length-drop, ℕ, ◌+◌, ◌-◌, List, ◌++◌, length, take, drop, Option, ap, sym, ◌∙◌, subst, ◌<◌, ◌^◌, length-append, false, [], ◌∷◌, get_or, codes, Some, add-one, drop-cons, append_assoc, append-nil, None, position, ◌==◌}
+use Rattle.std.proofs.Common.{◌≡◌, ◌≤◌, arith, length-drop, length-take, ℕ, ◌+◌, ◌-◌, List, ◌++◌, length, take, drop, Option, ap, sym, ◌∙◌, subst, ◌<◌, ◌^◌, length-append, false, [], ◌∷◌, get_or, codes, Some, add-one, drop-cons, append_assoc, append-nil, None, position, ◌==◌}
 use Rattle.std.proofs.Math.Seq.{take-add, get_or-append_seam, take-append_seam, drop-append-add}
 use Rattle.std.proofs.lemmas.List.{take_rest, drop-drop, append_cancel_left, append_cancel_right, take-append-drop}
 use Rattle.std.proofs.KnownBytes.{Appends-trans}
@@ -44,15 +44,13 @@ appends_kept (Some x) (Some y) (Some z) xs p q = q ∙ p
 pub passed_none : (a b c : List ℕ) (n : ℕ) (buf xs : List ℕ) → n ≤ 0 → b ≡ a ++ xs → c ≡ b ++ take n buf → c ≡ a ++ xs
 passed_none a b c n buf xs none p q = appends_none (Some a) (Some b) (Some c) n buf xs none p q
 
--- no bytes of a buffer
-pub none_of : (n : ℕ) (buf : List ℕ) → n ≤ 0 → take n buf ≡ []
-none_of n buf none =
-    let zero : n ≡ 0 = omega (arith, none) in
-    ap (λ k. take k buf) zero
-
 -- a write of what is left has room for some
 pub some_left : (i : ℕ) (xs : List ℕ) → i < length xs → 0 < length (take (length xs - i) (drop i xs))
 some_left i xs within = omega (arith, ap length (take_rest xs i), length-drop i xs)
+
+-- and room for all that is left
+pub room_left : (i : ℕ) (xs : List ℕ) → i ≤ length xs → length (take (length xs - i) (drop i xs)) ≡ length xs - length (take i xs)
+room_left i xs within = omega (arith, ap length (take_rest xs i), length-drop i xs, length-take i xs)
 
 pub taken_within : (i n : ℕ) (xs : List ℕ) → i ≤ length xs → n ≤ length (take (length xs - i) (drop i xs)) → i + n ≤ length xs
 taken_within i n xs h p =

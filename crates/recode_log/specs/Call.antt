@@ -1,5 +1,5 @@
 -- What the calls of a reader or a writer did: the history of a device.
-use Rattle.std.specs.Prelude.{◌≡◌, ℕ, ◌+◌, ◌<◌, min, List, [], ◌∷◌, ◌++◌, Bool, true, false, IsTrue, Result, Ok, Err, length, take}
+use Rattle.std.specs.Prelude.{◌≡◌, ℕ, ◌+◌, ◌-◌, ◌<◌, min, List, [], ◌∷◌, ◌++◌, Bool, true, false, Result, Ok, Err, length, take}
 
 -- One call of a device: a read or a write that passed the first bytes of its buffer, or that failed, each with the
 -- length of the buffer, or a flush, and whether it failed.
@@ -33,19 +33,6 @@ passed_by (Passed room bytes ∷ calls) = bytes ∷ passed_by calls
 passed_by (Failed room ∷ calls) = passed_by calls
 passed_by (Flush failed ∷ calls) = passed_by calls
 
--- a write or a flush failed: it returned an error, or it was a write of some bytes that took none
-abbrev pub IsFailedWrite : Call → Type 0
-IsFailedWrite (Passed room bytes) = (0 < room) × (bytes ≡ [])
-IsFailedWrite (Failed room) = Unit {0}
-IsFailedWrite (Flush failed) = IsTrue failed
-
--- the last call of the history of a writer failed
-pub record EndsInFailedWrite (calls : List Call) : Type 0 where
-  pub earlier : List Call
-  pub last : Call
-  pub ends : calls ≡ earlier ++ (last ∷ [])
-  pub failed : IsFailedWrite last
-
 -- a call is a write of some bytes, whatever came of it
 abbrev pub IsWriteOfSome : Call → Type 0
 IsWriteOfSome (Passed room bytes) = 0 < room
@@ -57,7 +44,7 @@ abbrev pub failed_read : Call → ℕ
 failed_read (Failed room) = 1
 failed_read _ = 0
 
--- 1 if a call of a writer failed, which it did if it took none of some bytes, else 0
+-- 1 if a call of a writer failed, else 0: it returned an error, or it was a write of some bytes that took none
 abbrev pub failed_write : Call → ℕ
 failed_write (Passed room []) = min 1 room
 failed_write (Passed room (b ∷ bytes)) = 0
@@ -69,3 +56,17 @@ failed_write (Flush false) = 0
 abbrev pub failed_writes : List Call → ℕ
 failed_writes [] = 0
 failed_writes (call ∷ calls) = failed_write call + failed_writes calls
+
+-- the last call of the history of a writer failed
+pub record EndsInFailedWrite (calls : List Call) : Type 0 where
+  pub earlier : List Call
+  pub last : Call
+  pub ends : calls ≡ earlier ++ (last ∷ [])
+  pub failed : failed_write last ≡ 1
+
+-- Of so many bytes, these calls of a writer are each a write of all that is left. What a call takes is left no more.
+abbrev pub OffersAllLeft : (left : ℕ) → List Call → Type 0
+OffersAllLeft left [] = Unit {0}
+OffersAllLeft left (Passed room bytes ∷ calls) = (room ≡ left) × OffersAllLeft (left - length bytes) calls
+OffersAllLeft left (Failed room ∷ calls) = (room ≡ left) × OffersAllLeft left calls
+OffersAllLeft left (Flush failed ∷ calls) = ⊥

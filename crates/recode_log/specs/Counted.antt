@@ -1,7 +1,7 @@
 -- What a clause reads of a `Counted`, and what is left of a message.
 use Rattle.std.specs.Prelude.{◌≡◌, ◌⊎◌, ℕ, ◌+◌, ◌<◌, List, ◌++◌, length, take}
 use Rattle.std.specs.List.{All, concat}
-use Rattle.recode_log.specs.Call.{Call, IsWriteOfSome, failed_writes, passed_by}
+use Rattle.recode_log.specs.Call.{Call, EndsInFailedWrite, IsWriteOfSome, OffersAllLeft, failed_writes, passed_by}
 use Rattle.recode_log.specs.declared.counted.Counted.{Counted}
 
 -- the reader or the writer that a `Counted` wraps
@@ -30,3 +30,17 @@ pub record CountsWrites {T : Type 0} (before after : Counted T) : Type 0 where
   pub made : history_of after ≡ history_of before ++ calls
   pub some : All IsWriteOfSome calls
   pub counted : failures_of after ≡ failures_of before + failed_writes calls
+
+-- and each was a write of all that was left of so many bytes
+pub record OffersAll {T : Type 0} (before after : Counted T) (size : ℕ) : Type 0 where
+  pub writes : CountsWrites before after
+  pub all : OffersAllLeft size writes.calls
+
+-- A message was told: all of it and no call failed, or not all, and the last call failed, and no other. Each call was a
+-- write of all that was left of it.
+pub record TellsMessage {T : Type 0} (before after : Counted T) (message : List ℕ) : Type 0 where
+  pub told : ℕ
+  pub whole : IsTold (failures_of before) (failures_of after) message told
+  pub passed : passed_of after ≡ passed_of before ++ take told message
+  pub offers : OffersAll before after (length message)
+  pub last : told < length message → EndsInFailedWrite (history_of after)

@@ -1,17 +1,22 @@
 -- The log of a run fits its input: what comes from the definition of its lines, line by line.
 use Rattle.std.proofs.Common.{◌≡◌, ℕ, ◌+◌, ◌-◌, ◌^◌, ◌<◌, ◌≤◌, inl, inr, true, List, [], ◌∷◌, ◌++◌, length, take, drop, codes, refl, sym, ◌∙◌, ap, subst, arith, append_assoc, append-nil, length-append, take-append-drop}
 use Rattle.std.specs.Char.{IsScalar}
-use Rattle.std.specs.List.{flat_map}
+use Rattle.std.specs.List.{All, flat_map}
 use Rattle.std.specs.Str.{all_scalars}
 use Rattle.std.proofs.Math.Utf8.{scalar}
 use Rattle.std.proofs.Math.Seq.{take-append-add}
 use Rattle.std.proofs.lemmas.Bool.{and_parts, cases_lt}
 use Rattle.std.proofs.lemmas.Grind.{flat_map-append}
 use Rattle.std.proofs.lemmas.List.{length-take, take-append-le}
+use Rattle.std.proofs.lemmas.List.Elements.{All-cons, All-nil}
 use Rattle.encoding_mem.specs.Piece.{Piece, well_formed, malformed, sizes, ArePieces}
 use Rattle.encoding_mem.specs.Coding.{Coding}
+use Rattle.encoding_mem.specs.declared.form.EscapeState.TheVariants.{Ascii}
 use Rattle.recode.specs.Conversion.{message_of}
+use Rattle.recode.specs.Parts.{lines_of as lines_of_run, noted}
+use Rattle.recode.specs.Policy.{reference_form, written_under}
 use Rattle.recode.specs.TaggedByte.{IsPrefix}
+use Rattle.recode.specs.laws.Parts.{noted-cut, noted-trace}
 use Rattle.recode.specs.declared.job.Fault.{Fault}
 use Rattle.recode.specs.declared.job.Fault.TheVariants.{Log, Read, TooLong, Unmappable, Write}
 use Rattle.recode.specs.declared.job.Job.{Job}
@@ -21,7 +26,7 @@ use Rattle.encoding_mem.specs.declared.form.Form.TheVariants.{Mapped, Unmapped}
 use Rattle.recode_log.specs.Line.{line_bytes, row_bytes}
 use Rattle.recode_log.specs.declared.line.LogLine.{LogLine}
 use Rattle.recode_log.specs.declared.line.LogLine.TheVariants.{Bad, Lost}
-use Rattle.recode.specs.Job.{RunsThrough, form_lines, input_pieces, lines_up_to_loss, log_lines, log_of, lost_log_lines, target_of}
+use Rattle.recode.specs.Job.{RunsThrough, form_lines, input_pieces, lines_up_to_loss, log_lines, log_of, lost_log_lines, target_of, whole_trace}
 use Rattle.recode_places.specs.Fits.{Fits, FitsCharacter, FitsText, IsLineOrNone, Then}
 use Rattle.recode_places.specs.Logs.{CanBeLogged, IsLoggedAs, IsLogEnd}
 use Rattle.recode_places.specs.Places.{feeds}
@@ -302,3 +307,25 @@ module _ (j : Job) (x : List ℕ) (pieces : ArePieces (input_pieces j x)) (whole
       by Policy.Stop is =
           let front = first_of_lines lines_of in
           part_fits (lines_up_to_loss lines_of) front.0 front.1 bytes prefix.0 (sym (stopped is) ∙ prefix.1)
+
+  -- the lines that are written
+  whole_logged : CanAllBeLogged (noted (whole_trace j x))
+  whole_logged = subst CanAllBeLogged (sym (noted-trace (reference_form j.policy) (target_of j) Ascii 0 0 (input_pieces j x))) (lines_logged (target_of j) (logged_form j.tables.now j.to) 0 0 (input_pieces j x) loggable (omega arith) (omega (arith, whole, within)))
+
+  logged_under : (p : Policy) → CanAllBeLogged (noted (written_under p (whole_trace j x)))
+  logged_under Policy.Decimal = whole_logged
+  logged_under Policy.Hexadecimal = whole_logged
+  logged_under Policy.Stop =
+      let front = first_of_lines (noted (whole_trace j x)) in
+      subst CanAllBeLogged (sym (noted-cut (whole_trace j x))) (split_logged (lines_up_to_loss (noted (whole_trace j x))) front.0 (subst CanAllBeLogged front.1 whole_logged))
+
+  pub run_logged : All CanBeLogged (lines_of_run j x)
+  run_logged = all_logged (lines_of_run j x) (logged_under j.policy)
+    where
+      all_logged : (ls : List LogLine) → CanAllBeLogged ls → All CanBeLogged ls
+      all_logged [] h = All-nil CanBeLogged
+      all_logged (l ∷ ls) h = All-cons CanBeLogged l ls h.0 (all_logged ls h.1)
+
+-- a line by its line feed
+pub line_feed : (l : LogLine) → CanBeLogged l → (body : List ℕ) × (line_bytes l ≡ body ++ (10 ∷ [])) × (feeds body ≡ 0) × (length body < 64)
+line_feed l h = let ends = line_ends l h in (ends.body, ends.whole, no_feeds ends.body ends.lacks, ends.short)

@@ -1,7 +1,8 @@
 -- What is done and returned for the words of the command line.
 use Rattle.std.specs.Prelude.{◌≡◌, ◌⊎◌, ⊤, ℕ, List, Option, None, ◌∷◌, [], All, Any, IfSome, codes}
 use Rattle.std.specs.Str.{IsUtf8}
-use Rattle.recode.specs.Program.{AnswersProgram, Ports, FailsToStart, IsLeftAlone}
+use Rattle.recode.specs.Devices.{Ports}
+use Rattle.recode.specs.Program.{AnswersProgram, FailsToStart, IsLeftAlone}
 use Rattle.recode_system.specs.declared.command_line.Wordless.{Wordless}
 use Rattle.recode_system.specs.declared.command_line.Wordless.TheVariants.{NotUtf8, Memory}
 
@@ -21,7 +22,7 @@ words_with_name [] = codes "recode" ∷ []
 words_with_name (name ∷ words) = name ∷ words
 
 -- One of the words is not UTF-8, as is seen if they are known. The status is 2, nothing is read,
--- and nothing is written except to the log.
+-- and nothing is written but a message to the log.
 pub record RefusesLine {R W L : Type 0} (told : Option (List (List ℕ))) (before after : Ports R W L) (status : ℕ) : Type 0 where
   pub answered : status ≡ 2
   pub refused : IfSome told HasWordNotUtf8

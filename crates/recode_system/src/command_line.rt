@@ -4,7 +4,8 @@ ghost use Rattle.std.specs.Prelude.{◌≡◌, ◌≤◌, ◌<◌, ◌^◌, ◌-
 ghost use Rattle.std.specs.Prelude.{IfErr, IfOk, IfSome, length, string_bytes};
 ghost use Rattle.recode_log.specs.Counted.{failures_of};
 ghost use Rattle.recode.specs.Devices.{HaveFailedAtMost, devices_in};
-ghost use Rattle.recode.specs.Program.{ports};
+ghost use Rattle.recode.specs.Devices.{ports};
+ghost use Rattle.recode.specs.Program.{TellsSome};
 ghost use Rattle.recode_system.specs.CommandLine.{AnswersSystem, IsWhy, words_with_name};
 
 use crate::system_files::SystemFiles;
@@ -56,7 +57,8 @@ fn with_name<'a>(words: &'a [&'a str]) -> &'a [&'a str]
 
 fn refuse<L: Write>(log: &mut Counted<L>) -> u8
     requires { failures_of log.old < 2 ^ 64 - 1 }
-    ensures { result ≡ 2 }
+    ensures status { result ≡ 2 }
+    ensures told { TellsSome log.old log.new }
 {
     tell(log, b"recode: a word is not UTF-8\n");
     REFUSED
@@ -64,7 +66,8 @@ fn refuse<L: Write>(log: &mut Counted<L>) -> u8
 
 fn out_of_memory<L: Write>(log: &mut Counted<L>) -> u8
     requires { failures_of log.old < 2 ^ 64 - 1 }
-    ensures { result ≡ 3 }
+    ensures status { result ≡ 3 }
+    ensures told { TellsSome log.old log.new }
 {
     tell(log, b"recode: out of memory\n");
     NOT_STARTED

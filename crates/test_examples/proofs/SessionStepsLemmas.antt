@@ -115,8 +115,8 @@ module _ (j : Job) (x rest output log : List ℕ) (t' : Devices) (tells : TellWh
       → ((s : State) (y : List ℕ) (ps : List Piece) → HasReached devices_before t' j s y ps → IsDecided (input_pieces j) y ps)
       → ((s : State) (y : List ℕ) (ps qs : List Piece) → HasReached devices_before t' j s y ps → IsNearlyDecided s.decoder → IsDecided (input_pieces j) y qs → IsPrefix qs ps)
       → ((s : State) (y z : List ℕ) (ps qs more : List Piece) → HasReached devices_before t' j s y ps → IsNearlyDecided s.decoder → input_pieces j (y ++ z) ≡ qs ++ more → sizes qs + 3 ≤ length y → IsPrefix qs ps)
-      → GaveDecided j x steps output log
-  gave_decided new v steps n so_far all gave decided longest soon =
+      → (characters : ℕ) → characters ≡ v.state.counts.index → GaveDecided j x steps output log characters
+  gave_decided new v steps n so_far all gave decided longest soon characters told =
       let s = so_far.reached in
       let near = so_far.run.settled in
       record {
@@ -125,6 +125,7 @@ module _ (j : Job) (x rest output log : List ℕ) (t' : Devices) (tells : TellWh
         split = gave so_far.read s.given;
         enough = omega (arith, all, so_far.enough);
         pieces = so_far.pieces;
+        counted = told ∙ s.index;
         decided = record {
           decided = decided v.state so_far.read so_far.pieces s;
           longest = λ qs. longest v.state so_far.read so_far.pieces qs s near;
@@ -135,8 +136,8 @@ module _ (j : Job) (x rest output log : List ℕ) (t' : Devices) (tells : TellWh
       }
 
   -- what was converted is all
-  pub gave_all : (p : Report) → IsConverted devices_before.written t'.written j x p → GaveAll j x output log p.faithful
-  gave_all p converted = record { written = is_output ∙ converted.whole.output; logged = is_log ∙ converted.whole.logged; verdict = converted.report.faithful }
+  pub gave_all : (p : Report) (characters : ℕ) → IsConverted devices_before.written t'.written j x p → characters ≡ length (input_text j x) → GaveAll j x output log characters p.faithful
+  gave_all p characters converted counted = record { written = is_output ∙ converted.whole.output; logged = is_log ∙ converted.whole.logged; counted = counted; verdict = converted.report.faithful }
 
 -- what a fault that ended them tells is true
 pub told_fault : (j : Job) (x : List ℕ) (t' : Devices) (f : Fault) → Fails devices_before t' j f

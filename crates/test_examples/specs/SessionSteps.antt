@@ -1,6 +1,6 @@
 -- What steps of a session gave.
 use Rattle.std.specs.Prelude.{◌≡◌, ◌↔◌, ℕ, ◌<◌, ◌≤◌, Bool, IsTrue, List, [], ◌∷◌, ◌++◌, length, take}
-use Rattle.encoding_mem.specs.Piece.{Piece}
+use Rattle.encoding_mem.specs.Piece.{Piece, text}
 use Rattle.recode.specs.Devices.{Written}
 use Rattle.recode.specs.Job.{Faithful, input_text, log_of, lost_log_lines, output_of, target_of}
 use Rattle.recode.specs.Latency.{WroteDecided}
@@ -10,19 +10,22 @@ use Rattle.recode.specs.declared.job.Job.{Job}
 use Rattle.recode.specs.declared.job.Policy.{Policy}
 use Rattle.recode_log.specs.declared.line.LogLine.TheVariants.{Lost}
 
--- an output, a log and a verdict are those of a job for a whole input
-pub record GaveAll (j : Job) (x output log : List ℕ) (faithful : Bool) : Type 0 where
+-- an output, a log, a count of characters and a verdict are those of a job for a whole input
+pub record GaveAll (j : Job) (x output log : List ℕ) (characters : ℕ) (faithful : Bool) : Type 0 where
   pub written : output ≡ output_of j x
   pub logged : log ≡ log_of j x
+  pub counted : characters ≡ length (input_text j x)
   pub verdict : IsTrue faithful ↔ Faithful j x
 
--- at least so many bytes of an input were read, and an output and a log have all that these decide
-pub record GaveDecided (j : Job) (x : List ℕ) (steps : ℕ) (output log : List ℕ) : Type 0 where
+-- at least so many bytes of an input were read, and an output and a log have all that these decide, and so many
+-- characters are counted
+pub record GaveDecided (j : Job) (x : List ℕ) (steps : ℕ) (output log : List ℕ) (characters : ℕ) : Type 0 where
   pub read : List ℕ
   pub rest : List ℕ
   pub split : x ≡ read ++ rest
   pub enough : steps ≤ length read
   pub pieces : List Piece
+  pub counted : characters ≡ length (text pieces)
   pub decided : WroteDecided (record { output = []; log = [] }) (record { output = output; log = log }) j read pieces
 
 -- What a fault tells of an input is true: it is longer than the limit, or the policy stops, and this is its first lost

@@ -13,6 +13,7 @@ mod conversions;
 mod converters;
 mod decoded_texts;
 mod first_faults;
+mod joined_logs;
 mod lost_characters;
 mod own_texts;
 mod part_runs;
@@ -217,6 +218,7 @@ fn main(rt: HostRuntime) -> anyhow::Result<()> {
     print(rt, "encoding_front", streams::converts_streams(alloc)?)?;
     print(rt, "recode_log", streams::writes_a_line(alloc)?)?;
     print(rt, "recode_places", places::tells_a_place(alloc)?)?;
+    print(rt, "recode_parts", joined_logs::joins_a_log(alloc)?)?;
     print(rt, "recode_words", streams::reads_words(alloc)?)?;
     print(rt, "recode", conversions::converts_a_stream(alloc)?)?;
     print(rt, "recode_places_report", reports::reports_a_place(alloc)?)?;

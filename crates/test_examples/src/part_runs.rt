@@ -2,20 +2,13 @@
 
 ghost use Rattle.recode.specs.Job.{IsValidJob};
 
+use crate::session_steps::{Gained, convert_steps};
 use anyhow::ensure;
-use recode::{Buffers, Counted, Encoding, GREATEST_LIMIT, Job, Mark, Pivot, Policy, Tables, run};
+use recode::{Buffers, Encoding, GREATEST_LIMIT, Job, Mark, Pivot, Policy, Tables};
 use std::alloc::Global;
 use std::io::Write;
 
-// What a run wrote, and whether nothing was lost.
-#[derive(Drop)]
-struct Written {
-    output: Vec<u8>,
-    log: Vec<u8>,
-    faithful: bool,
-}
-
-fn recode_bytes(alloc: Global, job: Job<'_>, bytes: &[u8]) -> anyhow::Result<Written>
+fn recode_bytes(alloc: Global, job: Job<'_>, bytes: &[u8]) -> anyhow::Result<Gained>
     requires { IsValidJob job }
 {
     let mut input = [0; 64];
@@ -31,19 +24,13 @@ fn recode_bytes(alloc: Global, job: Job<'_>, bytes: &[u8]) -> anyhow::Result<Wri
         check,
     };
     ensure!(buffers.is_enough(), "a buffer is too small");
-    let mut reader = Counted::new(bytes);
-    let mut writer = Counted::new(Vec::new(alloc));
-    let mut log = Counted::new(Vec::new(alloc));
-    let report = run(&mut reader, &mut writer, &mut log, job, &mut buffers)?;
-    Ok(Written {
-        output: writer.into_inner(),
-        log: log.into_inner(),
-        faithful: report.faithful,
-    })
+    let steps = bytes.len() as u64 + 1;
+    Ok(convert_steps(alloc, job, bytes, steps, &mut buffers)?)
 }
 
 /// Recodes an input whole, and in two parts. Prints the output of the parts, which is that of the
-/// whole, then the log of the whole and those of the parts, and the verdicts.
+/// whole, then the log of the whole and those of the parts, the numbers of characters and the
+/// verdicts. The indexes of the second log are moved by the number of the first part.
 pub(crate) fn recode_parts(
     rt: HostRuntime,
     whole: &[u8],
@@ -76,7 +63,11 @@ pub(crate) fn recode_parts(
     rt.stdout().write_all(&one.log)?;
     rt.stdout().write_all(&other.log)?;
     println!(rt;
-        "faithful: {} {} {}",
+        "characters: {} {} {}",
+        all.characters, one.characters, other.characters
+    )?;
+    println!(rt;
+        "faithful: {:?} {:?} {:?}",
         all.faithful, one.faithful, other.faithful
     )?;
     Ok(())

@@ -59,6 +59,8 @@ impl Write for Keeper {
 pub(crate) struct Gained {
     pub(crate) output: Vec<u8>,
     pub(crate) log: Vec<u8>,
+    /// How many characters the text has that was converted.
+    pub(crate) characters: u64,
     /// Whether nothing was lost, or `None` if the end of the input was not read.
     pub(crate) faithful: Option<bool>,
 }
@@ -66,9 +68,9 @@ pub(crate) struct Gained {
 /// Makes at most so many steps of a conversion, and returns what they gave.
 ///
 /// If they read the end of the input, output, log and verdict are those of the whole job, as of
-/// `run`. If not, they read at least as many bytes as there were steps, and output and log have all
-/// that these bytes decide, however the input goes on. So more steps than the input has bytes read
-/// all of it.
+/// `run`, and the characters are those of its text. If not, they read at least as many bytes as
+/// there were steps, and output and log have all that these bytes decide, however the input goes
+/// on, and the characters are those of that. So more steps than the input has bytes read all of it.
 ///
 /// A fault is one of a device, or tells of the input: that it is longer than the limit, or, if the
 /// policy stops, which is its first character without bytes.
@@ -84,9 +86,10 @@ pub(crate) fn convert_steps(
     requires job { IsValidJob job }
     requires buffers { AreEnough buffers.old }
     ensures whole { IfOk result (λ gained. IfSome gained.faithful
-        (GaveAll job.entry input.now gained.output.items gained.log.items)) }
+        (GaveAll job.entry input.now gained.output.items gained.log.items gained.characters)) }
     ensures part { IfOk result (λ gained. IfNone gained.faithful
-        (GaveDecided job.entry input.now steps gained.output.items gained.log.items)) }
+        (GaveDecided job.entry input.now steps gained.output.items gained.log.items
+        gained.characters)) }
     ensures fault { IfErr result (TellsFault job.entry input.now) }
 {
     steps_are_a_run();
@@ -113,6 +116,7 @@ pub(crate) fn convert_steps(
                 return Ok(Gained {
                     output: writer.into_inner().bytes,
                     log: log.into_inner().bytes,
+                    characters: session.characters(),
                     faithful: Some(report.faithful),
                 });
             }
@@ -121,6 +125,7 @@ pub(crate) fn convert_steps(
     Ok(Gained {
         output: writer.into_inner().bytes,
         log: log.into_inner().bytes,
+        characters: session.characters(),
         faithful: None,
     })
 }

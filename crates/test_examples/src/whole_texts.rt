@@ -5,6 +5,7 @@ use anyhow::{Context, ensure};
 use encoding_front::{Encoding, SHIFT_JIS};
 use encoding_index::load;
 use encoding_tables::{IndexKind, Tables};
+use std::alloc::Global;
 use std::io::Write;
 
 /// Decodes a text. Prints it, the encoding that it was in and whether it had faults.
@@ -31,6 +32,15 @@ pub(crate) fn encode_text(rt: HostRuntime, index: &[u8], text: &str) -> anyhow::
     Ok(())
 }
 
+// Two indexes. In a function of its own: what a load promises of all kinds of index is then not
+// among what the call of `decode` is proved from, and no proof file is wanted.
+fn japanese_tables(alloc: Global, jis0208: &[u8], jis0212: &[u8]) -> anyhow::Result<Tables> {
+    let mut tables = Tables::new(alloc);
+    load(alloc, &mut tables, IndexKind::Jis0208, jis0208)?;
+    load(alloc, &mut tables, IndexKind::Jis0212, jis0212)?;
+    Ok(tables)
+}
+
 /// Decodes a text in the encoding that a label names, with two indexes, and prints it as
 /// `decode_text` does. `Encoding::needs` returns the indexes that an encoding needs.
 pub(crate) fn decode_by_label(
@@ -42,9 +52,7 @@ pub(crate) fn decode_by_label(
 ) -> anyhow::Result<()> {
     let asked = Encoding::for_label(label).context("an unknown label")?;
     let alloc = rt.alloc();
-    let mut tables = Tables::new(alloc);
-    load(alloc, &mut tables, IndexKind::Jis0208, jis0208)?;
-    load(alloc, &mut tables, IndexKind::Jis0212, jis0212)?;
+    let tables = japanese_tables(alloc, jis0208, jis0212)?;
     ensure!(asked.is_ready(&tables), "an index is missing");
     let (text, encoding, had_errors) = asked.decode(alloc, &tables, bytes)?;
     println!(rt; "{text} {} {had_errors}", encoding.name())?;

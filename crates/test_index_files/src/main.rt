@@ -6,8 +6,8 @@
 //! The file `stdout` beside `src/` has what must be printed. Its characters were taken from ISO
 //! 8859, RFC 1489 and RFC 2319 (KOI8), the code pages of the vendors, JIS X 0208 and 0212, KS X
 //! 1001, GB 18030 and the notes of the Encoding Standard, never from the files. Its lines on
-//! sequences are those of `tools/sequences.py`, a program that reads the same files by itself. Its
-//! lines on the forty encodings are those of `tools/characters.py`.
+//! sequences are those of `tools/oracles/sequences.py`, a program that reads the same files by
+//! itself. Its lines on the forty encodings are those of `tools/oracles/characters.py`.
 //!
 //! A sample of the characters above the basic plane is written. With the word `all` every one of
 //! them is written (`make characters`).

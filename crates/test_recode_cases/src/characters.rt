@@ -1,6 +1,6 @@
 //! Converts every character to an encoding, each as a text of its own, and prints a verdict on it.
-//! `make verdicts` compares the verdicts with those of `tools/characters.py`, a plain program over
-//! the same index texts.
+//! `make verdicts` compares the verdicts with those of `tools/oracles/characters.py`, a plain
+//! program over the same index texts.
 
 use anyhow::{Context, bail, ensure};
 use encoding_front::{Encoding, Mark, UTF_8};

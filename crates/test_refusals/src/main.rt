@@ -1,6 +1,6 @@
 //! Makes each call of the libraries of encodings that takes memory, and prints what comes of it. If
 //! memory is refused, the call is made again. `make test` runs this program with each request for
-//! memory refused in turn, and with all of them refused (`tools/refused_memory.py`).
+//! memory refused in turn, and with all of them refused (`tools/gate/refused_memory.py`).
 #![tactic(auto)]
 
 mod indexes;

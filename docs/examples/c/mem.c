@@ -10,11 +10,11 @@ static jillapun_char16 units[MOST + 1];
 
 int main(void) {
     size_t len = fread(text, 1, MOST, stdin);
-    size_t valid = encoding_utf8_valid_up_to(text, len);
+    size_t valid = jillapun_utf8_valid_up_to(text, len);
     if (valid < len)
         printf("malformed at byte %zu\n", valid);
-    size_t count = encoding_mem_convert_utf8_to_utf16(text, len, units, MOST + 1);
+    size_t count = jillapun_mem_convert_utf8_to_utf16(text, len, units, MOST + 1);
     printf("%zu units of UTF-16%s\n", count,
-        encoding_mem_is_utf16_bidi(units, count) ? ", some from right to left" : "");
+        jillapun_mem_is_utf16_bidi(units, count) ? ", some from right to left" : "");
     return 0;
 }

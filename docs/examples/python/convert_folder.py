@@ -19,14 +19,14 @@ def main() -> int:
     os.makedirs(into, exist_ok=True)
 
     def converted(path: Path) -> jillapun.ConvertedFile:
-        return jillapun.convert_file(path, Path(into) / path.name, source, target, keep_faults=10)
+        return jillapun.convert_file(path, Path(into) / path.name, source, target, keep_losses=10)
 
     with ThreadPoolExecutor(os.cpu_count()) as pool:
         results = list(pool.map(converted, paths))
     for path, result in zip(paths, results):
         print("%s: %s" % (path.name, result.summary))
-        for fault in result.kept_faults:
-            print("  %s" % (fault,))
+        for loss in result.kept_losses:
+            print("  %s" % (loss,))
     return 0 if all(result.faithful for result in results) else 1
 
 

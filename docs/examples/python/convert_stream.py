@@ -16,8 +16,8 @@ async def answer(reader: asyncio.StreamReader, writer: asyncio.StreamWriter) -> 
     while not converter.report:
         data = await reader.read(4096)
         part = converter.convert(data, last=not data)
-        for fault in part.faults:
-            print(fault)
+        for loss in part.losses:
+            print(loss)
         writer.write(part.output)
         await writer.drain()
     print(converter.report.summary)

@@ -1,6 +1,6 @@
 //! What an encoding tells of itself, and the calls for whole inputs and whole texts.
 
-use crate::encodings::{by_number, REPLACEMENT, UTF_8};
+use crate::encodings::{by_number, UTF_8};
 use crate::sys::{self, Mark, Tables};
 use crate::{CoderResult, Decoder, DecoderResult, Encoder};
 use std::borrow::Cow;
@@ -67,14 +67,14 @@ impl Encoding {
         sys::for_label(label).map(by_number)
     }
 
-    /// What [`for_label`](Self::for_label) returns, but `None` in place of [`REPLACEMENT`].
+    /// What [`for_label`](Self::for_label) returns, but `None` in place of [`REPLACEMENT`](crate::REPLACEMENT).
     ///
     /// It is for callers that end with an error where no encoding has the label: to them the unsafe encodings, which
     /// replacement stands for, are one, too.
     ///
-    /// Proved: `jillapun_for_label`.
+    /// Proved: `jillapun_for_label_no_replacement`.
     pub fn for_label_no_replacement(label: &[u8]) -> Option<&'static Encoding> {
-        Encoding::for_label(label).filter(|found| *found != REPLACEMENT)
+        sys::for_label_no_replacement(label).map(by_number)
     }
 
     /// The encoding whose byte order mark stands at the start of the bytes, and the length of the mark in bytes ("BOM
@@ -96,20 +96,26 @@ impl Encoding {
     /// Whether text that is written in this encoding becomes UTF-8, so that each character has bytes.
     ///
     /// It is false of gb18030, too, which has none for U+E5E5.
+    ///
+    /// Proved: `jillapun_can_encode_everything`.
     pub fn can_encode_everything(&'static self) -> bool {
-        self.output_encoding() == UTF_8
+        sys::can_encode_everything(self.number)
     }
 
     /// Whether the bytes 00 to 7F, at the start of a character, are those of ASCII, and no others are: in all
     /// encodings but UTF-16BE, UTF-16LE, replacement and ISO-2022-JP.
+    ///
+    /// Proved: `jillapun_is_ascii_compatible`.
     pub fn is_ascii_compatible(&'static self) -> bool {
-        !matches!(self.family, Family::Iso2022Jp | Family::Wide)
+        sys::is_ascii_compatible(self.number)
     }
 
     /// Whether each byte is one character, of one unit of UTF-16: in the encodings of section 9 of the standard, and
     /// in x-user-defined.
+    ///
+    /// Proved: `jillapun_is_single_byte`.
     pub fn is_single_byte(&'static self) -> bool {
-        self.family == Family::SingleByte
+        sys::is_single_byte(self.number)
     }
 
     /// The encoding in which text is written that is asked for in this one ("get an output encoding", section 4.3 of
@@ -141,7 +147,7 @@ impl Encoding {
     ///
     /// If the room that the text may need passes a `usize`, or memory is refused.
     ///
-    /// Proved: `jillapun_for_bom`, `jillapun_decoder_decode_to_utf8`, `encoding_utf8_valid_up_to` and its kin.
+    /// Proved: `jillapun_for_bom`, `jillapun_decoder_decode_to_utf8`, `jillapun_utf8_valid_up_to` and its kin.
     pub fn decode<'a>(&'static self, bytes: &'a [u8]) -> (Cow<'a, str>, &'static Encoding, bool) {
         let (encoding, length) = Encoding::for_bom(bytes).unwrap_or((self, 0));
         let (text, had_errors) = encoding.decode_without_bom_handling(&bytes[length..]);
@@ -191,7 +197,7 @@ impl Encoding {
     ///
     /// What is borrowed and what panics is as of [`decode`](Self::decode).
     ///
-    /// Proved: `jillapun_decoder_decode_to_utf8_without_replacement`, `encoding_utf8_valid_up_to` and its kin.
+    /// Proved: `jillapun_decoder_decode_to_utf8_without_replacement`, `jillapun_utf8_valid_up_to` and its kin.
     pub fn decode_without_bom_handling_and_without_replacement<'a>(
         &'static self, bytes: &'a [u8],
     ) -> Option<Cow<'a, str>> {
@@ -228,7 +234,7 @@ impl Encoding {
     ///
     /// If the room that the bytes may need passes a `usize`, or memory is refused.
     ///
-    /// Proved: `jillapun_encoder_encode_from_utf8`, `encoding_ascii_valid_up_to` and its kin.
+    /// Proved: `jillapun_encoder_encode_from_utf8`, `jillapun_ascii_valid_up_to` and its kin.
     pub fn encode<'a>(&'static self, string: &'a str) -> (Cow<'a, [u8]>, &'static Encoding, bool) {
         let output = self.output_encoding();
         if output == UTF_8 {
@@ -303,14 +309,14 @@ impl Encoding {
     /// The length in bytes of the longest start that is UTF-8: it ends before the first byte of the first malformed
     /// sequence.
     ///
-    /// Proved: `encoding_utf8_valid_up_to`.
+    /// Proved: `jillapun_utf8_valid_up_to`.
     pub fn utf8_valid_up_to(bytes: &[u8]) -> usize {
         sys::mem::utf8_valid_up_to(bytes)
     }
 
     /// The length in bytes of the longest start that is ASCII: it ends before the first byte from 80 hex on.
     ///
-    /// Proved: `encoding_ascii_valid_up_to`.
+    /// Proved: `jillapun_ascii_valid_up_to`.
     pub fn ascii_valid_up_to(bytes: &[u8]) -> usize {
         sys::mem::ascii_valid_up_to(bytes)
     }
@@ -318,7 +324,7 @@ impl Encoding {
     /// The length in bytes of the longest start that ISO-2022-JP, at the start of an input, reads as ASCII: it ends
     /// before the first 0E, 0F, 1B or byte from 80 hex on.
     ///
-    /// Proved: `encoding_iso_2022_jp_ascii_valid_up_to`.
+    /// Proved: `jillapun_iso_2022_jp_ascii_valid_up_to`.
     pub fn iso_2022_jp_ascii_valid_up_to(bytes: &[u8]) -> usize {
         sys::mem::iso_2022_jp_ascii_valid_up_to(bytes)
     }

@@ -5,7 +5,7 @@
 //! no pair is malformed, and so are bytes that are not UTF-8; each conversion says what it does with them. What
 //! stands in `dst` after what was written does not change, unless the function says so.
 //!
-//! Each function is proved, as the function `encoding_mem_NAME` of the header, if it names no other.
+//! Each function is proved, as the function `jillapun_mem_NAME` of the header, if it names no other.
 
 use crate::sys::mem as sys;
 use std::borrow::Cow;
@@ -238,7 +238,7 @@ pub fn convert_utf16_to_latin1_lossy(src: &[u16], dst: &mut [u8]) {
 
 /// The text of some bytes in Latin1: borrowed if all are ASCII, else a text of its own.
 ///
-/// Proved: `encoding_mem_is_ascii`, `encoding_mem_convert_latin1_to_utf8`.
+/// Proved: `jillapun_mem_is_ascii`, `jillapun_mem_convert_latin1_to_utf8`.
 pub fn decode_latin1(bytes: &[u8]) -> Cow<'_, str> {
     match sys::split_ascii(bytes) {
         (text, []) => Cow::Borrowed(text),
@@ -254,7 +254,7 @@ pub fn decode_latin1(bytes: &[u8]) -> Cow<'_, str> {
 ///
 /// With debug assertions, if the text is not one that it is for.
 ///
-/// Proved: `encoding_mem_is_ascii`, `encoding_mem_convert_utf8_to_latin1_lossy`.
+/// Proved: `jillapun_mem_is_ascii`, `jillapun_mem_convert_utf8_to_latin1_lossy`.
 pub fn encode_latin1_lossy(string: &str) -> Cow<'_, [u8]> {
     let text = string.as_bytes();
     if is_ascii(text) {

@@ -10,7 +10,10 @@ mod tables;
 
 pub(crate) use decoder::{Decoder, Mark, OnMalformed};
 pub(crate) use encoder::{Encoder, OnUnmappable};
-pub(crate) use labels::{for_bom, for_label, output_encoding};
+pub(crate) use labels::{
+    can_encode_everything, for_bom, for_label, for_label_no_replacement, is_ascii_compatible, is_single_byte,
+    output_encoding,
+};
 pub(crate) use tables::Tables;
 
 /// A length that the library returns, if it returns one.

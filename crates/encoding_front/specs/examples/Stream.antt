@@ -1,10 +1,11 @@
--- Worked rows of `specs/calls/Stream.antt`.
-use Rattle.std.specs.Prelude.{◌≡◌, ℕ, Option, None, Some, List, [], ◌∷◌, refl}
+-- Worked rows of `specs/calls/Stream.antt` and of `specs/calls/RoomRules.antt`.
+use Rattle.std.specs.Prelude.{◌≡◌, ℕ, true, false, Option, None, Some, List, [], ◌∷◌, refl}
 use Rattle.encoding_mem.specs.calls.DecodedLength.{decoded_length_utf8, decoded_length_single_byte, decoded_length_replacement}
 use Rattle.encoding_mem.specs.declared.room.OutputUnit.TheVariants.{Units, Bytes, Replaced}
 use Rattle.encoding_front.specs.calls.Seeking.{nothing_sought, sought_by}
 use Rattle.encoding_front.specs.declared.encoding.Encoding.{Encoding}
 use Rattle.encoding_front.specs.declared.mark.Mark.TheVariants.{Sniff}
+use Rattle.encoding_front.specs.calls.RoomRules.{room_by}
 use Rattle.encoding_front.specs.calls.Stream.{Opening, room_asked}
 
 sniffing_windows_1252 : List ℕ → Opening
@@ -66,3 +67,10 @@ utf_16_and_own = refl
 -- pending bytes count with those that come
 pending_and_new : room_asked (record { sought = nothing_sought; held = []; room = decoded_length_utf8; pending = 3 }) Replaced 4 ≡ Some 24
 pending_and_new = refl
+
+-- the same by the values that length queries depend on: at the start, and with a byte pending that may begin two bytes
+by_values_at_the_start : room_by (record { encoding = Encoding.Windows1252; may_be_utf8 = true; may_be_utf16 = true; ahead = 0; pending = 0 }) Bytes 4 ≡ Some 12
+by_values_at_the_start = refl
+
+by_values_with_a_pending_byte : room_by (record { encoding = Encoding.ShiftJis; may_be_utf8 = false; may_be_utf16 = false; ahead = 0; pending = 1 }) Units 3 ≡ Some 5
+by_values_with_a_pending_byte = refl

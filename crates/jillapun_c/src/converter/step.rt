@@ -46,7 +46,7 @@ impl Converter {
             Stage::TooLong => (TOO_LONG, Report::NONE),
             Stage::Stopped { index, scalar } => told_stop(index, scalar),
             Stage::Open => match self.stream.report() {
-                Some(report) => told_report(report),
+                Some(report) => told_report(report, self.stream.characters()),
                 None => (GOES_ON, Report::NONE),
             },
         }

@@ -10,50 +10,31 @@ ghost use Rattle.jillapun_c.specs.declared.status.TheConstants.{NO_ENCODING};
 
 use crate::coder::Coder;
 use crate::decoder::DecoderHandle;
-use crate::encoding_number::number_of;
 use crate::status::{NO_ENCODING, REFUSED};
+use encoding_mem::room::OutputUnit;
 use std::alloc::Global;
 
 /// The number of the encoding in force: the one that the decoder was made for, or that of the byte
 /// order mark once all of it was read. `NO_ENCODING` if the handle holds no decoder.
 #[unsafe(no_mangle)]
-pub extern "C" fn jillapun_decoder_encoding(alloc: Global, decoder: &mut DecoderHandle) -> u8
-    ensures encoding { MatchOption (decoder_in decoder.old.coder.coder) (result ≡ NO_ENCODING)
+pub extern "C" fn jillapun_decoder_encoding(decoder: &DecoderHandle) -> u8
+    ensures { MatchOption (decoder_in decoder.now.coder.coder) (result ≡ NO_ENCODING)
         (λ d. result ≡ number_of ((decoder_view d).source [])) }
-    ensures unchanged { decoder.new.coder.coder ≡ decoder.old.coder.coder }
 {
-    let Some(coder) = decoder.coder.take(alloc) else {
+    if !decoder.words.is_there {
         return NO_ENCODING;
-    };
-    let number = match &*coder {
-        Coder::Decoder(decoder) => number_of(decoder.encoding()),
-        Coder::Encoder(_) | Coder::Converter(_) => NO_ENCODING,
-    };
-    decoder.coder.put(coder);
-    number
+    }
+    decoder.words.encoding
 }
 
 /// How many bytes of UTF-8 are room enough for the text of `n` more bytes, with U+FFFD for each
 /// malformed sequence; `SIZE_MAX` if the number passes a `size_t`, the handle holds no decoder, or
 /// the stream has ended. What is pending counts too.
 #[unsafe(no_mangle)]
-pub extern "C" fn jillapun_decoder_max_utf8_length(
-    alloc: Global,
-    decoder: &mut DecoderHandle,
-    n: usize,
-) -> usize
-    ensures room { AsksRoom Replaced (decoder_in decoder.old.coder.coder) n result }
-    ensures unchanged { decoder.new.coder.coder ≡ decoder.old.coder.coder }
+pub extern "C" fn jillapun_decoder_max_utf8_length(decoder: &DecoderHandle, n: usize) -> usize
+    ensures { AsksRoom Replaced (decoder_in decoder.now.coder.coder) n result }
 {
-    let Some(coder) = decoder.coder.take(alloc) else {
-        return REFUSED;
-    };
-    let room = match &*coder {
-        Coder::Decoder(decoder) if !decoder.is_finished() => decoder.max_utf8_buffer_length(n),
-        _ => None,
-    };
-    decoder.coder.put(coder);
-    room.unwrap_or(REFUSED)
+    decoder.words.room(OutputUnit::Replaced, n)
 }
 
 /// How many bytes of UTF-8 are room enough for the text of `n` more bytes up to the first malformed
@@ -61,46 +42,22 @@ pub extern "C" fn jillapun_decoder_max_utf8_length(
 /// no decoder, or the stream has ended. What is pending counts too.
 #[unsafe(no_mangle)]
 pub extern "C" fn jillapun_decoder_max_utf8_length_without_replacement(
-    alloc: Global,
-    decoder: &mut DecoderHandle,
+    decoder: &DecoderHandle,
     n: usize,
 ) -> usize
-    ensures room { AsksRoom Bytes (decoder_in decoder.old.coder.coder) n result }
-    ensures unchanged { decoder.new.coder.coder ≡ decoder.old.coder.coder }
+    ensures { AsksRoom Bytes (decoder_in decoder.now.coder.coder) n result }
 {
-    let Some(coder) = decoder.coder.take(alloc) else {
-        return REFUSED;
-    };
-    let room = match &*coder {
-        Coder::Decoder(decoder) if !decoder.is_finished() =>
-            decoder.max_utf8_buffer_length_without_replacement(n),
-        _ => None,
-    };
-    decoder.coder.put(coder);
-    room.unwrap_or(REFUSED)
+    decoder.words.room(OutputUnit::Bytes, n)
 }
 
 /// How many units of UTF-16 are room enough for the text of `n` more bytes, with U+FFFD for each
 /// malformed sequence; `SIZE_MAX` if the number passes a `size_t`, the handle holds no decoder, or
 /// the stream has ended. What is pending counts too.
 #[unsafe(no_mangle)]
-pub extern "C" fn jillapun_decoder_max_utf16_length(
-    alloc: Global,
-    decoder: &mut DecoderHandle,
-    n: usize,
-) -> usize
-    ensures room { AsksRoom Units (decoder_in decoder.old.coder.coder) n result }
-    ensures unchanged { decoder.new.coder.coder ≡ decoder.old.coder.coder }
+pub extern "C" fn jillapun_decoder_max_utf16_length(decoder: &DecoderHandle, n: usize) -> usize
+    ensures { AsksRoom Units (decoder_in decoder.now.coder.coder) n result }
 {
-    let Some(coder) = decoder.coder.take(alloc) else {
-        return REFUSED;
-    };
-    let room = match &*coder {
-        Coder::Decoder(decoder) if !decoder.is_finished() => decoder.max_utf16_buffer_length(n),
-        _ => None,
-    };
-    decoder.coder.put(coder);
-    room.unwrap_or(REFUSED)
+    decoder.words.room(OutputUnit::Units, n)
 }
 
 /// How many of `bytes`, if they come next, stand for the characters of their own numbers, as in
@@ -120,7 +77,7 @@ pub extern "C" fn jillapun_decoder_latin1_byte_compatible_up_to(
     ensures length { TellsLatin1Length (decoder_in decoder.old.coder.coder) bytes.now result }
     ensures unchanged { decoder.new.coder.coder ≡ decoder.old.coder.coder }
 {
-    let Some(coder) = decoder.coder.take(alloc) else {
+    let Some(coder) = decoder.take(alloc) else {
         return REFUSED;
     };
     let length = match &*coder {
@@ -129,6 +86,6 @@ pub extern "C" fn jillapun_decoder_latin1_byte_compatible_up_to(
         ),
         _ => None,
     };
-    decoder.coder.put(coder);
+    decoder.put(coder);
     length.unwrap_or(REFUSED)
 }

@@ -42,11 +42,11 @@ pub extern "C" fn jillapun_decoder_decode_to_utf16(
     ensures nothing { result ≢ OK → progress.new ≡ NONE }
 {
     *progress = Progress::NONE;
-    let Some(mut coder) = decoder.coder.take(alloc) else {
+    let Some(mut coder) = decoder.take(alloc) else {
         return CLOSED;
     };
     let status = to_utf16(&mut coder, src, dst, last, progress);
-    decoder.coder.put(coder);
+    decoder.put(coder);
     status
 }
 
@@ -115,11 +115,11 @@ pub extern "C" fn jillapun_decoder_decode_to_utf16_without_replacement(
     ensures nothing { result ≢ OK → progress.new ≡ NONE }
 {
     *progress = Progress::NONE;
-    let Some(mut coder) = decoder.coder.take(alloc) else {
+    let Some(mut coder) = decoder.take(alloc) else {
         return CLOSED;
     };
     let status = to_utf16_part(&mut coder, src, dst, last, progress);
-    decoder.coder.put(coder);
+    decoder.put(coder);
     status
 }
 

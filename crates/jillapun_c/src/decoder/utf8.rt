@@ -43,11 +43,11 @@ pub extern "C" fn jillapun_decoder_decode_to_utf8(
     ensures nothing { result ≢ OK → progress.new ≡ NONE }
 {
     *progress = Progress::NONE;
-    let Some(mut coder) = decoder.coder.take(alloc) else {
+    let Some(mut coder) = decoder.take(alloc) else {
         return CLOSED;
     };
     let status = to_utf8(&mut coder, src, dst, last, progress);
-    decoder.coder.put(coder);
+    decoder.put(coder);
     status
 }
 
@@ -110,11 +110,11 @@ pub extern "C" fn jillapun_decoder_decode_to_utf8_without_replacement(
     ensures nothing { result ≢ OK → progress.new ≡ NONE }
 {
     *progress = Progress::NONE;
-    let Some(mut coder) = decoder.coder.take(alloc) else {
+    let Some(mut coder) = decoder.take(alloc) else {
         return CLOSED;
     };
     let status = to_utf8_part(&mut coder, src, dst, last, progress);
-    decoder.coder.put(coder);
+    decoder.put(coder);
     status
 }
 

@@ -4,33 +4,20 @@ ghost use Rattle.std.specs.Prelude.{◌≡◌, ◌+◌, ◌-◌, ◌^◌, ◌<�
 ghost use Rattle.jillapun_c.specs.Coders.{encoder_in};
 ghost use Rattle.jillapun_c.specs.TextParts.{BeginsMalformed, IsFirstPart, IsLookedAt, most_read};
 
-use crate::coder::Coder;
-use crate::handle::CoderHandle;
-use std::alloc::Global;
+use crate::encoder::EncoderHandle;
 use std::str;
 
 /// The most bytes of a text that a call of the encoder reads into so much room, if no character
 /// ends the call; 0 if the handle holds no encoder.
-pub(crate) fn most_read(alloc: Global, handle: &mut CoderHandle, room: usize) -> usize
-    ensures most { MatchOption (encoder_in handle.old.coder) (result ≡ 0)
+pub(crate) fn most_read(encoder: &EncoderHandle, room: usize) -> usize
+    ensures { MatchOption (encoder_in encoder.now.coder.coder) (result ≡ 0)
         (λ e. result ≡ min (most_read e.encoding room) (2 ^ 64 - 1)) }
-    ensures unchanged { handle.new.coder ≡ handle.old.coder }
 {
-    let Some(coder) = handle.take(alloc) else {
-        return 0;
-    };
-    let most = match &*coder {
-        Coder::Decoder(_) | Coder::Converter(_) => 0,
-        Coder::Encoder(encoder) => {
-            if encoder.encoding().can_encode_everything() {
-                room
-            } else {
-                room.saturating_mul(4)
-            }
-        }
-    };
-    handle.put(coder);
-    most
+    match encoder.words.output_encoding() {
+        None => 0,
+        Some(encoding) if encoding.can_encode_everything() => room,
+        Some(_) => room.saturating_mul(4),
+    }
 }
 
 // One place back, if no character begins at this one.

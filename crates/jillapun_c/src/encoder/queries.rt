@@ -8,51 +8,30 @@ ghost use Rattle.jillapun_c.specs.Coders.{encoder_in};
 ghost use Rattle.jillapun_c.specs.EncoderCalls.{TellsNumber};
 ghost use Rattle.jillapun_c.specs.declared.status.TheConstants.{NO_ENCODING};
 
-use crate::coder::Coder;
 use crate::encoder::EncoderHandle;
-use crate::encoding_number::number_of;
 use crate::status::{NO_ENCODING, REFUSED};
-use std::alloc::Global;
 
 /// The number of the output encoding, in which the encoder writes; `NO_ENCODING` if the handle
 /// holds no encoder.
 #[unsafe(no_mangle)]
-pub extern "C" fn jillapun_encoder_encoding(alloc: Global, encoder: &mut EncoderHandle) -> u8
-    ensures encoding { MatchOption (encoder_in encoder.old.coder.coder) (result ≡ NO_ENCODING)
+pub extern "C" fn jillapun_encoder_encoding(encoder: &EncoderHandle) -> u8
+    ensures { MatchOption (encoder_in encoder.now.coder.coder) (result ≡ NO_ENCODING)
         (λ e. result ≡ number_of e.encoding) }
-    ensures unchanged { encoder.new.coder.coder ≡ encoder.old.coder.coder }
 {
-    let Some(coder) = encoder.coder.take(alloc) else {
+    if !encoder.words.is_there {
         return NO_ENCODING;
-    };
-    let number = match &*coder {
-        Coder::Decoder(_) | Coder::Converter(_) => NO_ENCODING,
-        Coder::Encoder(encoder) => number_of(encoder.encoding()),
-    };
-    encoder.coder.put(coder);
-    number
+    }
+    encoder.words.encoding
 }
 
 /// Whether an escape to ASCII is still to be written at the end of the stream: so only in
 /// ISO-2022-JP, where another set is in force. False if the handle holds no encoder.
 #[unsafe(no_mangle)]
-pub extern "C" fn jillapun_encoder_has_pending_state(
-    alloc: Global,
-    encoder: &mut EncoderHandle,
-) -> bool
-    ensures pending { MatchOption (encoder_in encoder.old.coder.coder) (result ≡ false)
+pub extern "C" fn jillapun_encoder_has_pending_state(encoder: &EncoderHandle) -> bool
+    ensures { MatchOption (encoder_in encoder.now.coder.coder) (result ≡ false)
         (λ e. IsTrue result ↔ (e.set ≢ Ascii)) }
-    ensures unchanged { encoder.new.coder.coder ≡ encoder.old.coder.coder }
 {
-    let Some(coder) = encoder.coder.take(alloc) else {
-        return false;
-    };
-    let is_pending = match &*coder {
-        Coder::Decoder(_) | Coder::Converter(_) => false,
-        Coder::Encoder(encoder) => encoder.has_pending_state(),
-    };
-    encoder.coder.put(coder);
-    is_pending
+    encoder.words.has_pending_state
 }
 
 /// How many bytes are room enough for what `n` bytes of UTF-8 are encoded to with references, if
@@ -60,23 +39,18 @@ pub extern "C" fn jillapun_encoder_has_pending_state(
 /// encoder.
 #[unsafe(no_mangle)]
 pub extern "C" fn jillapun_encoder_max_length_from_utf8_if_no_unmappables(
-    alloc: Global,
-    encoder: &mut EncoderHandle,
+    encoder: &EncoderHandle,
     n: usize,
 ) -> usize
-    ensures room { TellsNumber (encoder_in encoder.old.coder.coder)
+    ensures { TellsNumber (encoder_in encoder.now.coder.coder)
         (λ e. queried_with_kept e.encoding false n) result }
-    ensures unchanged { encoder.new.coder.coder ≡ encoder.old.coder.coder }
 {
-    let Some(coder) = encoder.coder.take(alloc) else {
+    let Some(encoding) = encoder.words.output_encoding() else {
         return REFUSED;
     };
-    let room = match &*coder {
-        Coder::Decoder(_) | Coder::Converter(_) => None,
-        Coder::Encoder(encoder) => encoder.max_buffer_length_from_utf8_if_no_unmappables(n),
-    };
-    encoder.coder.put(coder);
-    room.unwrap_or(REFUSED)
+    encoding
+        .max_length_from_utf8_if_no_unmappables(n)
+        .unwrap_or(REFUSED)
 }
 
 /// How many bytes are room enough for what `n` bytes of UTF-8 are encoded to without replacement,
@@ -84,23 +58,18 @@ pub extern "C" fn jillapun_encoder_max_length_from_utf8_if_no_unmappables(
 /// encoder.
 #[unsafe(no_mangle)]
 pub extern "C" fn jillapun_encoder_max_length_from_utf8_without_replacement(
-    alloc: Global,
-    encoder: &mut EncoderHandle,
+    encoder: &EncoderHandle,
     n: usize,
 ) -> usize
-    ensures room { TellsNumber (encoder_in encoder.old.coder.coder)
+    ensures { TellsNumber (encoder_in encoder.now.coder.coder)
         (λ e. queried_room e.encoding false n) result }
-    ensures unchanged { encoder.new.coder.coder ≡ encoder.old.coder.coder }
 {
-    let Some(coder) = encoder.coder.take(alloc) else {
+    let Some(encoding) = encoder.words.output_encoding() else {
         return REFUSED;
     };
-    let room = match &*coder {
-        Coder::Decoder(_) | Coder::Converter(_) => None,
-        Coder::Encoder(encoder) => encoder.max_buffer_length_from_utf8_without_replacement(n),
-    };
-    encoder.coder.put(coder);
-    room.unwrap_or(REFUSED)
+    encoding
+        .max_length_from_utf8_without_replacement(n)
+        .unwrap_or(REFUSED)
 }
 
 /// How many bytes are room enough for what `n` units of UTF-16 are encoded to with references, if
@@ -108,23 +77,18 @@ pub extern "C" fn jillapun_encoder_max_length_from_utf8_without_replacement(
 /// encoder.
 #[unsafe(no_mangle)]
 pub extern "C" fn jillapun_encoder_max_length_from_utf16_if_no_unmappables(
-    alloc: Global,
-    encoder: &mut EncoderHandle,
+    encoder: &EncoderHandle,
     n: usize,
 ) -> usize
-    ensures room { TellsNumber (encoder_in encoder.old.coder.coder)
+    ensures { TellsNumber (encoder_in encoder.now.coder.coder)
         (λ e. queried_with_kept e.encoding true n) result }
-    ensures unchanged { encoder.new.coder.coder ≡ encoder.old.coder.coder }
 {
-    let Some(coder) = encoder.coder.take(alloc) else {
+    let Some(encoding) = encoder.words.output_encoding() else {
         return REFUSED;
     };
-    let room = match &*coder {
-        Coder::Decoder(_) | Coder::Converter(_) => None,
-        Coder::Encoder(encoder) => encoder.max_buffer_length_from_utf16_if_no_unmappables(n),
-    };
-    encoder.coder.put(coder);
-    room.unwrap_or(REFUSED)
+    encoding
+        .max_length_from_utf16_if_no_unmappables(n)
+        .unwrap_or(REFUSED)
 }
 
 /// How many bytes are room enough for what `n` units of UTF-16 are encoded to without replacement,
@@ -132,21 +96,16 @@ pub extern "C" fn jillapun_encoder_max_length_from_utf16_if_no_unmappables(
 /// encoder.
 #[unsafe(no_mangle)]
 pub extern "C" fn jillapun_encoder_max_length_from_utf16_without_replacement(
-    alloc: Global,
-    encoder: &mut EncoderHandle,
+    encoder: &EncoderHandle,
     n: usize,
 ) -> usize
-    ensures room { TellsNumber (encoder_in encoder.old.coder.coder)
+    ensures { TellsNumber (encoder_in encoder.now.coder.coder)
         (λ e. queried_room e.encoding true n) result }
-    ensures unchanged { encoder.new.coder.coder ≡ encoder.old.coder.coder }
 {
-    let Some(coder) = encoder.coder.take(alloc) else {
+    let Some(encoding) = encoder.words.output_encoding() else {
         return REFUSED;
     };
-    let room = match &*coder {
-        Coder::Decoder(_) | Coder::Converter(_) => None,
-        Coder::Encoder(encoder) => encoder.max_buffer_length_from_utf16_without_replacement(n),
-    };
-    encoder.coder.put(coder);
-    room.unwrap_or(REFUSED)
+    encoding
+        .max_length_from_utf16_without_replacement(n)
+        .unwrap_or(REFUSED)
 }

@@ -44,11 +44,11 @@ pub extern "C" fn jillapun_encoder_encode_from_utf16(
     ensures nothing { result ≢ OK → progress.new ≡ NONE }
 {
     *progress = EncoderProgress::NONE;
-    let Some(mut coder) = encoder.coder.take(alloc) else {
+    let Some(mut coder) = encoder.take(alloc) else {
         return CLOSED;
     };
     let status = from_utf16(&mut coder, text, dst, last, progress);
-    encoder.coder.put(coder);
+    encoder.put(coder);
     status
 }
 
@@ -116,11 +116,11 @@ pub extern "C" fn jillapun_encoder_encode_from_utf16_without_replacement(
     ensures nothing { result ≢ OK → progress.new ≡ NONE }
 {
     *progress = EncoderProgress::NONE;
-    let Some(mut coder) = encoder.coder.take(alloc) else {
+    let Some(mut coder) = encoder.take(alloc) else {
         return CLOSED;
     };
     let status = from_utf16_part(&mut coder, text, dst, last, progress);
-    encoder.coder.put(coder);
+    encoder.put(coder);
     status
 }
 

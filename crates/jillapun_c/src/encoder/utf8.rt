@@ -59,15 +59,15 @@ pub extern "C" fn jillapun_encoder_encode_from_utf8(
     ensures nothing { result ≢ OK → progress.new ≡ NONE }
 {
     *progress = EncoderProgress::NONE;
-    let most = most_read(alloc, &mut encoder.coder, dst.len());
+    let most = most_read(encoder, dst.len());
     let Some((part, is_whole)) = first_part(text, most) else {
         return NOT_UTF8;
     };
-    let Some(mut coder) = encoder.coder.take(alloc) else {
+    let Some(mut coder) = encoder.take(alloc) else {
         return CLOSED;
     };
     let status = from_utf8(&mut coder, part, is_whole, dst, last & is_whole, progress);
-    encoder.coder.put(coder);
+    encoder.put(coder);
     status
 }
 
@@ -144,15 +144,15 @@ pub extern "C" fn jillapun_encoder_encode_from_utf8_without_replacement(
     ensures nothing { result ≢ OK → progress.new ≡ NONE }
 {
     *progress = EncoderProgress::NONE;
-    let most = most_read(alloc, &mut encoder.coder, dst.len());
+    let most = most_read(encoder, dst.len());
     let Some((part, is_whole)) = first_part(text, most) else {
         return NOT_UTF8;
     };
-    let Some(mut coder) = encoder.coder.take(alloc) else {
+    let Some(mut coder) = encoder.take(alloc) else {
         return CLOSED;
     };
     let status = from_utf8_part(&mut coder, part, is_whole, dst, last & is_whole, progress);
-    encoder.coder.put(coder);
+    encoder.put(coder);
     status
 }
 

@@ -10,7 +10,7 @@ use crate::status::REFUSED;
 
 /// Whether each byte is ASCII: below 80 hex.
 #[unsafe(no_mangle)]
-pub extern "C" fn encoding_mem_is_ascii(buffer: &[u8]) -> bool
+pub extern "C" fn jillapun_mem_is_ascii(buffer: &[u8]) -> bool
     ensures { IsTrue result ↔ IsAscii buffer.now }
 {
     encoding_mem::is_ascii(buffer)
@@ -18,7 +18,7 @@ pub extern "C" fn encoding_mem_is_ascii(buffer: &[u8]) -> bool
 
 /// Whether each unit of UTF-16 is below 80 hex.
 #[unsafe(no_mangle)]
-pub extern "C" fn encoding_mem_is_basic_latin(buffer: &[u16]) -> bool
+pub extern "C" fn jillapun_mem_is_basic_latin(buffer: &[u16]) -> bool
     ensures { IsTrue result ↔ IsAscii buffer.now }
 {
     encoding_mem::is_basic_latin(buffer)
@@ -27,7 +27,7 @@ pub extern "C" fn encoding_mem_is_basic_latin(buffer: &[u16]) -> bool
 /// The length in bytes of the longest prefix that is ASCII: it ends before the first byte from 80
 /// hex on.
 #[unsafe(no_mangle)]
-pub extern "C" fn encoding_ascii_valid_up_to(buffer: &[u8]) -> usize
+pub extern "C" fn jillapun_ascii_valid_up_to(buffer: &[u8]) -> usize
     ensures { IsLongestPrefix IsAscii buffer.now result }
 {
     encoding_mem::ascii_valid_up_to(buffer)
@@ -37,7 +37,7 @@ pub extern "C" fn encoding_ascii_valid_up_to(buffer: &[u8]) -> usize
 /// ASCII: it ends before the first 0E, 0F, 1B or byte from 80 hex on (the Encoding Standard,
 /// section 12.2.1).
 #[unsafe(no_mangle)]
-pub extern "C" fn encoding_iso_2022_jp_ascii_valid_up_to(buffer: &[u8]) -> usize
+pub extern "C" fn jillapun_iso_2022_jp_ascii_valid_up_to(buffer: &[u8]) -> usize
     ensures { IsLongestPrefix IsIso2022JpAscii buffer.now result }
 {
     encoding_mem::iso_2022_jp_ascii_valid_up_to(buffer)
@@ -47,7 +47,7 @@ pub extern "C" fn encoding_iso_2022_jp_ascii_valid_up_to(buffer: &[u8]) -> usize
 /// in bytes. Room: as many bytes as `src` has; if `dst` is shorter, nothing is written and
 /// `SIZE_MAX` is returned.
 #[unsafe(no_mangle)]
-pub extern "C" fn encoding_mem_copy_ascii_to_ascii(src: &[u8], dst: &mut [u8]) -> usize
+pub extern "C" fn jillapun_mem_copy_ascii_to_ascii(src: &[u8], dst: &mut [u8]) -> usize
     ensures prefix { length src.now ≤ length dst.old → IsLongestPrefix IsAscii src.now result }
     ensures copies { length src.now ≤ length dst.old
         → IsPut dst.old (take result src.now) dst.new result }
@@ -63,7 +63,7 @@ pub extern "C" fn encoding_mem_copy_ascii_to_ascii(src: &[u8], dst: &mut [u8]) -
 /// UTF-16, and returns its length. Room: as many units as `src` has bytes; if `dst` is shorter,
 /// nothing is written and `SIZE_MAX` is returned.
 #[unsafe(no_mangle)]
-pub extern "C" fn encoding_mem_copy_ascii_to_basic_latin(src: &[u8], dst: &mut [u16]) -> usize
+pub extern "C" fn jillapun_mem_copy_ascii_to_basic_latin(src: &[u8], dst: &mut [u16]) -> usize
     ensures prefix { length src.now ≤ length dst.old → IsLongestPrefix IsAscii src.now result }
     ensures copies { length src.now ≤ length dst.old
         → IsPut dst.old (take result src.now) dst.new result }
@@ -79,7 +79,7 @@ pub extern "C" fn encoding_mem_copy_ascii_to_basic_latin(src: &[u8], dst: &mut [
 /// `dst`, each as a byte, and returns its length. Room: as many bytes as `src` has units; if `dst`
 /// is shorter, nothing is written and `SIZE_MAX` is returned.
 #[unsafe(no_mangle)]
-pub extern "C" fn encoding_mem_copy_basic_latin_to_ascii(src: &[u16], dst: &mut [u8]) -> usize
+pub extern "C" fn jillapun_mem_copy_basic_latin_to_ascii(src: &[u16], dst: &mut [u8]) -> usize
     ensures prefix { length src.now ≤ length dst.old → IsLongestPrefix IsAscii src.now result }
     ensures copies { length src.now ≤ length dst.old
         → IsPut dst.old (take result src.now) dst.new result }

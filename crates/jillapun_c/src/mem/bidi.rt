@@ -13,7 +13,7 @@ use encoding_mem::Latin1Bidi;
 /// U+2067, U+FB1D to U+FDFF, U+FE70 to U+FEFE, U+10800 to U+10FFF and U+1E800 to U+1EFFF. A number
 /// that is no character is not.
 #[unsafe(no_mangle)]
-pub extern "C" fn encoding_mem_is_char_bidi(c: u32) -> bool
+pub extern "C" fn jillapun_mem_is_char_bidi(c: u32) -> bool
     ensures { IsTrue result ↔ IsTrue (is_bidi_char c) }
 {
     match char::from_u32(c) {
@@ -22,36 +22,36 @@ pub extern "C" fn encoding_mem_is_char_bidi(c: u32) -> bool
     }
 }
 
-/// Whether a unit of UTF-16 is a character of which `encoding_mem_is_char_bidi` holds, or a high
+/// Whether a unit of UTF-16 is a character of which `jillapun_mem_is_char_bidi` holds, or a high
 /// surrogate with which one of those above U+FFFF is written: D802, D803, D83A or D83B.
 #[unsafe(no_mangle)]
-pub extern "C" fn encoding_mem_is_utf16_code_unit_bidi(u: u16) -> bool
+pub extern "C" fn jillapun_mem_is_utf16_code_unit_bidi(u: u16) -> bool
     ensures { IsTrue result ↔ IsTrue (is_bidi_unit u) }
 {
     encoding_mem::is_utf16_code_unit_bidi(u)
 }
 
-/// Whether `encoding_mem_is_char_bidi` holds of some character of the bytes, as UTF-8, or they are
+/// Whether `jillapun_mem_is_char_bidi` holds of some character of the bytes, as UTF-8, or they are
 /// not well-formed.
 #[unsafe(no_mangle)]
-pub extern "C" fn encoding_mem_is_utf8_bidi(buffer: &[u8]) -> bool
+pub extern "C" fn jillapun_mem_is_utf8_bidi(buffer: &[u8]) -> bool
     ensures { IsTrue result ↔ IsBidiBytes buffer.now }
 {
     encoding_mem::is_utf8_bidi(buffer)
 }
 
-/// What `encoding_mem_is_utf8_bidi` returns. The bytes are tested: none are undefined here.
+/// What `jillapun_mem_is_utf8_bidi` returns. The bytes are tested: none are undefined here.
 #[unsafe(no_mangle)]
-pub extern "C" fn encoding_mem_is_str_bidi(buffer: &[u8]) -> bool
+pub extern "C" fn jillapun_mem_is_str_bidi(buffer: &[u8]) -> bool
     ensures { IsTrue result ↔ IsBidiBytes buffer.now }
 {
     encoding_mem::is_utf8_bidi(buffer)
 }
 
-/// Whether `encoding_mem_is_utf16_code_unit_bidi` holds of some unit. A lone high surrogate counts
+/// Whether `jillapun_mem_is_utf16_code_unit_bidi` holds of some unit. A lone high surrogate counts
 /// as if its pair were whole.
 #[unsafe(no_mangle)]
-pub extern "C" fn encoding_mem_is_utf16_bidi(buffer: &[u16]) -> bool
+pub extern "C" fn jillapun_mem_is_utf16_bidi(buffer: &[u16]) -> bool
     ensures { IsTrue result ↔ HasBidiUnit buffer.now }
 {
     encoding_mem::is_utf16_bidi(buffer)
@@ -70,10 +70,10 @@ fn code_of(answer: Latin1Bidi) -> u32
     }
 }
 
-/// `LATIN1` if `encoding_mem_is_utf8_latin1` holds of the bytes, `BIDI` if
-/// `encoding_mem_is_utf8_bidi` does, also if they are not well-formed, and else `LEFT_TO_RIGHT`.
+/// `LATIN1` if `jillapun_mem_is_utf8_latin1` holds of the bytes, `BIDI` if
+/// `jillapun_mem_is_utf8_bidi` does, also if they are not well-formed, and else `LEFT_TO_RIGHT`.
 #[unsafe(no_mangle)]
-pub extern "C" fn encoding_mem_check_utf8_for_latin1_and_bidi(buffer: &[u8]) -> u32
+pub extern "C" fn jillapun_mem_check_utf8_for_latin1_and_bidi(buffer: &[u8]) -> u32
     ensures latin1 { (result ≡ LATIN1) ↔ IsLatin1Text buffer.now }
     ensures bidi { (result ≡ BIDI) ↔ IsBidiBytes buffer.now }
     ensures known { result ≤ BIDI }
@@ -81,10 +81,10 @@ pub extern "C" fn encoding_mem_check_utf8_for_latin1_and_bidi(buffer: &[u8]) -> 
     code_of(encoding_mem::check_utf8_for_latin1_and_bidi(buffer))
 }
 
-/// What `encoding_mem_check_utf8_for_latin1_and_bidi` returns. The bytes are tested: none are
+/// What `jillapun_mem_check_utf8_for_latin1_and_bidi` returns. The bytes are tested: none are
 /// undefined here.
 #[unsafe(no_mangle)]
-pub extern "C" fn encoding_mem_check_str_for_latin1_and_bidi(buffer: &[u8]) -> u32
+pub extern "C" fn jillapun_mem_check_str_for_latin1_and_bidi(buffer: &[u8]) -> u32
     ensures latin1 { (result ≡ LATIN1) ↔ IsLatin1Text buffer.now }
     ensures bidi { (result ≡ BIDI) ↔ IsBidiBytes buffer.now }
     ensures known { result ≤ BIDI }
@@ -92,10 +92,10 @@ pub extern "C" fn encoding_mem_check_str_for_latin1_and_bidi(buffer: &[u8]) -> u
     code_of(encoding_mem::check_utf8_for_latin1_and_bidi(buffer))
 }
 
-/// `LATIN1` if `encoding_mem_is_utf16_latin1` holds of the units, `BIDI` if
-/// `encoding_mem_is_utf16_bidi` does, and else `LEFT_TO_RIGHT`.
+/// `LATIN1` if `jillapun_mem_is_utf16_latin1` holds of the units, `BIDI` if
+/// `jillapun_mem_is_utf16_bidi` does, and else `LEFT_TO_RIGHT`.
 #[unsafe(no_mangle)]
-pub extern "C" fn encoding_mem_check_utf16_for_latin1_and_bidi(buffer: &[u16]) -> u32
+pub extern "C" fn jillapun_mem_check_utf16_for_latin1_and_bidi(buffer: &[u16]) -> u32
     ensures latin1 { (result ≡ LATIN1) ↔ AllLatin1 buffer.now }
     ensures bidi { (result ≡ BIDI) ↔ HasBidiUnit buffer.now }
     ensures known { result ≤ BIDI }

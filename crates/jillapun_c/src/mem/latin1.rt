@@ -13,15 +13,15 @@ use crate::status::REFUSED;
 
 /// Whether the bytes are well-formed UTF-8 with no character above U+00FF.
 #[unsafe(no_mangle)]
-pub extern "C" fn encoding_mem_is_utf8_latin1(buffer: &[u8]) -> bool
+pub extern "C" fn jillapun_mem_is_utf8_latin1(buffer: &[u8]) -> bool
     ensures { IsTrue result ↔ IsLatin1Text buffer.now }
 {
     encoding_mem::is_utf8_latin1(buffer)
 }
 
-/// What `encoding_mem_is_utf8_latin1` returns. The bytes are tested: none are undefined here.
+/// What `jillapun_mem_is_utf8_latin1` returns. The bytes are tested: none are undefined here.
 #[unsafe(no_mangle)]
-pub extern "C" fn encoding_mem_is_str_latin1(buffer: &[u8]) -> bool
+pub extern "C" fn jillapun_mem_is_str_latin1(buffer: &[u8]) -> bool
     ensures { IsTrue result ↔ IsLatin1Text buffer.now }
 {
     encoding_mem::is_utf8_latin1(buffer)
@@ -29,7 +29,7 @@ pub extern "C" fn encoding_mem_is_str_latin1(buffer: &[u8]) -> bool
 
 /// Whether each unit of UTF-16 is at most FF hex.
 #[unsafe(no_mangle)]
-pub extern "C" fn encoding_mem_is_utf16_latin1(buffer: &[u16]) -> bool
+pub extern "C" fn jillapun_mem_is_utf16_latin1(buffer: &[u16]) -> bool
     ensures { IsTrue result ↔ AllLatin1 buffer.now }
 {
     encoding_mem::is_utf16_latin1(buffer)
@@ -38,15 +38,15 @@ pub extern "C" fn encoding_mem_is_utf16_latin1(buffer: &[u16]) -> bool
 /// The length in bytes of the longest prefix that is well-formed UTF-8 with no character above
 /// U+00FF.
 #[unsafe(no_mangle)]
-pub extern "C" fn encoding_mem_utf8_latin1_up_to(buffer: &[u8]) -> usize
+pub extern "C" fn jillapun_mem_utf8_latin1_up_to(buffer: &[u8]) -> usize
     ensures { IsLongestPrefix IsLatin1Text buffer.now result }
 {
     encoding_mem::utf8_latin1_up_to(buffer)
 }
 
-/// What `encoding_mem_utf8_latin1_up_to` returns. The bytes are tested: none are undefined here.
+/// What `jillapun_mem_utf8_latin1_up_to` returns. The bytes are tested: none are undefined here.
 #[unsafe(no_mangle)]
-pub extern "C" fn encoding_mem_str_latin1_up_to(buffer: &[u8]) -> usize
+pub extern "C" fn jillapun_mem_str_latin1_up_to(buffer: &[u8]) -> usize
     ensures { IsLongestPrefix IsLatin1Text buffer.now result }
 {
     encoding_mem::utf8_latin1_up_to(buffer)
@@ -56,7 +56,7 @@ pub extern "C" fn encoding_mem_str_latin1_up_to(buffer: &[u8]) -> usize
 /// units were written. Room: as many units as `src` has bytes; if `dst` is shorter, nothing is
 /// written and `SIZE_MAX` is returned.
 #[unsafe(no_mangle)]
-pub extern "C" fn encoding_mem_convert_latin1_to_utf16(src: &[u8], dst: &mut [u16]) -> usize
+pub extern "C" fn jillapun_mem_convert_latin1_to_utf16(src: &[u8], dst: &mut [u16]) -> usize
     ensures count { length src.now ≤ length dst.old → result ≡ length src.now }
     ensures converts { length src.now ≤ length dst.old → IsPut dst.old src.now dst.new result }
     ensures refuses { length dst.old < length src.now → IsUnwritten dst.old dst.new result }
@@ -69,11 +69,11 @@ pub extern "C" fn encoding_mem_convert_latin1_to_utf16(src: &[u8], dst: &mut [u1
 }
 
 /// Takes the low eight bits of each unit of UTF-16, into the start of `dst`, and returns how many
-/// bytes were written. If `encoding_mem_is_utf16_latin1` holds of `src`, that is its text in
+/// bytes were written. If `jillapun_mem_is_utf16_latin1` holds of `src`, that is its text in
 /// Latin1; else it is not. Room: as many bytes as `src` has units; if `dst` is shorter, nothing is
 /// written and `SIZE_MAX` is returned.
 #[unsafe(no_mangle)]
-pub extern "C" fn encoding_mem_convert_utf16_to_latin1_lossy(src: &[u16], dst: &mut [u8]) -> usize
+pub extern "C" fn jillapun_mem_convert_utf16_to_latin1_lossy(src: &[u16], dst: &mut [u8]) -> usize
     ensures count { length src.now ≤ length dst.old → result ≡ length src.now }
     ensures converts { length src.now ≤ length dst.old
         → IsPut dst.old (low_bytes src.now) dst.new result }
@@ -88,10 +88,10 @@ pub extern "C" fn encoding_mem_convert_utf16_to_latin1_lossy(src: &[u16], dst: &
 
 /// Converts UTF-8 to Latin1 at the start of `dst`, a byte for each character, and returns how many
 /// bytes were written. Room: as many bytes as `src` has. If `dst` is shorter, or
-/// `encoding_mem_is_utf8_latin1` does not hold of `src`, nothing is written and `SIZE_MAX` is
+/// `jillapun_mem_is_utf8_latin1` does not hold of `src`, nothing is written and `SIZE_MAX` is
 /// returned.
 #[unsafe(no_mangle)]
-pub extern "C" fn encoding_mem_convert_utf8_to_latin1_lossy(src: &[u8], dst: &mut [u8]) -> usize
+pub extern "C" fn jillapun_mem_convert_utf8_to_latin1_lossy(src: &[u8], dst: &mut [u8]) -> usize
     ensures converts { IsLatin1Text src.now → length src.now ≤ length dst.old
         → IsPut dst.old (chars src.now) dst.new result }
     ensures no_room { length dst.old < length src.now → IsUnwritten dst.old dst.new result }
@@ -107,7 +107,7 @@ pub extern "C" fn encoding_mem_convert_utf8_to_latin1_lossy(src: &[u8], dst: &mu
 /// twice as many bytes as `src` has; if `dst` is shorter, nothing is written and `SIZE_MAX` is
 /// returned.
 #[unsafe(no_mangle)]
-pub extern "C" fn encoding_mem_convert_latin1_to_utf8(src: &[u8], dst: &mut [u8]) -> usize
+pub extern "C" fn jillapun_mem_convert_latin1_to_utf8(src: &[u8], dst: &mut [u8]) -> usize
     ensures converts { 2 * length src.now ≤ length dst.old
         → IsPut dst.old (encode_utf8_all src.now) dst.new result }
     ensures refuses { length dst.old < 2 * length src.now → IsUnwritten dst.old dst.new result }
@@ -125,7 +125,7 @@ pub extern "C" fn encoding_mem_convert_latin1_to_utf8(src: &[u8], dst: &mut [u8]
 /// Room: twice as many bytes as `src` has; if `dst` is shorter, nothing is written and `SIZE_MAX`
 /// is returned.
 #[unsafe(no_mangle)]
-pub extern "C" fn encoding_mem_convert_latin1_to_str(src: &[u8], dst: &mut [u8]) -> usize
+pub extern "C" fn jillapun_mem_convert_latin1_to_str(src: &[u8], dst: &mut [u8]) -> usize
     ensures converts { 2 * length src.now ≤ length dst.old
         → TextIsPut dst.old (encode_utf8_all src.now) dst.new result }
     ensures refuses { length dst.old < 2 * length src.now → IsUnwritten dst.old dst.new result }

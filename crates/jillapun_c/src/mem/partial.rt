@@ -76,7 +76,7 @@ pub extern "C" fn jillapun_mem_convert_latin1_to_utf8_partial(
 
 /// Converts the longest prefix of UTF-16 whose UTF-8 fits into a text. No pair is split; a
 /// surrogate in no pair of `src` becomes U+FFFD. `read` is in units, `written` in bytes. What
-/// becomes of the bytes behind those is as with `encoding_mem_convert_utf16_to_str`: what was UTF-8
+/// becomes of the bytes behind those is as with `jillapun_mem_convert_utf16_to_str`: what was UTF-8
 /// stays UTF-8.
 #[unsafe(no_mangle)]
 pub extern "C" fn jillapun_mem_convert_utf16_to_str_partial(
@@ -96,7 +96,7 @@ pub extern "C" fn jillapun_mem_convert_utf16_to_str_partial(
 }
 
 /// Converts the longest prefix of Latin1 whose UTF-8 fits into a text. `read` and `written` are in
-/// bytes. What becomes of the bytes behind those is as with `encoding_mem_convert_latin1_to_str`:
+/// bytes. What becomes of the bytes behind those is as with `jillapun_mem_convert_latin1_to_str`:
 /// what was UTF-8 stays UTF-8.
 #[unsafe(no_mangle)]
 pub extern "C" fn jillapun_mem_convert_latin1_to_str_partial(

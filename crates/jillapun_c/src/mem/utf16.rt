@@ -12,7 +12,7 @@ use crate::status::REFUSED;
 /// The length in units of the longest prefix that is well-formed UTF-16: it ends before the first
 /// surrogate in no pair.
 #[unsafe(no_mangle)]
-pub extern "C" fn encoding_mem_utf16_valid_up_to(buffer: &[u16]) -> usize
+pub extern "C" fn jillapun_mem_utf16_valid_up_to(buffer: &[u16]) -> usize
     ensures { IsLongestPrefix IsUtf16 buffer.now result }
 {
     encoding_mem::utf16_valid_up_to(buffer)
@@ -20,7 +20,7 @@ pub extern "C" fn encoding_mem_utf16_valid_up_to(buffer: &[u16]) -> usize
 
 /// Puts U+FFFD in place of each surrogate in no pair, and leaves all other units as they are.
 #[unsafe(no_mangle)]
-pub extern "C" fn encoding_mem_ensure_utf16_validity(buffer: &mut [u16])
+pub extern "C" fn jillapun_mem_ensure_utf16_validity(buffer: &mut [u16])
     ensures mended { IsMended buffer.old buffer.new }
     ensures valid { IsUtf16 buffer.new }
 {
@@ -31,7 +31,7 @@ pub extern "C" fn encoding_mem_ensure_utf16_validity(buffer: &mut [u16])
 /// returns how many bytes were written. Room: three bytes for each unit of `src`; if `dst` is
 /// shorter, nothing is written and `SIZE_MAX` is returned.
 #[unsafe(no_mangle)]
-pub extern "C" fn encoding_mem_convert_utf16_to_utf8(src: &[u16], dst: &mut [u8]) -> usize
+pub extern "C" fn jillapun_mem_convert_utf16_to_utf8(src: &[u16], dst: &mut [u8]) -> usize
     ensures converts { 3 * length src.now ≤ length dst.old
         → IsPut dst.old (units_in_utf8 src.now) dst.new result }
     ensures refuses { length dst.old < 3 * length src.now → IsUnwritten dst.old dst.new result }
@@ -49,7 +49,7 @@ pub extern "C" fn encoding_mem_convert_utf16_to_utf8(src: &[u16], dst: &mut [u8]
 /// (80 to BF), whether or not `dst` was UTF-8. Room: three bytes for each unit of `src`; if `dst`
 /// is shorter, nothing is written and `SIZE_MAX` is returned.
 #[unsafe(no_mangle)]
-pub extern "C" fn encoding_mem_convert_utf16_to_str(src: &[u16], dst: &mut [u8]) -> usize
+pub extern "C" fn jillapun_mem_convert_utf16_to_str(src: &[u16], dst: &mut [u8]) -> usize
     ensures converts { 3 * length src.now ≤ length dst.old
         → TextIsPut dst.old (units_in_utf8 src.now) dst.new result }
     ensures refuses { length dst.old < 3 * length src.now → IsUnwritten dst.old dst.new result }

@@ -14,7 +14,7 @@ use crate::status::REFUSED;
 /// The length in bytes of the longest prefix that is well-formed UTF-8 (RFC 3629): it ends before
 /// the first byte of the first malformed sequence.
 #[unsafe(no_mangle)]
-pub extern "C" fn encoding_utf8_valid_up_to(buffer: &[u8]) -> usize
+pub extern "C" fn jillapun_utf8_valid_up_to(buffer: &[u8]) -> usize
     ensures { IsLongestPrefix IsUtf8 buffer.now result }
 {
     encoding_mem::utf8_valid_up_to(buffer)
@@ -31,7 +31,7 @@ pub(crate) fn is_text(bytes: &[u8]) -> bool
 /// returns how many units were written. Room: one unit more than `src` has bytes; if `dst` is
 /// shorter, nothing is written and `SIZE_MAX` is returned.
 #[unsafe(no_mangle)]
-pub extern "C" fn encoding_mem_convert_utf8_to_utf16(src: &[u8], dst: &mut [u16]) -> usize
+pub extern "C" fn jillapun_mem_convert_utf8_to_utf16(src: &[u8], dst: &mut [u16]) -> usize
     ensures converts { length src.now < length dst.old
         → IsPut dst.old (encode_utf16_all (text (pieces_utf8 src.now))) dst.new result }
     ensures refuses { length dst.old ≤ length src.now → IsUnwritten dst.old dst.new result }
@@ -47,7 +47,7 @@ pub extern "C" fn encoding_mem_convert_utf8_to_utf16(src: &[u8], dst: &mut [u16]
 /// returned. If `src` is not well-formed, `SIZE_MAX` is returned, too, and `dst` begins with the
 /// text before the first malformed sequence.
 #[unsafe(no_mangle)]
-pub extern "C" fn encoding_mem_convert_utf8_to_utf16_without_replacement(
+pub extern "C" fn jillapun_mem_convert_utf8_to_utf16_without_replacement(
     src: &[u8],
     dst: &mut [u16],
 ) -> usize
@@ -68,10 +68,10 @@ pub extern "C" fn encoding_mem_convert_utf8_to_utf16_without_replacement(
     }
 }
 
-/// What `encoding_mem_convert_utf8_to_utf16_without_replacement` does and returns. The bytes are
+/// What `jillapun_mem_convert_utf8_to_utf16_without_replacement` does and returns. The bytes are
 /// tested: none are undefined here.
 #[unsafe(no_mangle)]
-pub extern "C" fn encoding_mem_convert_str_to_utf16(src: &[u8], dst: &mut [u16]) -> usize
+pub extern "C" fn jillapun_mem_convert_str_to_utf16(src: &[u8], dst: &mut [u16]) -> usize
     ensures counts { IsUtf8 src.now → length src.now ≤ length dst.old
         → result ≡ length (text_in_utf16 src.now) }
     ensures malformed { ¬ (IsUtf8 src.now) → result ≡ REFUSED }
@@ -80,5 +80,5 @@ pub extern "C" fn encoding_mem_convert_str_to_utf16(src: &[u8], dst: &mut [u16])
         IsPut dst.old units dst.new (length units) }
     ensures refuses { length dst.old < length src.now → IsUnwritten dst.old dst.new result }
 {
-    encoding_mem_convert_utf8_to_utf16_without_replacement(src, dst)
+    jillapun_mem_convert_utf8_to_utf16_without_replacement(src, dst)
 }

@@ -119,6 +119,7 @@ fn cuts_change_nothing(rt: HostRuntime) -> Result<(), AllocError> {
                 (given.report.read, given.report.bad, given.report.lost),
                 (7, 1, 2)
             );
+            assert_eq!(rt; given.report.characters, 4);
             assert_eq!(rt; given.losses.len(), 3);
             let [first, second, third] = [given.losses[0], given.losses[1], given.losses[2]];
             assert_eq!(rt; (first.kind, first.place, first.number), (BAD, 4, 1));

@@ -5,7 +5,6 @@ use crate::encoder::utf8::{
 };
 use crate::encoder::{EncoderHandle, jillapun_encoder_free, jillapun_encoder_new};
 use crate::encoder_progress::EncoderProgress;
-use crate::handle::CoderHandle;
 use crate::status::{INPUT_EMPTY, NOT_UTF8, OK, OUTPUT_FULL, UNMAPPABLE};
 use crate::tests::euro;
 use std::alloc::Global;
@@ -26,9 +25,7 @@ const STARTS: [usize; 9] = [0, 1, 1, 1, 4, 4, 4, 7, 8];
 type Left = (u8, u8, usize, [u8; 16], usize);
 
 fn encoder_into(alloc: Global, encoding: u8) -> EncoderHandle {
-    let mut encoder = EncoderHandle {
-        coder: CoderHandle::none(),
-    };
+    let mut encoder = EncoderHandle::none();
     jillapun_encoder_new(alloc, euro(alloc), encoding, &mut encoder);
     encoder
 }

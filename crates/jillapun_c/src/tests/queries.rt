@@ -1,17 +1,26 @@
-//! Calls of the export that tells how far bytes are Latin1 to a decoder.
+//! Calls of the exports that tell of a decoder or an encoder.
 
-use crate::decoder::queries::jillapun_decoder_latin1_byte_compatible_up_to;
+use crate::decoder::queries::{
+    jillapun_decoder_encoding, jillapun_decoder_latin1_byte_compatible_up_to,
+    jillapun_decoder_max_utf8_length, jillapun_decoder_max_utf16_length,
+};
 use crate::decoder::utf8::jillapun_decoder_decode_to_utf8;
 use crate::decoder::{DecoderHandle, jillapun_decoder_free, jillapun_decoder_new};
-use crate::handle::CoderHandle;
+use crate::encoder::queries::{
+    jillapun_encoder_encoding, jillapun_encoder_has_pending_state,
+    jillapun_encoder_max_length_from_utf16_without_replacement,
+};
+use crate::encoder::{EncoderHandle, jillapun_encoder_free, jillapun_encoder_new};
 use crate::index_files::IndexFile;
 use crate::progress::Progress;
-use crate::status::{KEEP, OK, REFUSED, SNIFF};
+use crate::status::{KEEP, NO_ENCODING, OK, REFUSED, SNIFF};
 use crate::tables::{IndexFault, jillapun_tables_new};
 use crate::tables_handle::TablesHandle;
 use std::alloc::Global;
 
 const UTF_8: u8 = 25;
+
+const UTF_16LE: u8 = 27;
 
 const WINDOWS_1252: u8 = 31;
 
@@ -24,9 +33,7 @@ fn decoder(alloc: Global, encoding: u8, mark: u8) -> DecoderHandle {
         text: b"  0\t0x20AC\n105\t0x00E9\n",
     }];
     jillapun_tables_new(alloc, &files, &mut tables, &mut fault);
-    let mut handle = DecoderHandle {
-        coder: CoderHandle::none(),
-    };
+    let mut handle = DecoderHandle::none();
     jillapun_decoder_new(alloc, tables, encoding, mark, &mut handle);
     handle
 }
@@ -66,4 +73,39 @@ fn latin1_is_found(rt: HostRuntime) {
     let mut handle = decoder(alloc, UTF_8, SNIFF);
     let length = jillapun_decoder_latin1_byte_compatible_up_to(alloc, &mut handle, bytes);
     assert_eq!(rt; length, REFUSED);
+}
+
+#[test]
+fn decoders_are_asked(rt: HostRuntime) {
+    let alloc = rt.alloc();
+    let mut handle = decoder(alloc, WINDOWS_1252, SNIFF);
+    assert_eq!(rt; jillapun_decoder_encoding(&handle), WINDOWS_1252);
+    length_after(alloc, &mut handle, b"\xEF\xBB\xBF", false);
+    assert_eq!(rt; jillapun_decoder_encoding(&handle), UTF_8);
+    let mut handle = decoder(alloc, WINDOWS_1252, KEEP);
+    assert_eq!(rt; jillapun_decoder_max_utf16_length(&handle, 5), 5);
+    assert_eq!(rt; jillapun_decoder_max_utf8_length(&handle, 5), 15);
+    length_after(alloc, &mut handle, b"a", true);
+    assert_eq!(rt; jillapun_decoder_max_utf16_length(&handle, 5), REFUSED);
+    assert_eq!(rt; jillapun_decoder_encoding(&handle), WINDOWS_1252);
+    jillapun_decoder_free(alloc, &mut handle);
+    assert_eq!(rt; jillapun_decoder_encoding(&handle), NO_ENCODING);
+    assert_eq!(rt; jillapun_decoder_max_utf8_length(&handle, 0), REFUSED);
+}
+
+#[test]
+fn encoders_are_asked(rt: HostRuntime) {
+    let alloc = rt.alloc();
+    let mut handle = EncoderHandle::none();
+    assert_eq!(rt; jillapun_encoder_encoding(&handle), NO_ENCODING);
+    assert!(rt; !jillapun_encoder_has_pending_state(&handle));
+    let mut tables = TablesHandle::none();
+    let mut fault = IndexFault { file: 9, line: 9 };
+    jillapun_tables_new(alloc, &[], &mut tables, &mut fault);
+    jillapun_encoder_new(alloc, tables, UTF_16LE, &mut handle);
+    assert_eq!(rt; jillapun_encoder_encoding(&handle), UTF_8);
+    let length = jillapun_encoder_max_length_from_utf16_without_replacement(&handle, 5);
+    assert_eq!(rt; length, 15);
+    jillapun_encoder_free(alloc, &mut handle);
+    assert_eq!(rt; jillapun_encoder_encoding(&handle), NO_ENCODING);
 }

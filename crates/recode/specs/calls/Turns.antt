@@ -8,7 +8,7 @@ use Rattle.encoding_mem.specs.declared.decoder_result.DecoderResult.TheVariants 
 use Rattle.encoding_mem.specs.declared.reference.Reference.{Reference}
 use Rattle.recode_log.specs.Line.{IsValid}
 use Rattle.recode.specs.Converter.{WillBeKeptAfter, found_items, owed_after}
-use Rattle.recode.specs.State.{State}
+use Rattle.recode.specs.State.{State, characters_after}
 use Rattle.recode.specs.Step.{IsNearlyDecided}
 use Rattle.recode.specs.WrittenItems.{AreCounted}
 use Rattle.recode.specs.calls.Chunk.{IsDoneWith}
@@ -52,6 +52,10 @@ owed c = owed_after (waiting c) c.state
 -- nothing was lost so far, and nothing will be
 abbrev pub WillBeKept : Standing → List ℕ → Type 0
 WillBeKept c = WillBeKeptAfter (waiting c) c.state
+
+-- how many characters the whole text has with the bytes to come
+abbrev pub characters_in : Standing → List ℕ → ℕ
+characters_in c = characters_after (waiting c) c.state
 
 -- the pending bytes are among those read, no more characters were passed than bytes, and no more lines than characters,
 -- those that wait among them
@@ -101,6 +105,7 @@ pub record TakesTurns (c c' : Standing) (last : Bool) (bytes rest : List ℕ) (i
   pub sound : AreCountedSoundly c'
   pub lines : AreCounted c.state.counts c'.state.counts items
   pub source : (r : List ℕ) → (last ≡ true → r ≡ []) → c.state.source (bytes ++ r) ≡ c'.state.source (rest ++ r)
+  pub characters : (r : List ℕ) → (last ≡ true → r ≡ []) → characters_in c (bytes ++ r) ≡ characters_in c' (rest ++ r)
   pub owes : (r : List ℕ) → (last ≡ true → r ≡ []) → owed c (bytes ++ r) ≡ items ++ owed c' (rest ++ r)
   pub verdict : (r : List ℕ) → (last ≡ true → r ≡ []) → WillBeKept c (bytes ++ r) ↔ WillBeKept c' (rest ++ r)
   pub calls : (r : List ℕ) → (last ≡ true → r ≡ []) → c'.state.counts.calls + c.state.counts.index + 3 * decoded_count c + 2 * length (owed c' (rest ++ r)) + spare_calls c'.answer

@@ -3,7 +3,7 @@ use Rattle.std.specs.Prelude.{◌≡◌, ℕ, ◌+◌, ◌-◌, ◌^◌, ◌<◌
 use Rattle.recode_log.specs.Counted.{CountsWrites, failures_of, history_of, inner_of, passed_of}
 use Rattle.recode_log.specs.Line.{IsValid}
 use Rattle.recode.specs.Devices.{Written, written_in}
-use Rattle.recode.specs.Fault.{EndsAtWriterFault, log_failures, of_other, reader_failures, writer_failures}
+use Rattle.recode.specs.Fault.{EndsAtFault, log_failures, of_other, reader_failures, writer_failures}
 use Rattle.encoding_mem.specs.Items.{Item}
 use Rattle.recode.specs.calls.Held.{LeavesPrefix, Passes, WritersView, log_line_of}
 use Rattle.recode_log.specs.Told.{TellsTaken}
@@ -57,7 +57,7 @@ pub record CountsWriterFault {W L T : Type 0} (before after : Writers W L) (resu
   pub not_other : of_other result ≡ 0
   pub output_calls : CountsWrites before.output.now after.output.now
   pub log_calls : CountsWrites before.log.now after.log.now
-  pub last : IfErr result (EndsAtWriterFault (history_of after.output.now) (history_of after.log.now))
+  pub last : IfErr result (EndsAtFault (history_of after.output.now) (history_of after.log.now))
   pub same : AreTheSame before after
 
 -- whether what was read is the end of the input: no bytes

@@ -1,11 +1,13 @@
 -- Worked rows of `specs/Converter.antt`.
-use Rattle.std.specs.Prelude.{◌≡◌, [], ◌∷◌, codes, false, map, refl, true}
+use Rattle.std.specs.Prelude.{◌≡◌, ℕ, List, [], ◌∷◌, codes, false, map, refl, true}
 use Rattle.std.specs.Fmt.{digits}
 use Rattle.std.proofs.Common.{arith}
 use Rattle.encoding_mem.specs.Items.{Byte, LostAt, MalformedAt}
+use Rattle.encoding_mem.specs.Piece.{malformed, text, well_formed}
 use Rattle.encoding_mem.specs.declared.reference.Reference.TheVariants.{Decimal, Hexadecimal}
 use Rattle.recode_log.specs.declared.line.LogLine.TheVariants.{Bad, Lost}
 use Rattle.recode.specs.Converter.{ConverterEndsWith, ConverterView, found_items, is_all_converted}
+use Rattle.recode.specs.State.{State, characters_with, characters_after, text_after}
 use Rattle.recode.specs.declared.converter.ConverterResult.TheVariants.{Found, InputEmpty, OutputFull}
 
 -- two bytes at offset 3 are malformed: nothing but their line is found
@@ -42,3 +44,14 @@ three_are_few v open_ = (omega arith, open_)
 
 four_are_not : (v : ConverterView) → ConverterEndsWith v (0x41 ∷ []) false 4 OutputFull → ⊥
 four_are_not v h = absurd (omega (arith, h.0))
+
+-- `A`, and a malformed sequence of two bytes, wait before the text of the bytes to come: they stand for two characters
+what_is_to_come : (s : State) (r : List ℕ) → text_after (well_formed 1 (0x41 ∷ []) ∷ malformed 2 ∷ []) s r ≡ 0x41 ∷ 0xFFFD ∷ text (s.decoder.pieces r)
+what_is_to_come s r = refl
+
+-- five characters were encoded, those two wait, and no byte is to come
+seven_characters : (s : State) → s.counts.index ≡ 5 → s.decoder.pieces [] ≡ [] → characters_after (well_formed 1 (0x41 ∷ []) ∷ malformed 2 ∷ []) s [] ≡ 7
+seven_characters s five none = rw (five, none) refl
+
+five_if_none_wait : (s : State) → s.counts.index ≡ 5 → s.decoder.pieces [] ≡ [] → characters_with s [] ≡ 5
+five_if_none_wait s five none = rw (five, none) refl

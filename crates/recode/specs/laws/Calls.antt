@@ -1,9 +1,9 @@
 -- Calls of a converter add up, and together are the conversion of what they were handed.
-use Rattle.std.proofs.Common.{◌≡◌, ℕ, ◌↔◌, Bool, true, false, List, [], ◌++◌, refl, sym, ◌∙◌, ap, subst, arith, append_assoc, append-nil, length-append}
+use Rattle.std.proofs.Common.{◌≡◌, ℕ, ◌↔◌, Bool, true, false, List, [], ◌++◌, length, refl, sym, ◌∙◌, ap, subst, arith, append_assoc, append-nil, length-append}
 use Rattle.encoding_mem.specs.Items.{Item}
 use Rattle.encoding_mem.specs.declared.form.EscapeState.TheVariants.{Ascii}
-use Rattle.recode.specs.Converter.{ConverterView, ConvertsPart, ConvertedSoFar, IsFreshConverter, IsReportButCalls, IsWhole, WillKeep, owes}
-use Rattle.recode.specs.Job.{input_pieces, target_of, whole_trace}
+use Rattle.recode.specs.Converter.{ConverterView, ConvertsPart, ConvertedSoFar, IsFreshConverter, IsReportButCalls, IsWhole, WillKeep, characters_of, owes}
+use Rattle.recode.specs.Job.{input_pieces, input_text, target_of, whole_trace}
 use Rattle.recode.specs.Policy.{reference_form}
 use Rattle.recode.specs.Session.{ReportsOn}
 use Rattle.recode.specs.WrittenItems.{bad_line_count, lost_line_count}
@@ -19,6 +19,7 @@ part_none v last src ended = record {
   verdict = λ r none. ((λ k. k), (λ k. k));
   source = λ r none. refl;
   counted = refl;
+  characters = λ r none. refl;
   lines = record { bad = omega arith; lost = omega arith };
   ended = ended;
 }
@@ -38,6 +39,7 @@ part_then v v1 v2 last last' bytes rest more rest' items items' end p q = record
       ((λ k. second.0 (first.0 k)), (λ k. first.1 (second.1 k)));
   source = λ r none. ap v.state.source (append_assoc bytes more r) ∙ p.source (more ++ r) (nothing r none) ∙ ap v1.state.source (sym (append_assoc rest more r)) ∙ q.source r none;
   counted = omega (arith, p.counted, q.counted, length-append rest more, length-append bytes more);
+  characters = λ r none. ap (characters_of v) (append_assoc bytes more r) ∙ p.characters (more ++ r) (nothing r none) ∙ ap (characters_of v1) (sym (append_assoc rest more r)) ∙ q.characters r none;
   lines = AreCounted-trans v.state.counts v1.state.counts v2.state.counts items items' p.lines q.lines;
   ended = q.ended;
 }
@@ -64,6 +66,16 @@ owed_on j last bytes rest items v h r none = sym (h.fresh.owes_trace (bytes ++ r
 pub taken_whole : (j : Job) (bytes : List ℕ) (items : List Item) (v : ConverterView) → ConvertedSoFar j true bytes [] items v → IsWhole v → items ≡ whole_trace j bytes
 taken_whole j bytes items v h whole =
     sym (ap (whole_trace j) (sym (append-nil bytes)) ∙ owed_on j true bytes [] items v h [] (λ _. refl) ∙ ap (λ t. items ++ t) whole.written ∙ append-nil items)
+
+-- whatever follows, the text of all has the characters that are counted, and those that are to come
+pub counted_on : (j : Job) (last : Bool) (bytes rest : List ℕ) (items : List Item) (v : ConverterView) → ConvertedSoFar j last bytes rest items v
+    → (r : List ℕ) → (last ≡ true → r ≡ []) → length (input_text j (bytes ++ r)) ≡ characters_of v (rest ++ r)
+counted_on j last bytes rest items v h r none = omega (arith, h.law.characters r none, h.fresh.index, ap length (h.fresh.text_ (bytes ++ r)))
+
+-- if all is written, all characters of the text are counted
+pub taken_characters : (j : Job) (bytes : List ℕ) (items : List Item) (v : ConverterView) → ConvertedSoFar j true bytes [] items v → IsWhole v → v.state.counts.index ≡ length (input_text j bytes)
+taken_characters j bytes items v h whole =
+    sym (ap (λ x. length (input_text j x)) (sym (append-nil bytes)) ∙ counted_on j true bytes [] items v h [] (λ _. refl) ∙ whole.counted)
 
 -- and what is reported is the report on it
 pub taken_report : (j : Job) (bytes : List ℕ) (items : List Item) (v : ConverterView) (p : Report) → ConvertedSoFar j true bytes [] items v → IsWhole v → ReportsOn v.state p

@@ -1,7 +1,7 @@
 -- Worked rows of `specs/Call.antt`.
 use Rattle.std.proofs.Common.{◌≡◌, ℕ, [], ◌∷◌, Ok, Err, false, true, refl, arith}
 use Rattle.std.specs.List.{concat}
-use Rattle.recode_log.specs.Call.{IsFailedWrite, IsWriteOfSome, call_of, failed_read, failed_writes, flush_of, passed_by}
+use Rattle.recode_log.specs.Call.{EndsInFailedWrite, IsWriteOfSome, OffersAllLeft, call_of, failed_read, failed_write, failed_writes, flush_of, passed_by}
 use Rattle.recode_log.specs.Call.{Failed, Flush, Passed}
 
 -- a read that gives two bytes, into a room of four
@@ -29,12 +29,16 @@ passed_by-writes : concat (passed_by (Passed 2 (1 ∷ 2 ∷ []) ∷ Passed 3 (3 
 passed_by-writes = refl
 
 -- a write of three bytes that takes none has failed
-failed_write-none_taken : IsFailedWrite (Passed 3 [])
-failed_write-none_taken = (omega arith, refl)
+failed_write-none_taken : failed_write (Passed 3 []) ≡ 1
+failed_write-none_taken = refl
 
 -- one of no bytes has not
-failed_write-nothing_to_take : IsFailedWrite (Passed 0 []) → ⊥
-failed_write-nothing_to_take h = omega (arith, h.0)
+failed_write-nothing_to_take : failed_write (Passed 0 []) ≡ 0
+failed_write-nothing_to_take = refl
+
+-- a flush that fails is the last call
+ends_in_failed_write-flush : EndsInFailedWrite (Passed 2 (1 ∷ 2 ∷ []) ∷ Flush true ∷ [])
+ends_in_failed_write-flush = record { earlier = Passed 2 (1 ∷ 2 ∷ []) ∷ []; last = Flush true; ends = refl; failed = refl }
 
 -- of a write that takes a byte, one that takes none, one of no bytes, one that fails and a flush that fails, three failed
 failed_writes-some : failed_writes (Passed 2 (1 ∷ []) ∷ Passed 1 [] ∷ Passed 0 [] ∷ Failed 1 ∷ Flush true ∷ Flush false ∷ []) ≡ 3
@@ -56,3 +60,23 @@ is_write_of_some-none h = omega (arith, h)
 
 is_write_of_some-flush : IsWriteOfSome (Flush false) → ⊥
 is_write_of_some-flush h = h
+
+-- of five bytes, a first write offers all, of which two are taken, and a second the three that are left
+offers_all_left-two_writes : OffersAllLeft 5 (Passed 5 (1 ∷ 2 ∷ []) ∷ Passed 3 (3 ∷ 4 ∷ 5 ∷ []) ∷ [])
+offers_all_left-two_writes = (refl, (refl, tt))
+
+-- nor is a byte taken off by a write that fails
+offers_all_left-failed : OffersAllLeft 2 (Passed 2 (1 ∷ []) ∷ Failed 1 ∷ [])
+offers_all_left-failed = (refl, (refl, tt))
+
+-- a write of one byte of two does not offer all
+offers_all_left-one_byte : OffersAllLeft 2 (Passed 1 (1 ∷ []) ∷ Passed 1 (2 ∷ []) ∷ []) → ⊥
+offers_all_left-one_byte h = omega (arith, h.0)
+
+-- nor does one that begins anew
+offers_all_left-again : OffersAllLeft 2 (Passed 2 (1 ∷ []) ∷ Passed 2 (1 ∷ 2 ∷ []) ∷ []) → ⊥
+offers_all_left-again h = omega (arith, h.1.0)
+
+-- a flush offers nothing
+offers_all_left-flush : OffersAllLeft 0 (Flush false ∷ []) → ⊥
+offers_all_left-flush h = h

@@ -1,6 +1,7 @@
--- What a history passed after one call more.
-use Rattle.std.proofs.Common.{◌≡◌, ℕ, List, [], ◌∷◌, ◌++◌, Bool, refl, ap, ◌∙◌, append-nil}
+-- What a history passed after calls more.
+use Rattle.std.proofs.Common.{◌≡◌, ℕ, List, [], ◌∷◌, ◌++◌, Bool, refl, ap, ◌∙◌, append-nil, sym}
 use Rattle.std.specs.List.{concat}
+use Rattle.std.proofs.lemmas.List.{append_cancel_left}
 use Rattle.std.proofs.lemmas.List.Folds.{concat-append}
 use Rattle.recode_log.specs.Call.{Call, Passed, Failed, Flush, passed_by}
 
@@ -12,6 +13,13 @@ passed_by-append (Failed room ∷ calls) calls' = passed_by-append calls calls'
 passed_by-append (Flush failed ∷ calls) calls' = passed_by-append calls calls'
 
 module _ (before after : List Call) where
+  -- calls passed the bytes by which a history grew
+  pub passed_calls : (calls : List Call) (bytes : List ℕ) → after ≡ before ++ calls → concat (passed_by after) ≡ concat (passed_by before) ++ bytes → concat (passed_by calls) ≡ bytes
+  passed_calls calls bytes made grew =
+      let all : concat (passed_by after) ≡ concat (passed_by before) ++ concat (passed_by calls) =
+      ap (λ l. concat (passed_by l)) made ∙ ap concat (passed_by-append before calls) ∙ concat-append (passed_by before) (passed_by calls) in
+      append_cancel_left (concat (passed_by before)) (concat (passed_by calls)) bytes (sym all ∙ grew)
+
   -- a read or a write that did not fail passed its bytes
   pub passed_one : (room : ℕ) (bytes : List ℕ) → after ≡ before ++ (Passed room bytes ∷ []) → passed_by after ≡ passed_by before ++ (bytes ∷ [])
   passed_one room bytes once = ap passed_by once ∙ passed_by-append before (Passed room bytes ∷ [])

@@ -2,8 +2,6 @@
 
 use super::{length, raw, Tables};
 use crate::DecoderResult;
-use std::ptr;
-use std::sync::{Mutex, PoisonError};
 
 /// What becomes of a byte order mark at the start.
 #[derive(Clone, Copy)]
@@ -28,30 +26,37 @@ pub(crate) struct Decoded {
     pub(crate) had_errors: bool,
 }
 
-/// A decoder. The library's queries take a handle that they may write to, so that two threads must not ask at once:
-/// each query locks the handle. Calls that decode have it for themselves, and need no lock.
+/// A decoder. Its queries write nothing, so that threads may ask at once.
 pub(crate) struct Decoder {
-    handle: Mutex<raw::Coder>,
+    handle: raw::Decoder,
+    tables: Tables,
+    // Whether it is known how far bytes that come next are Latin1.
+    knows_latin1: bool,
     has_ended: bool,
 }
 
 // SAFETY: the header lets threads use a handle one after the other; what it holds is the library's, on the heap.
-unsafe impl Send for raw::Coder {}
+unsafe impl Send for raw::Decoder {}
+// SAFETY: the header lets any number of threads make calls at once that take a `const` handle, and no others are made
+// through a shared reference.
+unsafe impl Sync for raw::Decoder {}
 
 impl Decoder {
     /// A decoder of a new stream, in the encoding with a number. Panics if memory is refused.
     pub(crate) fn new(tables: Tables, encoding: u8, mark: Mark) -> Decoder {
-        let mut handle = raw::Coder { private_at: ptr::null_mut(), private_is_open: false };
+        let mut handle = raw::Decoder::default();
         // SAFETY: the handle begins empty.
         let status = unsafe { raw::jillapun_decoder_new(tables.0, encoding, mark as u8, &mut handle) };
         made(status);
-        Decoder { handle: Mutex::new(handle), has_ended: false }
+        let mut decoder = Decoder { handle, tables, knows_latin1: false, has_ended: false };
+        decoder.knows_latin1 = decoder.latin1_length(&[]).is_some();
+        decoder
     }
 
     /// The number of the encoding in force.
     pub(crate) fn encoding(&self) -> u8 {
-        // SAFETY: the handle is open, and locked.
-        self.query(|handle| unsafe { raw::jillapun_decoder_encoding(handle) })
+        // SAFETY: the handle is open.
+        unsafe { raw::jillapun_decoder_encoding(&self.handle) }
     }
 
     pub(crate) fn max_utf8_length(&self, bytes: usize) -> Option<usize> {
@@ -66,11 +71,20 @@ impl Decoder {
         self.room(raw::jillapun_decoder_max_utf16_length, bytes)
     }
 
+    /// The library's call takes a handle that it may write to. So another decoder is asked: if it is known, what comes
+    /// next is decoded as from the start of an input without a mark.
     pub(crate) fn latin1_byte_compatible_up_to(&self, bytes: &[u8]) -> Option<usize> {
         self.assert_not_ended();
+        if !self.knows_latin1 {
+            return None;
+        }
+        Decoder::new(self.tables, self.encoding(), Mark::Keep).latin1_length(bytes)
+    }
+
+    fn latin1_length(&mut self, bytes: &[u8]) -> Option<usize> {
         let (at, len) = (bytes.as_ptr(), bytes.len());
-        // SAFETY: the handle is open, and locked; a slice is what the header asks of a pointer and a length.
-        length(self.query(|handle| unsafe { raw::jillapun_decoder_latin1_byte_compatible_up_to(handle, at, len) }))
+        // SAFETY: the handle is open; a slice is what the header asks of a pointer and a length.
+        length(unsafe { raw::jillapun_decoder_latin1_byte_compatible_up_to(&mut self.handle, at, len) })
     }
 
     pub(crate) fn decode_to_utf8(&mut self, src: &[u8], dst: &mut [u8], last: bool, at_error: OnMalformed) -> Decoded {
@@ -122,9 +136,8 @@ impl Decoder {
         &mut self, export: raw::Decode<Unit>, src: &[u8], dst: *mut Unit, room: usize, last: bool,
     ) -> Decoded {
         self.assert_not_ended();
-        let handle = self.handle.get_mut().unwrap_or_else(PoisonError::into_inner);
         let mut progress = raw::Progress::default();
-        let status = export(handle, src.as_ptr(), src.len(), dst, room, last, &mut progress);
+        let status = export(&mut self.handle, src.as_ptr(), src.len(), dst, room, last, &mut progress);
         assert!(status == raw::OK, "the library does not decode: status {status}");
         let result = match progress.outcome {
             raw::INPUT_EMPTY => DecoderResult::InputEmpty,
@@ -132,17 +145,14 @@ impl Decoder {
             _ => DecoderResult::Malformed(progress.malformed_length, progress.malformed_after),
         };
         self.has_ended = last && result == DecoderResult::InputEmpty;
+        self.knows_latin1 = self.latin1_length(&[]).is_some();
         Decoded { result, read: progress.read, written: progress.written, had_errors: progress.had_errors }
     }
 
-    fn room(&self, export: raw::Room, bytes: usize) -> Option<usize> {
+    fn room(&self, export: raw::Room<raw::Decoder>, bytes: usize) -> Option<usize> {
         self.assert_not_ended();
-        // SAFETY: the handle is open, and locked.
-        length(self.query(|handle| unsafe { export(handle, bytes) }))
-    }
-
-    fn query<Answer>(&self, ask: impl FnOnce(&mut raw::Coder) -> Answer) -> Answer {
-        ask(&mut self.handle.lock().unwrap_or_else(PoisonError::into_inner))
+        // SAFETY: the handle is open.
+        length(unsafe { export(&self.handle, bytes) })
     }
 
     fn assert_not_ended(&self) {
@@ -153,7 +163,7 @@ impl Decoder {
 impl Drop for Decoder {
     fn drop(&mut self) {
         // SAFETY: the handle is open, and not used again.
-        unsafe { raw::jillapun_decoder_free(self.handle.get_mut().unwrap_or_else(PoisonError::into_inner)) }
+        unsafe { raw::jillapun_decoder_free(&mut self.handle) }
     }
 }
 

@@ -3,8 +3,6 @@
 use super::decoder::made;
 use super::{length, raw, Tables};
 use crate::EncoderResult;
-use std::ptr;
-use std::sync::{Mutex, PoisonError};
 
 /// Whether a call writes a decimal reference for a character that has no bytes, or ends there.
 #[derive(Clone, Copy)]
@@ -21,28 +19,34 @@ pub(crate) struct Encoded {
     pub(crate) had_unmappable: bool,
 }
 
-/// An encoder. Queries lock the handle, as those of a decoder do.
-pub(crate) struct Encoder(Mutex<raw::Coder>);
+/// An encoder. Its queries write nothing, so that threads may ask at once.
+pub(crate) struct Encoder(raw::Encoder);
+
+// SAFETY: the header lets threads use a handle one after the other; what it holds is the library's, on the heap.
+unsafe impl Send for raw::Encoder {}
+// SAFETY: the header lets any number of threads make calls at once that take a `const` handle, and no others are made
+// through a shared reference.
+unsafe impl Sync for raw::Encoder {}
 
 impl Encoder {
     /// An encoder of a new text, into the output encoding of that with a number. Panics if memory is refused.
     pub(crate) fn new(tables: Tables, encoding: u8) -> Encoder {
-        let mut handle = raw::Coder { private_at: ptr::null_mut(), private_is_open: false };
+        let mut handle = raw::Encoder::default();
         // SAFETY: the handle begins empty.
         let status = unsafe { raw::jillapun_encoder_new(tables.0, encoding, &mut handle) };
         made(status);
-        Encoder(Mutex::new(handle))
+        Encoder(handle)
     }
 
     /// The number of the output encoding.
     pub(crate) fn encoding(&self) -> u8 {
-        // SAFETY: the handle is open, and locked.
-        self.query(|handle| unsafe { raw::jillapun_encoder_encoding(handle) })
+        // SAFETY: the handle is open.
+        unsafe { raw::jillapun_encoder_encoding(&self.0) }
     }
 
     pub(crate) fn has_pending_state(&self) -> bool {
-        // SAFETY: the handle is open, and locked.
-        self.query(|handle| unsafe { raw::jillapun_encoder_has_pending_state(handle) })
+        // SAFETY: the handle is open.
+        unsafe { raw::jillapun_encoder_has_pending_state(&self.0) }
     }
 
     pub(crate) fn max_length_from_utf8_if_no_unmappables(&self, bytes: usize) -> Option<usize> {
@@ -95,9 +99,8 @@ impl Encoder {
     unsafe fn encode<Unit>(
         &mut self, export: raw::Encode<Unit>, src: &[Unit], dst: *mut u8, room: usize, last: bool,
     ) -> Encoded {
-        let handle = self.0.get_mut().unwrap_or_else(PoisonError::into_inner);
         let mut progress = raw::EncoderProgress::default();
-        let status = export(handle, src.as_ptr(), src.len(), dst, room, last, &mut progress);
+        let status = export(&mut self.0, src.as_ptr(), src.len(), dst, room, last, &mut progress);
         assert!(status == raw::OK, "the library does not encode: status {status}");
         let result = match progress.outcome {
             raw::INPUT_EMPTY => EncoderResult::InputEmpty,
@@ -107,20 +110,16 @@ impl Encoder {
         Encoded { result, read: progress.read, written: progress.written, had_unmappable: progress.had_unmappable }
     }
 
-    fn room(&self, export: raw::Room, units: usize) -> Option<usize> {
-        // SAFETY: the handle is open, and locked.
-        length(self.query(|handle| unsafe { export(handle, units) }))
-    }
-
-    fn query<Answer>(&self, ask: impl FnOnce(&mut raw::Coder) -> Answer) -> Answer {
-        ask(&mut self.0.lock().unwrap_or_else(PoisonError::into_inner))
+    fn room(&self, export: raw::Room<raw::Encoder>, units: usize) -> Option<usize> {
+        // SAFETY: the handle is open.
+        length(unsafe { export(&self.0, units) })
     }
 }
 
 impl Drop for Encoder {
     fn drop(&mut self) {
         // SAFETY: the handle is open, and not used again.
-        unsafe { raw::jillapun_encoder_free(self.0.get_mut().unwrap_or_else(PoisonError::into_inner)) }
+        unsafe { raw::jillapun_encoder_free(&mut self.0) }
     }
 }
 

@@ -1,8 +1,7 @@
 //! The exports that the crate calls, with types and numbers as `include/jillapun.h` has them.
-//!
-//! Those of memory have names there that begin with `encoding_`; the build script renames them.
 
 use std::ffi::c_void;
+use std::ptr;
 
 pub(super) const OK: u8 = 0;
 pub(super) const BAD_INDEX: u8 = 4;
@@ -44,11 +43,51 @@ pub(super) struct IndexFault {
     pub(super) line: usize,
 }
 
-/// A decoder or an encoder: the header has a type for each, of one form.
+/// The address of a decoder or an encoder.
 #[repr(C)]
 pub(super) struct Coder {
     pub(super) private_at: *mut c_void,
     pub(super) private_is_open: bool,
+}
+
+#[repr(C)]
+#[derive(Default)]
+pub(super) struct DecoderWords {
+    pub(super) private_is_there: bool,
+    pub(super) private_is_finished: bool,
+    pub(super) private_encoding: u8,
+    pub(super) private_may_be_utf8: bool,
+    pub(super) private_may_be_utf16: bool,
+    pub(super) private_ahead: usize,
+    pub(super) private_pending: usize,
+}
+
+#[repr(C)]
+#[derive(Default)]
+pub(super) struct Decoder {
+    pub(super) private_coder: Coder,
+    pub(super) private_words: DecoderWords,
+}
+
+#[repr(C)]
+#[derive(Default)]
+pub(super) struct EncoderWords {
+    pub(super) private_is_there: bool,
+    pub(super) private_has_pending_state: bool,
+    pub(super) private_encoding: u8,
+}
+
+#[repr(C)]
+#[derive(Default)]
+pub(super) struct Encoder {
+    pub(super) private_coder: Coder,
+    pub(super) private_words: EncoderWords,
+}
+
+impl Default for Coder {
+    fn default() -> Coder {
+        Coder { private_at: ptr::null_mut(), private_is_open: false }
+    }
 }
 
 #[repr(C)]
@@ -74,72 +113,79 @@ pub(super) struct EncoderProgress {
 
 /// The form of the calls that decode, to units of a type.
 pub(super) type Decode<Unit> =
-    unsafe extern "C" fn(*mut Coder, *const u8, usize, *mut Unit, usize, bool, *mut Progress) -> u8;
+    unsafe extern "C" fn(*mut Decoder, *const u8, usize, *mut Unit, usize, bool, *mut Progress) -> u8;
 
 /// The form of the calls that encode, from units of a type.
 pub(super) type Encode<Unit> =
-    unsafe extern "C" fn(*mut Coder, *const Unit, usize, *mut u8, usize, bool, *mut EncoderProgress) -> u8;
+    unsafe extern "C" fn(*mut Encoder, *const Unit, usize, *mut u8, usize, bool, *mut EncoderProgress) -> u8;
 
 /// The form of the calls that tell how much room is enough for so many units more.
-pub(super) type Room = unsafe extern "C" fn(*mut Coder, usize) -> usize;
+pub(super) type Room<Handle> = unsafe extern "C" fn(*const Handle, usize) -> usize;
 
 extern "C" {
     pub(super) fn jillapun_for_label(label: *const u8, label_len: usize) -> u8;
+    pub(super) fn jillapun_for_label_no_replacement(label: *const u8, label_len: usize) -> u8;
     pub(super) fn jillapun_for_bom(bytes: *const u8, bytes_len: usize, length: *mut usize) -> u8;
     pub(super) fn jillapun_output_encoding(encoding: u8) -> u8;
+    pub(super) fn jillapun_is_single_byte(encoding: u8) -> bool;
+    pub(super) fn jillapun_is_ascii_compatible(encoding: u8) -> bool;
+    pub(super) fn jillapun_can_encode_everything(encoding: u8) -> bool;
 
     pub(super) fn jillapun_tables_new(
         files: *const IndexFile, files_len: usize, out: *mut Tables, fault: *mut IndexFault,
     ) -> u8;
 
-    pub(super) fn jillapun_decoder_new(tables: Tables, encoding: u8, mark: u8, out: *mut Coder) -> u8;
-    pub(super) fn jillapun_decoder_free(decoder: *mut Coder);
-    pub(super) fn jillapun_decoder_encoding(decoder: *mut Coder) -> u8;
-    pub(super) fn jillapun_decoder_max_utf8_length(decoder: *mut Coder, n: usize) -> usize;
-    pub(super) fn jillapun_decoder_max_utf8_length_without_replacement(decoder: *mut Coder, n: usize) -> usize;
-    pub(super) fn jillapun_decoder_max_utf16_length(decoder: *mut Coder, n: usize) -> usize;
+    pub(super) fn jillapun_decoder_new(tables: Tables, encoding: u8, mark: u8, out: *mut Decoder) -> u8;
+    pub(super) fn jillapun_decoder_free(decoder: *mut Decoder);
+    pub(super) fn jillapun_decoder_encoding(decoder: *const Decoder) -> u8;
+    pub(super) fn jillapun_decoder_max_utf8_length(decoder: *const Decoder, n: usize) -> usize;
+    pub(super) fn jillapun_decoder_max_utf8_length_without_replacement(decoder: *const Decoder, n: usize) -> usize;
+    pub(super) fn jillapun_decoder_max_utf16_length(decoder: *const Decoder, n: usize) -> usize;
     pub(super) fn jillapun_decoder_latin1_byte_compatible_up_to(
-        decoder: *mut Coder, bytes: *const u8, bytes_len: usize,
+        decoder: *mut Decoder, bytes: *const u8, bytes_len: usize,
     ) -> usize;
     pub(super) fn jillapun_decoder_decode_to_utf8(
-        decoder: *mut Coder, src: *const u8, src_len: usize, dst: *mut u8, dst_len: usize, last: bool,
+        decoder: *mut Decoder, src: *const u8, src_len: usize, dst: *mut u8, dst_len: usize, last: bool,
         progress: *mut Progress,
     ) -> u8;
     pub(super) fn jillapun_decoder_decode_to_utf8_without_replacement(
-        decoder: *mut Coder, src: *const u8, src_len: usize, dst: *mut u8, dst_len: usize, last: bool,
+        decoder: *mut Decoder, src: *const u8, src_len: usize, dst: *mut u8, dst_len: usize, last: bool,
         progress: *mut Progress,
     ) -> u8;
     pub(super) fn jillapun_decoder_decode_to_utf16(
-        decoder: *mut Coder, src: *const u8, src_len: usize, dst: *mut u16, dst_len: usize, last: bool,
+        decoder: *mut Decoder, src: *const u8, src_len: usize, dst: *mut u16, dst_len: usize, last: bool,
         progress: *mut Progress,
     ) -> u8;
     pub(super) fn jillapun_decoder_decode_to_utf16_without_replacement(
-        decoder: *mut Coder, src: *const u8, src_len: usize, dst: *mut u16, dst_len: usize, last: bool,
+        decoder: *mut Decoder, src: *const u8, src_len: usize, dst: *mut u16, dst_len: usize, last: bool,
         progress: *mut Progress,
     ) -> u8;
 
-    pub(super) fn jillapun_encoder_new(tables: Tables, encoding: u8, out: *mut Coder) -> u8;
-    pub(super) fn jillapun_encoder_free(encoder: *mut Coder);
-    pub(super) fn jillapun_encoder_encoding(encoder: *mut Coder) -> u8;
-    pub(super) fn jillapun_encoder_has_pending_state(encoder: *mut Coder) -> bool;
-    pub(super) fn jillapun_encoder_max_length_from_utf8_if_no_unmappables(encoder: *mut Coder, n: usize) -> usize;
-    pub(super) fn jillapun_encoder_max_length_from_utf8_without_replacement(encoder: *mut Coder, n: usize) -> usize;
-    pub(super) fn jillapun_encoder_max_length_from_utf16_if_no_unmappables(encoder: *mut Coder, n: usize) -> usize;
-    pub(super) fn jillapun_encoder_max_length_from_utf16_without_replacement(encoder: *mut Coder, n: usize) -> usize;
+    pub(super) fn jillapun_encoder_new(tables: Tables, encoding: u8, out: *mut Encoder) -> u8;
+    pub(super) fn jillapun_encoder_free(encoder: *mut Encoder);
+    pub(super) fn jillapun_encoder_encoding(encoder: *const Encoder) -> u8;
+    pub(super) fn jillapun_encoder_has_pending_state(encoder: *const Encoder) -> bool;
+    pub(super) fn jillapun_encoder_max_length_from_utf8_if_no_unmappables(encoder: *const Encoder, n: usize) -> usize;
+    pub(super) fn jillapun_encoder_max_length_from_utf8_without_replacement(encoder: *const Encoder, n: usize)
+        -> usize;
+    pub(super) fn jillapun_encoder_max_length_from_utf16_if_no_unmappables(encoder: *const Encoder, n: usize) -> usize;
+    pub(super) fn jillapun_encoder_max_length_from_utf16_without_replacement(
+        encoder: *const Encoder, n: usize,
+    ) -> usize;
     pub(super) fn jillapun_encoder_encode_from_utf8(
-        encoder: *mut Coder, text: *const u8, text_len: usize, dst: *mut u8, dst_len: usize, last: bool,
+        encoder: *mut Encoder, text: *const u8, text_len: usize, dst: *mut u8, dst_len: usize, last: bool,
         progress: *mut EncoderProgress,
     ) -> u8;
     pub(super) fn jillapun_encoder_encode_from_utf8_without_replacement(
-        encoder: *mut Coder, text: *const u8, text_len: usize, dst: *mut u8, dst_len: usize, last: bool,
+        encoder: *mut Encoder, text: *const u8, text_len: usize, dst: *mut u8, dst_len: usize, last: bool,
         progress: *mut EncoderProgress,
     ) -> u8;
     pub(super) fn jillapun_encoder_encode_from_utf16(
-        encoder: *mut Coder, text: *const u16, text_len: usize, dst: *mut u8, dst_len: usize, last: bool,
+        encoder: *mut Encoder, text: *const u16, text_len: usize, dst: *mut u8, dst_len: usize, last: bool,
         progress: *mut EncoderProgress,
     ) -> u8;
     pub(super) fn jillapun_encoder_encode_from_utf16_without_replacement(
-        encoder: *mut Coder, text: *const u16, text_len: usize, dst: *mut u8, dst_len: usize, last: bool,
+        encoder: *mut Encoder, text: *const u16, text_len: usize, dst: *mut u8, dst_len: usize, last: bool,
         progress: *mut EncoderProgress,
     ) -> u8;
 

@@ -5,7 +5,7 @@ use Rattle.jillapun_c.proofs.CoderLemmas.{opened, made_decoder}
 use Rattle.jillapun_c.proofs.decoder.jillapun_decoder_new.Goals as goal
 
 pub returns-in-Ok-clause-opens : goal.returns-in-Ok-clause-opens
-returns-in-Ok-clause-opens c = let new = c.put-in-Ok.new.self.coder in
+returns-in-Ok-clause-opens c = let new = c.put-in-Ok.new.self.coder.coder in
     opened c.args.out.now.coder.coder c.args.tables.tables c.args.encoding c.in-Some-get.tables.now c.in-Some-encoding_of.encoding (MakesDecoder c.args.mark new 0) 0
     c.in_default.ensures.coder c.in-Some-get.ensures (sym c.in-Some-encoding_of.ensures)
     (made_decoder c.args.mark new c.in-Some-get.tables.now c.in-Some-encoding_of.encoding c.in-Some-mark_of.mark (sym c.in-Some-mark_of.ensures)

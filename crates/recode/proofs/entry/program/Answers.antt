@@ -2,7 +2,8 @@ use Rattle.std.proofs.Common.{ℕ, List, Option, inl, inr, map}
 use Rattle.recode_words.specs.Request.{AsksFor}
 use Rattle.recode_words.specs.declared.request.Request.TheVariants.{Run}
 use Rattle.recode_words.specs.declared.words.Words.{Words}
-use Rattle.recode.specs.Program.{AnswersProgram, AnswersWords, Ports, FileTexts, ports}
+use Rattle.recode.specs.Devices.{Ports, ports}
+use Rattle.recode.specs.Program.{AnswersProgram, AnswersWords, FileTexts}
 use Rattle.recode.proofs.entry.program.Goals as goal
 
 answers : {R W L : Type 0} (holds : FileTexts) (remaining : R → Option (List ℕ)) (contents : W → Option (List ℕ)) (logged : L → Option (List ℕ)) (before after : Ports R W L)

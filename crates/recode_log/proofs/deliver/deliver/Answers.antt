@@ -1,11 +1,22 @@
-use Rattle.std.proofs.Common.{◌∙◌, ◌+◌, ap, arith}
+use Rattle.std.proofs.Common.{◌∙◌, ◌+◌, ap, append-nil, arith, refl, sym}
 use Rattle.std.specs.List.{concat}
+use Rattle.std.proofs.KnownBytes.{Appends-nil}
 use Rattle.recode_log.specs.Counted.{passed_of}
 use Rattle.recode_log.specs.laws.Calls.{concat_one, passed_failed}
-use Rattle.recode_log.specs.laws.Counts.{counts_one, counts_then, counts_took, counts_took_none}
-use Rattle.recode_log.proofs.LineLemmas.{appends_kept, appends_more, appends_none, none_of, passed_more, passed_none, some_left, taken_within}
+use Rattle.recode_log.specs.laws.Counts.{offers_failed, offers_none, offers_took, offers_took_none, took_none}
+use Rattle.recode_log.proofs.LineLemmas.{appends_kept, appends_more, appends_none, passed_more, passed_none, room_left, some_left, taken_within}
 use Rattle.recode_log.proofs.deliver.deliver.Goals as goal
 use Rattle.recode_log.proofs.deliver.deliver.Goals.{in_default-via-in-Ok+else-taken-gt0, in_default-via-in_default}
+
+pub loop-at-init : goal.loop-at-init
+loop-at-init g c = record {
+  within = omega arith;
+  appended = Appends-nil _;
+  passed = sym (append-nil _);
+  count = refl;
+  offers = offers_none _ _;
+  untouched = λ h. refl;
+}
 
 pub loop-at-preserved : goal.loop-at-preserved
 loop-at-preserved g c = record {
@@ -13,7 +24,7 @@ loop-at-preserved g c = record {
   appended = appends_more _ _ _ _ _ _ c.loop-at.invariant.appended c.in-Ok.ensures.bytes;
   passed = passed_more _ _ _ _ _ _ c.loop-at.invariant.passed (concat_one _ _ _ _ c.in-Ok.ensures.call);
   count = c.in-Ok.ensures.taken c.if-taken-gt0.true ∙ c.loop-at.invariant.count;
-  counts = counts_then _ _ _ c.loop-at.invariant.counts (counts_took _ _ _ _ c.in-Ok.ensures.call c.if-taken-gt0.true c.in-Ok.ensures.bound (c.in-Ok.ensures.taken c.if-taken-gt0.true));
+  offers = offers_took _ _ _ _ _ c.loop-at.invariant.offers c.loop-at.invariant.passed _ _ c.in-Ok.ensures.call (room_left _ _ c.loop-at.invariant.within) c.if-taken-gt0.true c.in-Ok.ensures.bound (c.in-Ok.ensures.taken c.if-taken-gt0.true);
   untouched = λ h. absurd (omega arith);
 }
 
@@ -41,15 +52,18 @@ returns-in_default-clause-failed g c = elim c.in_default.branch [
     earlier = _;
     last = _;
     ends = w.in-Ok.ensures.call;
-    failed = (some_left _ _ c.loop-at-test.true, none_of _ _ w.if-taken-gt0.false);
+    failed = took_none _ _ _ w.if-taken-gt0.false (some_left _ _ c.loop-at-test.true);
   }
-  | in_default-via-in_default w ↦ record { earlier = _; last = _; ends = w.in_default.ensures.call; failed = tt }
+  | in_default-via-in_default w ↦ record { earlier = _; last = _; ends = w.in_default.ensures.call; failed = refl }
 ]
 
-pub returns-in_default-clause-counts : goal.returns-in_default-clause-counts
-returns-in_default-clause-counts g c = elim c.in_default.branch [
-  | in_default-via-in-Ok+else-taken-gt0 w ↦
-      let some = some_left _ _ c.loop-at-test.true in
-      counts_then _ _ _ c.loop-at.invariant.counts (counts_took_none _ _ _ _ w.in-Ok.ensures.call w.if-taken-gt0.false some (w.in-Ok.ensures.none_taken (omega (arith, w.if-taken-gt0.false)) some))
-  | in_default-via-in_default w ↦ counts_then _ _ _ c.loop-at.invariant.counts (counts_one _ _ _ w.in_default.ensures.call (some_left _ _ c.loop-at-test.true) w.in_default.ensures.err)
-]
+pub returns-in_default-clause-offers : goal.returns-in_default-clause-offers
+returns-in_default-clause-offers g c =
+    let i = c.loop-at.invariant in
+    let room = room_left _ _ i.within in
+    let some = some_left _ _ c.loop-at-test.true in
+    elim c.in_default.branch [
+      | in_default-via-in-Ok+else-taken-gt0 w ↦
+          offers_took_none _ _ _ _ _ i.offers i.passed _ _ w.in-Ok.ensures.call room w.if-taken-gt0.false some (w.in-Ok.ensures.none_taken (omega (arith, w.if-taken-gt0.false)) some)
+      | in_default-via-in_default w ↦ offers_failed _ _ _ _ _ i.offers i.passed _ w.in_default.ensures.call room some w.in_default.ensures.err
+    ]

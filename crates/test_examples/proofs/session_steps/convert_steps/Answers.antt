@@ -1,6 +1,7 @@
-use Rattle.std.proofs.Common.{◌≡◌, ℕ, List, [], Ok, refl, sym, subst, ◌∙◌, ap, arith}
+use Rattle.std.proofs.Common.{◌≡◌, ℕ, List, [], Ok, length, refl, sym, subst, ◌∙◌, ap, arith}
 use Rattle.std.proofs.lemmas.Result.{err_from_is_err_and}
 use Rattle.recode.specs.Devices.{Devices, devices_in}
+use Rattle.recode.specs.Job.{input_text}
 use Rattle.recode.specs.Told.{Told, TellWhatPassed}
 use Rattle.recode.specs.Session.{Fails}
 use Rattle.recode.specs.Step.{Finishes, Stops}
@@ -64,7 +65,8 @@ returns-clause-part c =
     rw (c.into_inner-2.ensures, c.into_inner-3.ensures) (
     gave_decided j c.args.input.now (inner_of c.steps.reader).rest.now _ _ t' c.steps.invariant.tells (view_of c.new-session.result) (view_of c.steps.session) c.args.steps c.steps.counter
     c.steps.invariant.gone_on c.steps-test.false (λ bytes. c.devices_tell.ensures.gave [] t'.reads _ _ bytes c.steps.invariant.tells.input)
-    (c.decided_pieces_are_converted.ensures.decided t t' j) (c.decided_pieces_are_converted.ensures.longest t t' j) (c.decided_pieces_are_converted.ensures.soon t t' j))
+    (c.decided_pieces_are_converted.ensures.decided t t' j) (c.decided_pieces_are_converted.ensures.longest t t' j) (c.decided_pieces_are_converted.ensures.soon t t' j)
+    _ c.characters-2.ensures)
 
 pub returns-in-Done-clause-whole : goal.returns-in-Done-clause-whole
 returns-in-Done-clause-whole c =
@@ -79,9 +81,12 @@ returns-in-Done-clause-whole c =
     let finishes : Finishes t1 t2 j.limit v.state w.state = subst (λ (k : Job). Finishes t1 t2 k.limit v.state w.state) s.job (c.step.ensures.done done) in
     let tells = c.devices_tell.ensures.goes_on t t1 t2 _ _ _ c.args.input.now refl c.steps.invariant.tells c.step.ensures.told.0 in
     let completes = (c.steps_are_a_run.ensures.completes t t1 t2 j (view_of c.new-session.result) w v.state c.in-Some.report c.requires.job c.new-session.ensures s.run finishes c.in-Some.ensures.tells).0 in
+    let is = c.devices_tell.ensures.input c.args.input.now [] t2.reads _ _ refl tells.input in
+    let counted = c.steps_are_a_run.ensures.characters t t1 t2 j (view_of c.new-session.result) v.state w.state completes.input c.new-session.ensures s.run finishes completes.given in
     rw (c.into_inner.ensures, c.into_inner-in-Done.ensures) (
-    gave_all j c.args.input.now (inner_of c.step.new.reader).rest.now _ _ t2 tells c.in-Some.report
-    (c.known_input.ensures.completes c.args.input.now t t2 j c.in-Some.report (c.devices_tell.ensures.input c.args.input.now [] t2.reads _ _ refl tells.input) completes))
+    gave_all j c.args.input.now (inner_of c.step.new.reader).rest.now _ _ t2 tells c.in-Some.report _
+    (c.known_input.ensures.completes c.args.input.now t t2 j c.in-Some.report is completes)
+    (c.characters.ensures ∙ counted ∙ ap (λ y. length (input_text j y)) (is.whole completes.input completes.given)))
 
 pub returns-in_err-step-clause-fault : goal.returns-in_err-step-clause-fault
 returns-in_err-step-clause-fault c =

@@ -14,8 +14,7 @@ returns-in_default-clause-encodes c utf8 = let b = c.in_default.ensures in absur
 pub returns-clause-encodes : goal.returns-clause-encodes
 returns-clause-encodes c utf8 =
     let told = c.from_utf8_part-status.ensures.encodes in
-    let asked = ap encoder_in c.most_read-most.ensures.unchanged in
-    let same = ap encoder_in (ap Some c.deref_mut.ensures.value ∙ sym c.in-Some-take.ensures.coder) ∙ asked in
+    let same = ap encoder_in (ap Some c.deref_mut.ensures.value ∙ sym c.in-Some-take.ensures.coder) in
     let most : ℕ = c.most_read-most.result in
     let p : IsFirstPart most c.args.text.now c.in-Some.part.now c.in-Some.is_whole = c.in-Some.ensures in
     let front : IsPartOf (text_prefix c.args.text.now) c.in-Some.part.now most = part_of_look c.args.text.now c.in-Some.part.now most p.looked p.looks p.is in
@@ -32,7 +31,7 @@ returns-clause-encodes c utf8 =
                 c.args.last c.in-Some.is_whole c.args.text.now c.in-Some.part.now most c.from_utf8_part-status.new.progress h p.whole
                 (λ long. part_goes e (Some c.from_utf8_part-status.new.coder) c.args.last c.args.text.now c.in-Some.part.now c.args.dst.now c.from_utf8_part-status.new.dst
                 most c.from_utf8_part-status.new.progress h size (c.from_utf8_part-status.ensures.read d.0)
-                (long_enough (encoder_in c.args.encoder.now.coder.coder) e most (length c.args.dst.now) (length c.in-Some.part.now) held c.most_read-most.ensures.most fits long))
+                (long_enough (encoder_in c.args.encoder.now.coder.coder) e most (length c.args.dst.now) (length c.in-Some.part.now) held c.most_read-most.ensures fits long))
                 d.1),
           );
     }
@@ -40,8 +39,7 @@ returns-clause-encodes c utf8 =
 pub returns-clause-encodes_before : goal.returns-clause-encodes_before
 returns-clause-encodes_before c malformed some =
     let told = c.from_utf8_part-status.ensures.encodes in
-    let asked = ap encoder_in c.most_read-most.ensures.unchanged in
-    let same = ap encoder_in (ap Some c.deref_mut.ensures.value ∙ sym c.in-Some-take.ensures.coder) ∙ asked in
+    let same = ap encoder_in (ap Some c.deref_mut.ensures.value ∙ sym c.in-Some-take.ensures.coder) in
     let most : ℕ = c.most_read-most.result in
     let p : IsFirstPart most c.args.text.now c.in-Some.part.now c.in-Some.is_whole = c.in-Some.ensures in
     let h : IsPartOf (text_prefix c.args.text.now) c.in-Some.part.now most = part_of_look c.args.text.now c.in-Some.part.now most p.looked p.looks p.is in
@@ -57,7 +55,7 @@ returns-clause-encodes_before c malformed some =
                 c.args.last c.in-Some.is_whole c.args.text.now c.in-Some.part.now most c.from_utf8_part-status.new.progress h malformed p.whole
                 (λ long. part_goes e (Some c.from_utf8_part-status.new.coder) false (text_prefix c.args.text.now) c.in-Some.part.now c.args.dst.now c.from_utf8_part-status.new.dst
                 most c.from_utf8_part-status.new.progress h size (c.from_utf8_part-status.ensures.read d.0)
-                (long_enough (encoder_in c.args.encoder.now.coder.coder) e most (length c.args.dst.now) (length c.in-Some.part.now) held c.most_read-most.ensures.most fits long))
+                (long_enough (encoder_in c.args.encoder.now.coder.coder) e most (length c.args.dst.now) (length c.in-Some.part.now) held c.most_read-most.ensures fits long))
                 d.1),
           );
     }

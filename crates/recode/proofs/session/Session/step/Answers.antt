@@ -1,5 +1,5 @@
 use Rattle.std.proofs.lemmas.List.{nil_from_length}
-use Rattle.std.proofs.Common.{◌≡◌, ◌≤◌, [], ap, arith, length, rules, sym, take, Err}
+use Rattle.std.proofs.Common.{◌≡◌, ◌≤◌, [], ap, arith, length, rules, sym, take}
 use Rattle.std.proofs.lemmas.Bool.{ne_eqb, eqb-true}
 use Rattle.recode_log.specs.Call.{passed_by}
 use Rattle.recode_log.specs.Counted.{history_of, inner_of}
@@ -10,7 +10,7 @@ use Rattle.recode.proofs.TraceLemmas.{Gave-one, GaveToEnd-one, handed_on}
 use Rattle.recode.proofs.StepLemmas.{stops_unread, stops_refused, stops_under}
 use Rattle.recode.proofs.LatencyLemmas.{finishes, steps_on}
 use Rattle.recode_log.specs.laws.Told.{ended_before, reads_one}
-use Rattle.recode.proofs.TellLemmas.{last_of_writers, not_of_reader, step_calls}
+use Rattle.recode.proofs.TellLemmas.{not_of_reader, step_calls}
 use Rattle.recode.proofs.session.Session.step.Given.{Over}
 use Rattle.recode.proofs.session.Session.step.Goals.{After-read}
 use Rattle.recode.proofs.session.Session.step.Goals as goal
@@ -72,5 +72,4 @@ pub returns-in_err-write_chunk-clause-calls : goal.returns-in_err-write_chunk-cl
 returns-in_err-write_chunk-clause-calls g c =
     let e = c.in_err-write_chunk.ensures.failures in
     let same = c.from_residual.ensures.1 in
-    let last = handed_on _ _ _ same (last_of_writers {T = Unit {0}} (Err _) _ _ _ e.not_other (search rules)) in
-    step_calls _ c.in-Ok.ensures.call c.read.auto.buf (sym (not_of_reader (Unit {0}) _ _ same e.not_reader)) (search rules) (search rules) last
+    step_calls _ c.in-Ok.ensures.call c.read.auto.buf (sym (not_of_reader (Unit {0}) _ _ same e.not_reader)) (search rules) (search rules) (handed_on _ _ _ same (search rules))

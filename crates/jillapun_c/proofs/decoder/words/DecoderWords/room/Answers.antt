@@ -1,0 +1,10 @@
+use Rattle.std.proofs.Common.{sym}
+use Rattle.jillapun_c.proofs.HandleWordLemmas.{asked_by_words, refused_if_unknown}
+use Rattle.jillapun_c.proofs.decoder.words.DecoderWords.room.Goals as goal
+
+pub returns-in_default : goal.returns-in_default
+returns-in_default c held is = refused_if_unknown c.args.count c.args.n held c.args.self is (sym c.in_default.ensures)
+
+pub returns : goal.returns
+returns c held is = rw c.unwrap_or.ensures
+    (asked_by_words c.args.count c.args.n held c.args.self c.in-Some.encoding c.max_buffer_length.result is c.if-not-self.false c.if-self.false (sym c.in-Some.ensures) c.max_buffer_length.ensures)

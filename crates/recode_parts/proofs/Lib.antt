@@ -1,0 +1,4 @@
+pub mod HeldLemmas
+pub mod MoveLemmas
+pub mod JoinLemmas
+pub mod WholeLemmas

@@ -1,0 +1,88 @@
+//! Joins the log of a part to the log of what stands before the part.
+
+ghost use Rattle.std.specs.Prelude.{◌≡◌, ◌-◌, ◌<◌, ◌^◌, OnErr, OnOk};
+ghost use Rattle.recode_log.specs.Counted.{failures_of, passed_of};
+ghost use Rattle.recode.specs.Devices.{reads_of};
+ghost use Rattle.recode_parts.specs.Joins.{JoinCalls, JoinsFirst, JoinsLog};
+
+use crate::before::Before;
+use crate::held::Held;
+use crate::lines::move_lines;
+use recode_log::Counted;
+use recode_log::deliver::deliver;
+use std::io::{Read, Write};
+use thiserror::Error;
+
+/// The most bytes that the log of a part can have: no log of a run is longer.
+pub const GREATEST_LOG: u64 = 1 << 54;
+
+/// Why a log was not joined.
+#[derive(Clone, Copy, PartialEq, Eq, Debug, Error)]
+pub enum JoinFault {
+    /// A call of the reader failed.
+    #[error("read fault")]
+    Read,
+    /// A call of the writer failed.
+    #[error("write fault")]
+    Write,
+    /// What was read is no log, or it is one with a line that, moved, would be none: its offset or
+    /// index would be over 2^48.
+    #[error("not a log")]
+    NotALog,
+}
+
+/// Joins the log of a part to that of what stands before it: reads the lines of the first to its
+/// end, and writes them to the second, with the bytes and the characters before the part added to
+/// their offsets and indexes. It holds 4 KiB of each, however long the log is.
+///
+/// - `Ok`: what was read is a log, and exactly its lines were written.
+/// - `Err`: a call of the reader (`Read`) or of the writer (`Write`) failed, or what was read is no
+///   log (`NotALog`). A prefix of the lines was written.
+///
+/// A message of `recode`, as stands behind the lines of a conversion that ended early, is no line
+/// of a log. Each call of the reader is a read with room for some bytes, and each of the writer a
+/// write of some. The condition, that fewer than 2^64 - 1 calls of each have failed, is tested by
+/// `Counted::failures`.
+pub fn join_log<R: Read, W: Write>(
+    part: &mut Counted<R>,
+    before: Before,
+    whole: &mut Counted<W>,
+) -> Result<(), JoinFault>
+    requires part { failures_of part.old < 2 ^ 64 - 1 }
+    requires whole { failures_of whole.old < 2 ^ 64 - 1 }
+    ensures ok { OnOk result (JoinsLog before.bytes before.characters (reads_of part.old)
+        (reads_of part.new) (passed_of whole.old) (passed_of whole.new)) }
+    ensures err { OnErr result (JoinsFirst before.bytes before.characters (reads_of part.old)
+        (reads_of part.new) (passed_of whole.old) (passed_of whole.new)) }
+    ensures calls { JoinCalls part.old part.new whole.old whole.new }
+    ensures part { OnOk result (failures_of part.new ≡ failures_of part.old) }
+    ensures whole { OnOk result (failures_of whole.new ≡ failures_of whole.old) }
+{
+    let mut held = Held::none();
+    let mut dst = [0; 4096];
+    let mut left = GREATEST_LOG;
+    'log: loop {
+        let Some(moved) = move_lines(held.as_slice(), before, &mut dst) else {
+            return Err(JoinFault::NotALog);
+        };
+        deliver(whole, &dst[..moved.written], JoinFault::Write)?;
+        held.drop_first(moved.read);
+        if moved.read == 0 {
+            if held.is_full() {
+                return Err(JoinFault::NotALog);
+            }
+            let count = held.read(part)?;
+            if count == 0 {
+                return if held.is_empty() {
+                    Ok(())
+                } else {
+                    Err(JoinFault::NotALog)
+                };
+            }
+            if count as u64 > left {
+                return Err(JoinFault::NotALog);
+            }
+            left -= count as u64;
+        }
+    }
+}

@@ -1,0 +1,544 @@
+"""Calls of the exports for labels, tables, streams and conversions, beside plain programs, for `c_interface.py`.
+
+Inputs are random, as `fuzz.py` makes them, in all 40 encodings, cut at random places and with random room. What must come of
+them is worked out by `standard.py` and `plain_recode.py`, which follow the steps of the Encoding Standard.
+"""
+
+import ctypes
+import os
+import random
+import re
+
+from steps import TOP
+
+import fuzz
+import plain_recode
+import standard
+from c_header import CONSTANT, CONSTANTS, read
+from c_loaded import units
+from plain_recode import Job
+from standard import UNMAPPABLE
+
+SEED, ROUNDS = 2026, 600
+INDEXES = os.path.join(TOP, "indexes")
+
+# The numbers of `status.rt`, by their names.
+NUMBERS = {found[1]: found[3] for found in map(CONSTANT.fullmatch, read(CONSTANTS).split("\n")) if found}
+NUMBERS = {name: 2**64 - 1 if value == "usize::MAX" else int(value) for name, value in NUMBERS.items()}
+MARKS = {"sniff": NUMBERS["SNIFF"], "remove": NUMBERS["REMOVE"], "keep": NUMBERS["KEEP"]}
+POLICIES = {"decimal": NUMBERS["DECIMAL"], "hexadecimal": NUMBERS["HEXADECIMAL"], "stop": NUMBERS["STOP"]}
+
+NO_LIMIT = 2**64 - 1
+# Encodings of which no byte is a character.
+UNTOLD = ("UTF-16BE", "UTF-16LE", "replacement")
+# Those in which a character may have more than one byte.
+MULTIBYTE = ("UTF-8", "GBK", "gb18030", "Big5", "EUC-JP", "ISO-2022-JP", "Shift_JIS", "EUC-KR")
+# No stream takes more calls.
+MOST_CALLS = 100000
+
+
+class Wrong(Exception):
+    """A call that returned what it must not."""
+
+
+def by_number(name):
+    """What names are ordered by: the numbers in them count as numbers."""
+    return [int(part) if part.isdigit() else part for part in re.split(r"(\d+)", name.lower())]
+
+
+def text_of(points):
+    return "".join(map(chr, points))
+
+
+def encoded(encoder, points):
+    """The bytes of a text without what has none, and with decimal references for it; and each lost character."""
+    plain, replaced, lost = bytearray(), bytearray(), []
+    for index, point in enumerate(points):
+        for item in encoder.handle(point):
+            if item < UNMAPPABLE:
+                plain.append(item)
+                replaced.append(item)
+            else:
+                lost.append((index, item - UNMAPPABLE))
+                replaced += b"&#%d;" % (item - UNMAPPABLE)
+    end = bytes(encoder.finish())
+    return bytes(plain) + end, bytes(replaced) + end, lost
+
+
+# The byte order marks, with the encodings that they name, and the indexes that some encodings need.
+BOMS = [("UTF-8", b"\xef\xbb\xbf"), ("UTF-16BE", b"\xfe\xff"), ("UTF-16LE", b"\xff\xfe")]
+NEEDS = {
+    "UTF-8": (),
+    "windows-1252": ("windows-1252",),
+    "Shift_JIS": ("jis0208",),
+    "EUC-JP": ("jis0208", "jis0212"),
+    "ISO-2022-JP": ("jis0208", "iso-2022-jp-katakana"),
+    "gb18030": ("gb18030", "gb18030-ranges"),
+    "replacement": (),
+}
+
+
+class Streams:
+    """The calls over tables with all indexes."""
+
+    def __init__(self, library):
+        self.library, self.random = library, random.Random(SEED)
+        self.encodings = standard.encodings(INDEXES)
+        self.inputs = fuzz.Inputs(self.encodings)
+        self.wrong, self.tables = [], self.loaded()
+        self.numbers = {name: library.jillapun_for_label(name.encode()) for name in self.encodings}
+
+    def same(self, name, given, got, want):
+        if got != want:
+            self.wrong.append("%s of %r: %r and not %r" % (name, given, got, want))
+
+    def must(self, name, status, want="OK"):
+        if status != NUMBERS[want]:
+            raise Wrong("%s: status %d and not %s" % (name, status, want))
+
+    def files(self, texts):
+        """Index files, as a call takes them, from their names and their texts, which must live as long."""
+        files = (self.library.struct("IndexFile") * max(len(texts), 1))()
+        for file, (name, text) in zip(files, texts):
+            self.library.fill(file.name, name)
+            self.library.fill(file.text, text)
+        return files
+
+    def loaded(self):
+        """Tables with all indexes. Files that are not taken leave none, and the fault names the first."""
+        names = sorted(name for name in os.listdir(INDEXES) if name.startswith("index-"))
+        good = [(name.encode(), read_bytes(os.path.join(INDEXES, name))) for name in names]
+        tables, fault = self.library.struct("TablesHandle")(), self.library.struct("IndexFault")()
+        lines = good[1][1].split(b"\n")
+        row = next(at for at, line in enumerate(lines) if line and not line.startswith(b"#"))
+        faulty = b"\n".join([*lines[:row], b"0\tno number", *lines[row:]])
+        for name, text, status, line in ((b"index-none.txt", b"", "UNKNOWN", 0), (good[1][0], faulty, "BAD_INDEX", row + 1)):
+            files = [good[0], (name, text), *good[2:]]
+            self.must("tables_new", self.library.jillapun_tables_new(self.files(files), tables, fault), status)
+            self.same("fault", name, (fault.file, fault.line), (1, line))
+            is_ready = self.library.jillapun_tables_is_ready(tables, 0)
+            self.must("is_ready", is_ready, "CLOSED")
+        self.must("tables_new", self.library.jillapun_tables_new(self.files(good), tables, fault))
+        for number in range(len(self.encodings)):
+            self.must("is_ready", self.library.jillapun_tables_is_ready(tables, number))
+        return tables
+
+    def labels(self):
+        """Each name is a label of its encoding, and the numbers are those of the order of the names."""
+        for number, name in enumerate(sorted(self.encodings, key=by_number)):
+            room = bytearray(40)
+            length = self.library.jillapun_name(number, room)
+            self.same("name", number, bytes(room[:length]), name.encode())
+            self.same("for_label", name, self.numbers[name], number)
+            output = self.library.jillapun_output_encoding(number)
+            self.same("output_encoding", name, output, self.numbers[self.encodings[name].output])
+            self.kind(name, number)
+        self.same("for_label", "?", self.library.jillapun_for_label(b"?"), NUMBERS["NO_ENCODING"])
+        none = self.library.jillapun_for_label_no_replacement(b"iso-2022-kr")
+        self.same("for_label_no_replacement", "iso-2022-kr", none, NUMBERS["NO_ENCODING"])
+        self.same("name", 40, self.library.jillapun_name(40, bytearray(40)), NUMBERS["REFUSED"])
+        length = ctypes.c_size_t()
+        for name, mark in (*BOMS, (None, b"\xef\xbb"), (None, b"")):
+            number = self.library.jillapun_for_bom(mark + b"a" if name else mark, length)
+            want = (self.numbers[name], len(mark)) if name else (NUMBERS["NO_ENCODING"], 0)
+            self.same("for_bom", mark, (number, length.value), want)
+
+    def kind(self, name, number):
+        """What is told of an encoding as a whole."""
+        call, replaces = self.library, name == "replacement"
+        found = call.jillapun_for_label_no_replacement(name.encode())
+        self.same("for_label_no_replacement", name, found, NUMBERS["NO_ENCODING"] if replaces else number)
+        self.same("is_single_byte", name, call.jillapun_is_single_byte(number), name not in (*UNTOLD, *MULTIBYTE))
+        is_compatible = name not in (*UNTOLD, "ISO-2022-JP")
+        self.same("is_ascii_compatible", name, call.jillapun_is_ascii_compatible(number), is_compatible)
+        can_encode = name in (*UNTOLD, "UTF-8")
+        self.same("can_encode_everything", name, call.jillapun_can_encode_everything(number), can_encode)
+
+    def needs(self):
+        """The files that encodings need, one after the other."""
+        for name, files in NEEDS.items():
+            for place, file in enumerate((*files, None)):
+                room = bytearray(40)
+                length = self.library.jillapun_needs(self.numbers[name], place, room)
+                got = None if length == NUMBERS["REFUSED"] else bytes(room[:length]).decode()
+                self.same("needs", (name, place), got, file and "index-%s.txt" % file)
+
+    def latin1(self):
+        """How far a new decoder says that bytes are Latin1: they are so if each alone is the character of its number, and, where
+        a character may have more bytes, if it is ASCII."""
+        call = self.library.jillapun_decoder_latin1_byte_compatible_up_to
+        for name, number in self.numbers.items():
+            most = 256 if name in standard.SINGLE_BYTE else 128
+            alone = [standard.pieces(self.encodings[name].decoder(), bytes([byte])) for byte in range(most)]
+            own = [byte for byte, pieces in enumerate(alone) if list(pieces) == [(0, 1, (byte,))]]
+            for mark in MARKS:
+                handle = self.library.struct("DecoderHandle")()
+                self.must("decoder_new", self.library.jillapun_decoder_new(self.tables, number, MARKS[mark], handle))
+                is_known = name not in UNTOLD and (mark == "keep" or (mark == "remove" and name != "UTF-8"))
+                for _ in range(20):
+                    data = bytes(self.random.choices(own or [0], k=self.random.randint(0, 9))) + self.random.randbytes(3)
+                    length = next((at for at, byte in enumerate(data) if byte not in own), len(data))
+                    wanted = length if is_known else NUMBERS["REFUSED"]
+                    self.same("latin1", (name, mark, data), call(handle, data), wanted)
+                self.library.jillapun_decoder_free(handle)
+                self.same("latin1", "freed", call(handle, b"a"), NUMBERS["REFUSED"])
+
+    def decoded(self, call, job, parts, to_units):
+        """A stream by a decoder of its own: its text, its faults, and whether a call told of errors."""
+        handle = self.library.struct("DecoderHandle")()
+        new = self.library.jillapun_decoder_new(self.tables, self.numbers[job.source], MARKS[job.mark], handle)
+        self.must("decoder_new", new)
+        text, faults, had_errors, before = bytearray(), [], False, 0
+        progress, most = self.library.struct("Progress")(), self.random.choice((4, 7, 40, 5000))
+        for number, part in enumerate(parts):
+            last = number == len(parts) - 1
+            for _ in range(MOST_CALLS):
+                size = self.random.randint(4, most)
+                room = (units([0] * size), size) if to_units else bytearray(size)
+                self.must(call, getattr(self.library, call)(handle, part, room, last, progress))
+                part, before = part[progress.read :], before + progress.read
+                written = room[0][: progress.written] if to_units else room[: progress.written]
+                text += b"".join(unit.to_bytes(2, "little") for unit in written) if to_units else written
+                had_errors |= progress.had_errors
+                if progress.outcome == NUMBERS["INPUT_EMPTY"]:
+                    break
+                if progress.outcome == NUMBERS["MALFORMED"]:
+                    length = progress.malformed_length
+                    faults.append((before - progress.malformed_after - length, length))
+                    text += "\ufffd".encode("utf-16-le" if to_units else "utf-8")
+            else:
+                raise Wrong("%s does not end" % call)
+        self.must("after the end", getattr(self.library, call)(handle, b"", room, True, progress), "FINISHED")
+        self.library.jillapun_decoder_free(handle)
+        self.library.jillapun_decoder_free(handle)
+        self.must("after it is freed", getattr(self.library, call)(handle, b"", room, True, progress), "CLOSED")
+        return text.decode("utf-16-le" if to_units else "utf-8"), faults, had_errors
+
+    def decoders(self, job, data, parts):
+        """The four calls of a decoder, and the call for a whole input."""
+        pieces = plain_recode.pieces(self.encodings, job, data)[1]
+        text = text_of(point for _, _, points in pieces for point in ((0xFFFD,) if points is None else points))
+        faults = [(start, end - start) for start, end, points in pieces if points is None]
+        for to_units, name in ((False, "utf8"), (True, "utf16")):
+            call = "jillapun_decoder_decode_to_" + name
+            self.same(call, (job, data, parts), self.decoded(call, job, parts, to_units), (text, [], bool(faults)))
+            call += "_without_replacement"
+            self.same(call, (job, data, parts), self.decoded(call, job, parts, to_units)[:2], (text, faults))
+        words = self.numbers[job.source], MARKS[job.mark]
+        self.in_one_call("jillapun_decode", words, data, text.encode(), bool(faults))
+        self.queried(job, data, text)
+        if not faults:
+            self.queried_without_faults(job, data, text)
+
+    def queried(self, job, data, text):
+        """A whole stream in one call, in the room that its query asks for."""
+        progress = self.library.struct("Progress")()
+        for name, codec in (("utf8", "utf-8"), ("utf16", "utf-16-le")):
+            handle = self.library.struct("DecoderHandle")()
+            new = self.library.jillapun_decoder_new(self.tables, self.numbers[job.source], MARKS[job.mark], handle)
+            self.must("decoder_new", new)
+            self.must("decoder_new twice", self.library.jillapun_decoder_new(self.tables, 0, 0, handle), "IN_USE")
+            self.same("encoding", job, self.library.jillapun_decoder_encoding(handle), self.numbers[job.source])
+            size = getattr(self.library, "jillapun_decoder_max_%s_length" % name)(handle, len(data))
+            room = bytearray(size) if name == "utf8" else (units([0] * size), size)
+            call = "jillapun_decoder_decode_to_" + name
+            self.must(call, getattr(self.library, call)(handle, data, room, True, progress))
+            written = room[: progress.written] if name == "utf8" else bytes(room[0])[: 2 * progress.written]
+            self.same(call, (job, data), (progress.outcome, written.decode(codec)), (NUMBERS["INPUT_EMPTY"], text))
+            self.library.jillapun_decoder_free(handle)
+
+    def queried_without_faults(self, job, data, text):
+        """A whole stream that has no malformed sequence, up to the first, in the room that the query for that asks for."""
+        handle, progress = self.library.struct("DecoderHandle")(), self.library.struct("Progress")()
+        new = self.library.jillapun_decoder_new(self.tables, self.numbers[job.source], MARKS[job.mark], handle)
+        self.must("decoder_new", new)
+        room = bytearray(self.library.jillapun_decoder_max_utf8_length_without_replacement(handle, len(data)))
+        call = "jillapun_decoder_decode_to_utf8_without_replacement"
+        self.must(call, getattr(self.library, call)(handle, data, room, True, progress))
+        written = bytes(room[: progress.written]).decode()
+        self.same("room without U+FFFD", (job, data), (progress.outcome, written), (NUMBERS["INPUT_EMPTY"], text))
+        self.library.jillapun_decoder_free(handle)
+
+    def in_one_call(self, call, words, given, output, had):
+        """A whole input or text at once: in room that is enough, which stays as it was after the output, and in too little."""
+        written, filled = ctypes.c_size_t(), b"\x5a" * self.random.randint(0, 5)
+        room = bytearray(b"\x5a" * len(output) + filled)
+        status = getattr(self.library, call)(self.tables, *words, given, room, written)
+        got = status, bytes(room), written.value
+        self.same(call, (words, given), got, (NUMBERS["LOSSY" if had else "OK"], output + filled, len(output)))
+        if output:
+            room = bytearray(len(output) - 1)
+            status = getattr(self.library, call)(self.tables, *words, given, room, written)
+            got = status, set(room) <= {0}, written.value
+            self.same("too small a room", (call, words, given), got, (NUMBERS["ROOM"], True, len(output)))
+
+    def refused(self):
+        """Whole inputs and texts that are not taken: nothing is written."""
+        closed, ready, utf8 = self.library.struct("TablesHandle")(), self.tables, self.numbers["UTF-8"]
+        for call, tables, words, given, status in (
+            ("jillapun_decode", closed, (utf8, MARKS["keep"]), b"a", "CLOSED"),
+            ("jillapun_decode", ready, (len(self.numbers), MARKS["keep"]), b"a", "UNKNOWN"),
+            ("jillapun_decode", ready, (utf8, len(MARKS)), b"a", "UNKNOWN"),
+            ("jillapun_encode", closed, (utf8,), b"a", "CLOSED"),
+            ("jillapun_encode", ready, (len(self.numbers),), b"a", "UNKNOWN"),
+            ("jillapun_encode", ready, (utf8,), b"a\xff", "NOT_UTF8"),
+        ):
+            room, written = bytearray(8), ctypes.c_size_t(9)
+            self.must(call, getattr(self.library, call)(tables, *words, given, room, written), status)
+            self.same(call, status, (bytes(room), written.value), (bytes(8), 0))
+
+    def coded(self, call, target, points, of_units):
+        """A text by an encoder of its own: its bytes, its lost characters, and whether a call told of some."""
+        handle = self.library.struct("EncoderHandle")()
+        self.must("encoder_new", self.library.jillapun_encoder_new(self.tables, self.numbers[target], handle))
+        progress, output, lost, had, index = self.library.struct("EncoderProgress")(), bytearray(), [], False, 0
+        if not of_units:
+            room = bytearray(40)
+            self.must(call, getattr(self.library, call)(handle, b"\xffa", room, False, progress), "NOT_UTF8")
+            self.same(call, "no text", (progress.read, progress.written, bytes(room)), (0, 0, bytes(40)))
+        place = self.random.randint(0, len(points))
+        most = self.random.choice((14, 60, 5000))
+        for part, last in ((points[:place], False), (points[place:], True)):
+            text = text_of(part)
+            for _ in range(MOST_CALLS):
+                room = bytearray(self.random.randint(14, most))
+                source = self.source(text, of_units)
+                self.must(call, getattr(self.library, call)(handle, source, room, last, progress))
+                count = characters(text, progress.read, of_units)
+                index, text = index + count, text[count:]
+                output += room[: progress.written]
+                had |= progress.had_unmappable
+                if progress.outcome == NUMBERS["INPUT_EMPTY"]:
+                    break
+                if progress.outcome == NUMBERS["UNMAPPABLE"]:
+                    lost.append((index - 1, progress.scalar))
+            else:
+                raise Wrong("%s does not end" % call)
+        # Then it is as a new one.
+        self.must("after the end", getattr(self.library, call)(handle, self.source("", of_units), room, True, progress))
+        self.same("after the end", target, (progress.read, progress.written), (0, 0))
+        self.library.jillapun_encoder_free(handle)
+        self.must("freed", getattr(self.library, call)(handle, self.source("", of_units), room, True, progress), "CLOSED")
+        return bytes(output), lost, had
+
+    @staticmethod
+    def source(text, of_units):
+        if not of_units:
+            return text.encode()
+        data = text.encode("utf-16-le")
+        return units([int.from_bytes(data[at : at + 2], "little") for at in range(0, len(data), 2)]), len(data) // 2
+
+    def encoders(self, job, size):
+        """The four calls of an encoder, and the call for a whole text."""
+        points = self.inputs.text(self.random, [job.source, job.target], size)
+        output = self.encodings[job.target].output
+        plain, replaced, lost = encoded(self.encodings[output].encoder(), points)
+        self.in_one_call("jillapun_encode", (self.numbers[job.target],), text_of(points).encode(), replaced, bool(lost))
+        for of_units, name in ((False, "utf8"), (True, "utf16")):
+            call = "jillapun_encoder_encode_from_" + name
+            self.same(call, (job, points), self.coded(call, job.target, points, of_units), (replaced, [], bool(lost)))
+            call += "_without_replacement"
+            self.same(call, (job, points), self.coded(call, job.target, points, of_units)[:2], (plain, lost))
+            if not of_units:
+                self.malformed(job, points)
+            if not lost:
+                self.asked(call, "jillapun_encoder_max_length_from_%s_without_replacement" % name, job, points, of_units, plain)
+                call = "jillapun_encoder_encode_from_" + name
+                self.asked(call, "jillapun_encoder_max_length_from_%s_if_no_unmappables" % name, job, points, of_units, plain)
+
+    def malformed(self, job, points):
+        """A text in UTF-8, cut or changed at some place, by calls with room for 0 to 20 bytes: what is before the first
+        malformed sequence is encoded, and the call that begins there takes nothing."""
+        text, output = text_of(points).encode(), self.encodings[job.target].output
+        place = self.random.randint(0, len(text))
+        broken = text[:place] + self.random.choice((b"", b"\x80", b"\xff", b"\xed\xa0\x80", b"\xf0\x9f\x92")) + text[place + 1 :]
+        broken = self.random.choice((broken, text[:place]))
+        valid = self.valid_len(broken)
+        plain, replaced, _ = encoded(self.encodings[output].encoder(), [ord(c) for c in broken[:valid].decode()])
+        for name, want in (("", replaced), ("_without_replacement", plain)):
+            call, progress, handle = "jillapun_encoder_encode_from_utf8" + name, self.library.struct("EncoderProgress")(), self.handle_of(job.target)
+            rest, made, last = broken, bytearray(), self.random.random() < 0.5
+            for _ in range(MOST_CALLS):
+                room = bytearray(b"\x5a" * self.random.randint(0, 20))
+                status = getattr(self.library, call)(handle, rest, room, last, progress)
+                if status != NUMBERS["OK"]:
+                    break
+                rest = rest[progress.read :]
+                made += room[: progress.written]
+                self.same("after the output", (call, broken), set(room[progress.written :]) <= {0x5A}, True)
+                if progress.outcome == NUMBERS["INPUT_EMPTY"]:
+                    break
+            else:
+                raise Wrong("%s does not end" % call)
+            told = status, len(broken) - len(rest), progress.outcome
+            if valid == len(broken):
+                self.same(call, (job, broken), told, (NUMBERS["OK"], valid, NUMBERS["INPUT_EMPTY"]))
+            else:
+                self.same(call, (job, broken), told, (NUMBERS["NOT_UTF8"], valid, 0))
+                self.same("at a malformed sequence", broken, (progress.read, progress.written, set(room) <= {0x5A}), (0, 0, True))
+            # The end of the stream: a last escape, if it was not written yet.
+            room = bytearray(14)
+            self.must(call, getattr(self.library, call)(handle, b"", room, True, progress))
+            self.same(call, (job, broken), bytes(made + room[: progress.written]), want)
+            self.library.jillapun_encoder_free(handle)
+
+    def handle_of(self, target):
+        """An encoder of a new stream."""
+        handle = self.library.struct("EncoderHandle")()
+        self.must("encoder_new", self.library.jillapun_encoder_new(self.tables, self.numbers[target], handle))
+        return handle
+
+    @staticmethod
+    def valid_len(data):
+        """How much of some bytes Python reads as UTF-8 before the first fault."""
+        try:
+            data.decode()
+            return len(data)
+        except UnicodeDecodeError as fault:
+            return fault.start
+
+    def asked(self, call, query, job, points, of_units, plain):
+        """A text without a lost character in one call, in the room that a query asks for; and what else an encoder tells."""
+        handle, progress = self.library.struct("EncoderHandle")(), self.library.struct("EncoderProgress")()
+        self.must("encoder_new", self.library.jillapun_encoder_new(self.tables, self.numbers[job.target], handle))
+        number = self.library.jillapun_encoder_encoding(handle)
+        self.same("encoder_encoding", job.target, number, self.numbers[self.encodings[job.target].output])
+        source = self.source(text_of(points), of_units)
+        room = bytearray(getattr(self.library, query)(handle, source[1] if of_units else len(source)))
+        self.must(call, getattr(self.library, call)(handle, source, room, True, progress))
+        self.same(query, (job, points), (progress.outcome, bytes(room[: progress.written])), (NUMBERS["INPUT_EMPTY"], plain))
+        self.same("after the end", job.target, self.library.jillapun_encoder_has_pending_state(handle), False)
+        self.library.jillapun_encoder_free(handle)
+
+    def pending(self):
+        """The set in force of ISO-2022-JP, up to the end of the text."""
+        handle, progress = self.library.struct("EncoderHandle")(), self.library.struct("EncoderProgress")()
+        self.must("encoder_new", self.library.jillapun_encoder_new(self.tables, self.numbers["ISO-2022-JP"], handle))
+        for text, last, is_pending in (("a", False, False), ("\u3042", False, True), ("b", False, False), ("\u3042", True, False)):
+            self.library.jillapun_encoder_encode_from_utf8(handle, text.encode(), bytearray(40), last, progress)
+            self.same("pending", text, self.library.jillapun_encoder_has_pending_state(handle), is_pending)
+        self.library.jillapun_encoder_free(handle)
+
+    def conversions(self, job, data):
+        """An input from memory to memory, in one call and by steps."""
+        self.given = data
+        run = plain_recode.Run(self.encodings, job, data)
+        wanted = "STOPPED" if run.stop else "OK" if run.is_faithful else "LOSSY"
+        numbers = self.numbers[job.source], self.numbers[job.target], MARKS[job.mark], POLICIES[job.policy]
+        self.in_memory(job, data, run, wanted, numbers)
+        self.by_steps(job, data, run, wanted, numbers)
+        if data and not run.stop:
+            self.past_the_limit(job, data, run, numbers)
+
+    def steps(self, numbers, limit, parts):
+        """A conversion by steps, with little room in some calls: the last status, the output, the losses and the report."""
+        new, step, loss = self.library.jillapun_converter_new, self.library.jillapun_converter_step, self.library.struct("Loss")
+        handle, report = self.library.struct("ConverterHandle")(), self.library.struct("Report")()
+        self.must("converter_new", new(self.tables, *numbers, limit, handle))
+        self.must("converter_new twice", new(self.tables, *numbers, limit, handle), "IN_USE")
+        progress, most, losses = self.library.struct("ConverterProgress")(), self.random.choice((1, 9, 5000)), []
+        # The end comes with the last bytes, or after them.
+        output, parts = bytearray(), [*parts, b""] if not parts or self.random.random() < 0.5 else [*parts]
+        for _ in range(MOST_CALLS):
+            room, filled = bytearray(b"\x5a" * self.random.randint(0, most)), (loss * self.random.randint(0, 2))()
+            last = len(parts) == 1
+            status = step(handle, parts[0], last, room, filled, progress, report)
+            within = progress.read <= len(parts[0]), progress.written <= len(room), progress.losses <= len(filled)
+            self.same("told within", (numbers, parts), within, (True, True, True))
+            parts[0] = parts[0][progress.read :]
+            output += room[: progress.written]
+            losses += [(it.kind, it.place, it.number) for it in filled[: progress.losses]]
+            self.same("after the output", (numbers, parts), set(room[progress.written :]) <= {0x5A}, True)
+            if status != NUMBERS["GOES_ON"]:
+                break
+            if not parts[0] and not last and self.random.random() < 0.9:
+                del parts[0]
+        else:
+            raise Wrong("a conversion by steps does not end")
+        got = status, bytes(output), losses, told_in(report)
+        self.must("after the end", step(handle, b"a", True, room, filled, progress, report), "FINISHED")
+        self.library.jillapun_converter_free(handle)
+        self.must("after it is freed", step(handle, b"a", True, room, filled, progress, report), "CLOSED")
+        return got
+
+    def by_steps(self, job, data, run, wanted, numbers):
+        """An input by steps, cut at random places."""
+        parts = fuzz.cut(self.random, data)
+        told = self.told(run)
+        got = self.steps(numbers, NO_LIMIT, parts)
+        self.same("steps", (job, data, parts), got, (NUMBERS[wanted], bytes(run.output), losses_of(run), told))
+
+    def past_the_limit(self, job, data, run, numbers):
+        """An input that is longer than the limit: what comes is a part of the output."""
+        status, output, losses, told = self.steps(numbers, self.random.randint(0, len(data) - 1), fuzz.cut(self.random, data))
+        self.same("steps", (job, data), (status, told), (NUMBERS["TOO_LONG"], (0, 0, 0, 0, 0, 0)))
+        is_part = bytes(run.output).startswith(output) and losses_of(run)[: len(losses)] == losses
+        self.same("a part of the output", (job, data, output, losses), is_part, True)
+
+    def told(self, run):
+        """What has to be reported: counts if the run ended, else the character that stopped it."""
+        return (0, 0, 0, 0, *run.stop) if run.stop else (len(self.given), run.bad, run.lost, len(run.text), 0, 0)
+
+    def in_memory(self, job, data, run, wanted, numbers):
+        losses = losses_of(run)
+        room = bytearray(len(run.output) + self.random.randint(0, 5))
+        records = (self.library.struct("Loss") * (len(losses) + 1))()
+        report = self.library.struct("Report")()
+        status = self.library.jillapun_convert(self.tables, *numbers, NO_LIMIT, data, room, records, report)
+        self.same("convert", (job, data), status, NUMBERS[wanted])
+        got = [(it.kind, it.place, it.number) for it in records[: report.losses]]
+        self.same("output", (job, data), bytes(room[: report.written]), bytes(run.output))
+        self.same("losses", (job, data), got, losses)
+        self.same("report", (job, data), told_in(report), self.told(run))
+        if run.output:
+            room = bytearray(len(run.output) - 1)
+            status = self.library.jillapun_convert(self.tables, *numbers, NO_LIMIT, data, room, records, report)
+            self.same("too small a room", (job, data), (status, report.written, set(room) <= {0}), (NUMBERS["ROOM"], len(run.output), True))
+
+
+def told_in(report):
+    """What a report says of a conversion."""
+    return report.read, report.bad, report.lost, report.characters, report.index, report.scalar
+
+
+def losses_of(run):
+    """The records that the log of a run stands for."""
+    entries = [line.split() for line in run.log.decode().split("\n")[:-1]]
+    kinds = {"bad": NUMBERS["BAD"], "lost": NUMBERS["LOST"]}
+    return [(kinds[kind], int(place), int(number)) for kind, place, number in entries]
+
+
+def characters(text, read, of_units):
+    """How many characters of a text so many of its bytes or units are."""
+    count = 0
+    while read > 0:
+        read -= len(text[count].encode("utf-16-le")) // 2 if of_units else len(text[count].encode())
+        count += 1
+    return count
+
+
+def read_bytes(path):
+    with open(path, "rb") as file:
+        return file.read()
+
+
+def faults(library):
+    """What is wrong with the exports for streams and conversions."""
+    streams = Streams(library)
+    streams.labels()
+    streams.needs()
+    streams.pending()
+    streams.refused()
+    streams.latin1()
+    for _ in range(ROUNDS):
+        job = fuzz.job_of(streams.random, fuzz.WEIGHTED)
+        data = streams.inputs.data(streams.random, job, streams.random.choice((5, 40, 300)))
+        parts = fuzz.cut(streams.random, data) or [b""]
+        try:
+            streams.decoders(job, data, parts)
+            streams.encoders(job, streams.random.choice((3, 20, 150)))
+            streams.conversions(job, data)
+        except Wrong as fault:
+            streams.wrong.append("%s: %s" % (job, fault))
+    print("streams: %d random inputs, by labels, decoders, encoders, whole calls and conversions" % ROUNDS)
+    return streams.wrong

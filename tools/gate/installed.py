@@ -1,0 +1,205 @@
+#!/usr/bin/env python3
+"""Installs all in a folder, calls `recode` and `recode-places` there, and removes all: as `make install` and `make uninstall`.
+
+    python3 tools/gate/installed.py
+
+The commands find the installed index texts from any folder, by any way to them, and hand all words on as they are: each must
+do what the program does with the same words and the folder named. bash completes their words. What README.md shows is so.
+"""
+
+import os
+import re
+import shutil
+import subprocess
+import sys
+import tempfile
+
+sys.dont_write_bytecode = True
+
+from steps import TOP, main
+
+import install
+
+# No command takes longer, in seconds.
+PATIENCE = 60
+
+JAPANESE = ["--from", "shift_jis", "--to", "utf-8"]
+WESTERN = ["--from", "utf-8", "--to", "windows-1252"]
+
+# Words without a folder of indexes, and the input.
+PLAIN = [
+    (JAPANESE, b"A\x83\x6e"),
+    (JAPANESE, b"A\x83\x6e\xff"),
+    (["--from", " shift_jis\t", "--to", "utf-8"], b"\x83\x6e"),
+    ([*WESTERN, "--unmappable", "stop"], "é日".encode()),
+    (["--from", "no such", "--to", "utf-8"], b""),
+    ([*JAPANESE, "--limit=1"], b"ab"),
+    ([*JAPANESE, "two words"], b""),
+    (["--from", b"\xff"], b""),
+    (["--list"], b""),
+    (["--help"], b""),
+    (["-V"], b""),
+    ([], b""),
+]
+# Words that name a folder: the command adds nothing.
+NAMED = [[*JAPANESE, "--indexes", "/dev/null"], ["--indexes=/dev/null", *JAPANESE], [*JAPANESE, "--indexes"]]
+
+
+def ran(words, given, folder=None, **more):
+    done = subprocess.run(words, input=given, cwd=folder, capture_output=True, timeout=PATIENCE, check=False, **more)
+    return done.returncode, done.stdout, done.stderr
+
+
+def files_in(folder):
+    return {os.path.relpath(os.path.join(place, name), folder) for place, _, names in os.walk(folder) for name in names}
+
+
+def ways(top, command, folder):
+    """Ways to a command: its path, that from its folder and from the one above, a link to it, its folder's name, the path."""
+    path = os.path.join(top, "bin", command)
+    link, linked = os.path.join(folder, command), os.path.join(folder, "linked")
+    os.symlink(path, link)
+    os.symlink(os.path.join(top, "bin"), linked)
+    there = {**os.environ, "PATH": os.path.join(top, "bin") + ":" + os.environ["PATH"]}
+    near = {**os.environ, "PATH": ":" + os.environ["PATH"]}
+    yield [path], {"folder": "/"}
+    yield ["./" + command], {"folder": os.path.join(top, "bin")}
+    yield ["bin/" + command], {"folder": top}
+    yield [link], {"folder": "/"}
+    yield [os.path.join(linked, command)], {"folder": "/"}
+    yield [command], {"folder": "/", "env": there}
+    yield [command], {"folder": os.path.join(top, "bin"), "env": near}
+    os.remove(link)
+    os.remove(linked)
+
+
+def recode_faults(top, folder):
+    """What `recode` does otherwise than its program."""
+    program, path = os.path.join(top, install.PROGRAMS[0][1]), os.path.join(top, "bin", "recode")
+    named = ["--indexes", os.path.join(top, install.INDEXES)]
+    for words, given in PLAIN:
+        wanted, found = ran([program, *named, *words], given, "/"), ran([path, *words], given, "/")
+        if found != wanted:
+            yield "recode %r: %r and not %r" % (words, found, wanted)
+    for words in NAMED:
+        wanted, found = ran([program, *words], b"A", "/"), ran([path, *words], b"A", "/")
+        if found != wanted:
+            yield "recode %r: %r and not %r" % (words, found, wanted)
+    for words, more in ways(top, "recode", folder):
+        found = ran([*words, *JAPANESE], b"A\x83\x6e", **more)
+        if found != (0, "Aハ".encode(), b""):
+            yield "recode as %s: %r" % (words[0], found)
+
+
+def places_faults(top, folder):
+    """What `recode-places` does otherwise than it should."""
+    given = os.path.join(folder, "given")
+    with open(given, "wb") as file:
+        file.write(b"A\n\xff")
+    program, path = os.path.join(top, install.PROGRAMS[1][1]), os.path.join(top, "bin", "recode-places")
+    named = ["--indexes", os.path.join(top, install.INDEXES)]
+    for words, status in (([*JAPANESE, given], 1), (["--help"], 0), ([*JAPANESE, given, "more"], 2)):
+        wanted, found = ran([program, *named, *words], b"bad 2 1\n", "/"), ran([path, *words], b"bad 2 1\n", "/")
+        if found != wanted or found[0] != status:
+            yield "recode-places %r: %r and not %r" % (words, found, wanted)
+
+
+# What is typed, a word in each place where bash breaks it, and the ways to complete the last.
+COMPLETED = [
+    (["recode", "--from", "SHIFT_J"], ["shift_jis"]),
+    (["recode", "--to", "=", "koi8-"], ["koi8-r", "koi8-ru", "koi8-u"]),
+    (["recode", "--from", "utf-8", "--m"], ["--mark"]),
+    (["recode", "--mark", ""], ["keep", "remove", "sniff"]),
+    (["recode", "--indexes", "/de"], ["/dev"]),
+    (["recode", "--limit", ""], []),
+    (["recode-places", "--from", "gb1"], ["gb18030"]),
+    (["recode-places", "--co"], ["--count"]),
+    (["recode-places", "--from", "gbk", "/dev/nul"], ["/dev/null"]),
+]
+COMPLETE = """
+. "$0"
+COMP_WORDS=("$@") COMP_CWORD=$(($# - 1))
+_jillapun_recode "$1"
+printf '%s\\n' "${COMPREPLY[@]}" | sort -u
+"""
+
+
+def completion_faults(top):
+    """What bash completes otherwise than it should."""
+    if not shutil.which("bash"):
+        print("left out: the completion, since there is no bash here")
+        return
+    script = os.path.join(top, "share", "bash-completion", "completions", "recode")
+    there = {**os.environ, "PATH": os.path.join(top, "bin") + ":" + os.environ["PATH"], "LC_ALL": "C"}
+    for words, wanted in COMPLETED:
+        _, output, said = ran(["bash", "-c", COMPLETE, script, *words], b"", "/", env=there)
+        if output.decode().split() != wanted:
+            yield "completion of %r: %r and not %r: %s" % (words, output, wanted, said.decode())
+
+
+def read(name):
+    with open(os.path.join(TOP, name), encoding="utf-8") as file:
+        return file.read()
+
+
+# The lines of a session: a command, and what it prints on both streams.
+COMMAND = "    $ "
+TELLS = "\n(status=$?; printf '\\0'; exit $status)\n"
+
+
+def sessions():
+    """Those of README.md, each a list of commands with their outputs."""
+    found = []
+    for line in read("README.md").split("\n"):
+        if not line.startswith("    "):
+            found.append([])
+        elif line.startswith(COMMAND):
+            found[-1].append([line[len(COMMAND) :], ""])
+        else:
+            found[-1][-1][1] += line[4:] + "\n"
+    return [session for session in found if session]
+
+
+def readme_faults(top, folder):
+    """What README.md shows otherwise than it is. Its sessions are run one after another in one folder; in those that call
+    `make`, which would prove all, each target has to be there."""
+    there = {**os.environ, "PATH": os.path.join(top, "bin") + ":" + os.environ["PATH"], "LC_ALL": "C.UTF-8"}
+    for session in sessions():
+        targets = re.findall(r"\bmake (\w+)", " ".join(command for command, _ in session))
+        for target in targets:
+            if not re.search("^%s:" % target, read("Makefile"), re.M):
+                yield "README.md: there is no target %s" % target
+        if targets:
+            continue
+        script = "exec 2>&1\n" + "".join(command + TELLS for command, _ in session)
+        outputs = ran(["bash"], script.encode(), folder, env=there)[1].decode().split("\0")
+        for (command, wanted), found in zip(session, outputs):
+            if found != wanted:
+                yield "README.md: %s: %r and not %r" % (command, found, wanted)
+
+
+def faults():
+    """What is wrong with what is installed."""
+    sources = [os.path.join(TOP, source) for source, _ in [*install.PROGRAMS, *install.FILES]]
+    if not all(map(os.path.isfile, sources)):
+        print("left out: the installed commands, since not all is built (make build, make c)")
+        return
+    with tempfile.TemporaryDirectory() as folder:
+        top = os.path.join(folder, "a prefix")
+        install.install(top, top)
+        if files_in(top) != set(install.targets()):
+            yield "installed, and not removed or the other way round: %s" % (files_in(top) ^ set(install.targets()))
+        yield from recode_faults(top, folder)
+        yield from places_faults(top, folder)
+        yield from completion_faults(top)
+        yield from readme_faults(top, folder)
+        with open(os.path.join(top, "bin", "other"), "wb"):
+            pass
+        install.remove(top)
+        if files_in(top) != {"bin/other"} or any(os.path.exists(os.path.join(top, own)) for own in install.OWN):
+            yield "left after `make uninstall`: %s" % files_in(top)
+    print("installed, called and removed")
+
+
+if __name__ == "__main__":
+    sys.exit(main(faults()))

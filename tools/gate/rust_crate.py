@@ -1,0 +1,125 @@
+#!/usr/bin/env python3
+"""Tests the crate for Rust, rust/encoding_rs, over the library that `make c` has built: as the last step of the gate.
+
+    python3 tools/gate/rust_crate.py
+
+It runs `cargo test --offline` there, with what Debian's package librust-serde-dev has. If something that it needs is not
+here, it says so, and nothing is wrong.
+
+`make lint` compares what the crate declares of the library with `include/jillapun.h`: functions, types and numbers.
+"""
+
+import glob
+import os
+import re
+import shutil
+import subprocess
+import sys
+
+sys.dont_write_bytecode = True
+
+from steps import TOP, main
+
+import c_library
+
+CRATE = os.path.join(TOP, "rust", "encoding_rs")
+TARGET = os.path.join(TOP, "out", "rust")
+TOOLS = ["cargo", "cc"]
+SERDE = "/usr/share/cargo/registry/serde-1.*"
+HEADER = os.path.join(TOP, "include", "jillapun.h")
+DECLARED = os.path.join(CRATE, "src", "sys", "raw.rs")
+# The oldest compiler, as Cargo.toml has it.
+OLDEST = (1, 70)
+# The tests take no longer, in seconds.
+PATIENCE = 1200
+
+
+# The types of the header, as Rust writes them.
+TYPES = {"size_t": "usize", "uint8_t": "u8", "uint32_t": "u32", "bool": "bool", "jillapun_char16": "u16", "void": "c_void"}
+
+
+def in_rust(declared):
+    """A C declaration of a parameter, a member or a result, as Rust has it: a name, and a type."""
+    const, base, pointer, name = re.fullmatch(r"(const )?(\w+) ?(\*?) ?(\w*)", " ".join(declared.split())).groups()
+    camel = "".join(word.capitalize() for word in base.removeprefix("jillapun_").split("_"))
+    known = TYPES.get(base, camel)
+    return name, ("*const " if const else "*mut ") + known if pointer else known
+
+
+def in_header():
+    """What the header has: functions, structs and numbers, as Rust has them."""
+    with open(HEADER, encoding="utf-8") as file:
+        text = re.sub(r"/\*.*?\*/|^#.*?$", "", file.read(), flags=re.S | re.M)
+    found = {}
+    for result, name, given in re.findall(r"^(\w+) (\w+)\(([^)]*)\);", text, re.M):
+        result = "" if result == "void" else in_rust(result)[1]
+        found[name] = [in_rust(part) for part in given.split(",")], result
+    for members, name in re.findall(r"typedef struct \{(.*?)\} jillapun_(\w+);", text, re.S):
+        found[in_rust("jillapun_" + name)[1]] = [in_rust(member) for member in members.split(";")[:-1]]
+    found |= {name: number for name, number in re.findall(r"JILLAPUN_(\w+) = (\d+)", text)}
+    return {**found, "REFUSED": "usize::MAX"}
+
+
+def in_crate():
+    """What the crate declares, alike."""
+    with open(DECLARED, encoding="utf-8") as file:
+        text = file.read().replace("pub(super) ", "")
+
+    def pairs(listed):
+        return [tuple(part.strip().split(": ")) for part in listed.split(",") if part.strip()]
+
+    for name, given, result in re.findall(r"^    fn (\w+)\(([^)]*)\)(?:\s+-> (\w+))?;", text, re.M):
+        yield name, (pairs(given), result)
+    for name, members in re.findall(r"struct (\w+) \{(.*?)\}", text, re.S):
+        yield name, pairs(members)
+    yield from re.findall(r"const (\w+): \w+ = (\S+);", text)
+
+
+def header_faults():
+    """Where the crate declares something else than the header."""
+    header = in_header()
+    for name, declared in in_crate():
+        if header.get(name) != declared:
+            yield "%s: %s is %s, and in the header %s" % (os.path.relpath(DECLARED, TOP), name, declared, header.get(name))
+
+
+def compiler():
+    """The version of the compiler, as two numbers."""
+    said = subprocess.run(["rustc", "--version"], cwd=CRATE, capture_output=True, text=True, check=False).stdout
+    found = re.match(r"rustc (\d+)\.(\d+)", said)
+    return tuple(map(int, found.groups())) if found else (0, 0)
+
+
+def missing():
+    """What the tests need and is not here."""
+    for tool in TOOLS:
+        if not shutil.which(tool):
+            return "there is no %s here" % tool
+    if compiler() < OLDEST:
+        return "rustc is older than %d.%d here" % OLDEST
+    if not glob.glob(SERDE):
+        return "there is no serde in %s" % os.path.dirname(SERDE)
+    if not os.path.isfile(os.path.join(c_library.OUT, c_library.ARCHIVE)):
+        return "the library is not built (make c)"
+    return None
+
+
+def faults():
+    """What is wrong with the crate."""
+    why = missing()
+    if why:
+        print("left out: the tests of the crate for Rust, since %s" % why)
+        return []
+    words = ["cargo", "test", "--offline", "--features", "serde"]
+    environment = dict(os.environ, CARGO_TARGET_DIR=TARGET, JILLAPUN_LIB=c_library.OUT)
+    ran = subprocess.run(
+        words, cwd=CRATE, env=environment, capture_output=True, text=True, errors="replace", timeout=PATIENCE, check=False
+    )
+    print("%d tests of the crate for Rust" % sum(map(int, re.findall(r"^test result: ok\. (\d+) passed", ran.stdout, re.M))))
+    if ran.returncode:
+        return ["%s: status %d\n%s%s" % (" ".join(words), ran.returncode, ran.stdout[-4000:], ran.stderr[-4000:])]
+    return []
+
+
+if __name__ == "__main__":
+    sys.exit(main(faults()))
