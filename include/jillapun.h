@@ -619,6 +619,29 @@ uint8_t jillapun_decoder_max_utf16_length(const jillapun_decoder *decoder, size_
 uint8_t jillapun_decoder_latin1_byte_compatible_up_to(jillapun_decoder *decoder,
     const uint8_t *bytes, size_t bytes_len, size_t *length);
 
+/* The exports that decode to UTF-8 over a text. */
+
+/**
+ * Decodes the next bytes of a stream to UTF-8 at the start of a text, with U+FFFD for each
+ * malformed sequence. What it does and returns is as of `jillapun_decoder_decode_to_utf8`, but
+ * for this: if a character of `dst` is overwritten in part, its other bytes become 00, so what
+ * was UTF-8 is UTF-8 after the call. Of what stands behind the bytes that were written the call
+ * looks at three, and it changes those of them that go on with a character (80 to BF), whether
+ * or not `dst` was UTF-8.
+ */
+uint8_t jillapun_decoder_decode_to_str(jillapun_decoder *decoder, const uint8_t *src,
+    size_t src_len, uint8_t *dst, size_t dst_len, bool last, jillapun_progress *progress);
+
+/**
+ * Decodes the next bytes of a stream to UTF-8 at the start of a text, up to the first malformed
+ * sequence. What it does and returns is as of
+ * `jillapun_decoder_decode_to_utf8_without_replacement`, but that what was UTF-8 stays UTF-8,
+ * as with `jillapun_decoder_decode_to_str`.
+ */
+uint8_t jillapun_decoder_decode_to_str_without_replacement(jillapun_decoder *decoder,
+    const uint8_t *src, size_t src_len, uint8_t *dst, size_t dst_len, bool last,
+    jillapun_progress *progress);
+
 /* The exports that decode to UTF-16. */
 
 /**

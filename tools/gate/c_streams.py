@@ -195,10 +195,12 @@ class Streams:
             last = number == len(parts) - 1
             for _ in range(MOST_CALLS):
                 size = self.random.randint(4, most)
-                room = (units([0] * size), size) if to_units else bytearray(size)
+                room = (units([0] * size), size) if to_units else bytearray(self.some_text(size))
                 self.must(call, getattr(self.library, call)(handle, part, room, last, progress))
                 part, before = part[progress.read :], before + progress.read
                 written = room[0][: progress.written] if to_units else room[: progress.written]
+                if "to_str" in call and self.valid_len(room) != size:
+                    raise Wrong("%s leaves no text" % call)
                 text += b"".join(unit.to_bytes(2, "little") for unit in written) if to_units else written
                 had_errors |= progress.had_errors
                 if progress.outcome == NUMBERS["INPUT_EMPTY"]:
@@ -215,12 +217,18 @@ class Streams:
         self.must("after it is freed", getattr(self.library, call)(handle, b"", room, True, progress), "CLOSED")
         return text.decode("utf-16-le" if to_units else "utf-8"), faults, had_errors
 
+    def some_text(self, size):
+        """A text of so many bytes."""
+        text = "".join(self.random.choice("aé日\U0001f4a9") for _ in range(min(size, 99))).encode()[:size]
+        text = text[: self.valid_len(text)]
+        return text + b"." * (size - len(text))
+
     def decoders(self, job, data, parts):
-        """The four calls of a decoder, and the call for a whole input."""
+        """The six calls of a decoder, and the call for a whole input."""
         pieces = plain_recode.pieces(self.encodings, job, data)[1]
         text = text_of(point for _, _, points in pieces for point in ((0xFFFD,) if points is None else points))
         faults = [(start, end - start) for start, end, points in pieces if points is None]
-        for to_units, name in ((False, "utf8"), (True, "utf16")):
+        for to_units, name in ((False, "utf8"), (False, "str"), (True, "utf16")):
             call = "jillapun_decoder_decode_to_" + name
             self.same(call, (job, data, parts), self.decoded(call, job, parts, to_units), (text, [], bool(faults)))
             call += "_without_replacement"

@@ -12,6 +12,6 @@ mod latin1;
 mod partial;
 #[cfg(test)]
 mod tests;
-mod text_room;
+pub(crate) mod text_room;
 mod utf16;
 pub(crate) mod utf8;

@@ -3,6 +3,7 @@
 mod converter;
 mod parts;
 mod queries;
+mod texts;
 mod whole;
 
 use crate::decoder::utf8::{

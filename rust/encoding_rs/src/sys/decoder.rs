@@ -107,13 +107,12 @@ impl Decoder {
 
     /// Decodes to the start of a text. What is left of a character that was overwritten in part becomes 00.
     pub(crate) fn decode_to_str(&mut self, src: &[u8], dst: &mut str, last: bool, at_error: OnMalformed) -> Decoded {
-        // SAFETY: the call writes characters of UTF-8 and leaves what follows; the loop clears what is left of one.
-        let bytes = unsafe { dst.as_bytes_mut() };
-        let decoded = self.decode_to_utf8(src, bytes, last, at_error);
-        for byte in bytes[decoded.written..].iter_mut().take_while(|byte| **byte & 0xC0 == 0x80) {
-            *byte = 0;
-        }
-        decoded
+        let export: raw::Decode<u8> = match at_error {
+            OnMalformed::Replace => raw::jillapun_decoder_decode_to_str,
+            OnMalformed::Report => raw::jillapun_decoder_decode_to_str_without_replacement,
+        };
+        // SAFETY: `dst` is what the two say, and the header says that what was UTF-8 is UTF-8 after the call.
+        unsafe { self.decode(export, src, dst.as_mut_ptr(), dst.len(), last) }
     }
 
     /// Decodes to the end of a text, as far as its capacity reaches.

@@ -155,6 +155,14 @@ extern "C" {
         decoder: *mut Decoder, src: *const u8, src_len: usize, dst: *mut u8, dst_len: usize, last: bool,
         progress: *mut Progress,
     ) -> u8;
+    pub(super) fn jillapun_decoder_decode_to_str(
+        decoder: *mut Decoder, src: *const u8, src_len: usize, dst: *mut u8, dst_len: usize, last: bool,
+        progress: *mut Progress,
+    ) -> u8;
+    pub(super) fn jillapun_decoder_decode_to_str_without_replacement(
+        decoder: *mut Decoder, src: *const u8, src_len: usize, dst: *mut u8, dst_len: usize, last: bool,
+        progress: *mut Progress,
+    ) -> u8;
     pub(super) fn jillapun_decoder_decode_to_utf16(
         decoder: *mut Decoder, src: *const u8, src_len: usize, dst: *mut u16, dst_len: usize, last: bool,
         progress: *mut Progress,
