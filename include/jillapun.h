@@ -1003,7 +1003,7 @@ uint8_t jillapun_converter_step(jillapun_converter *converter, const uint8_t *sr
     bool last, uint8_t *dst, size_t dst_len, jillapun_loss *losses, size_t losses_len,
     jillapun_converter_progress *progress, jillapun_report *report);
 
-/* The export on an input that is converted part by part. */
+/* The exports on an input that is converted part by part. */
 
 /**
  * Whether an input can be cut, and each part but the first be converted by itself: the number
@@ -1018,13 +1018,32 @@ uint8_t jillapun_converter_step(jillapun_converter *converter, const uint8_t *sr
  * replacement), or if a number stands for nothing.
  *
  * The outputs of all parts, in a row, are the output for the whole. So are their records of
- * losses, if the bytes of the parts before are added to the `place` of each of kind
- * `JILLAPUN_BAD`, and the characters of their text to that of each of kind `JILLAPUN_LOST`.
- * Counts are added, and nothing was lost of the whole if nothing was lost of any part. A part
- * that the policy stops is the last.
+ * losses, once `jillapun_join_loss` has moved them, and what is told of the parts, once
+ * `jillapun_join_reports` has added it. Nothing was lost of the whole if nothing was lost of
+ * any part. A part that the policy stops is the last.
  */
 uint8_t jillapun_part_encoding(uint8_t from, uint8_t to, uint8_t mark, const uint8_t *first,
     size_t first_len);
+
+/**
+ * Makes a record of what the next part loses one of the whole. `before` is what is told of the
+ * parts before it: its `read` is added to the place of a record of kind `JILLAPUN_BAD`, and its
+ * `characters` to that of one of kind `JILLAPUN_LOST`.
+ *
+ * Returns whether that was done. Else the record stays as it is: it is of another kind, or its
+ * place would be 2^64 or more, which is so of no record of a conversion.
+ */
+bool jillapun_join_loss(const jillapun_report *before, jillapun_loss *loss);
+
+/**
+ * Adds what is told of the next part to what is told of those before it: `read`, `bad`, `lost`,
+ * `characters`, `written` and `losses`. The status of both is `JILLAPUN_LOSSY` if that of one
+ * is.
+ *
+ * Returns whether that was done. Else nothing is changed, since a sum would be 2^64 or more:
+ * never of parts of an input that is within a limit.
+ */
+bool jillapun_join_reports(jillapun_report *whole, const jillapun_report *next);
 
 /* ASCII, in bytes and in units of UTF-16: checks, and copies of the ASCII at the start. */
 

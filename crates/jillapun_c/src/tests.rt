@@ -1,6 +1,7 @@
 //! Calls of the exports for tables, streams and whole texts, with results worked by hand.
 
 mod converter;
+mod joins;
 mod parts;
 mod queries;
 mod texts;
