@@ -8,8 +8,8 @@
   of definitions the headline may stand on: today's numbers, so they only fall. No contract has more than 30 lines.
 - Each definition of `specs/` has a line of its own above it. None has a name of the standard library's, and a function
   of the code that has the name of one cites it in its contract.
-- Each edit of `must-fail/` and `edits/` has a file and a name of its own, and each text that it replaces stands in that
-  file once. Each edit that tools/edits/wrong_bodies.toml names is there.
+- Each edit of `must-fail/` and `edits/` has a name of its own, and each text that it replaces stands in its file once.
+  Each edit that tools/edits/wrong_bodies.toml names is there.
 - What `make generate` writes is of these sources: docs/HEADLINE.md, docs/reference, the drawing of
   docs/ARCHITECTURE.md, the counts of edits in docs/STATUS.md, include/jillapun.h, and the parts of the man pages that say what the help and the header say.
 - Each root file begins its code with the tactic that proofs are found by, and no handle is allowed.

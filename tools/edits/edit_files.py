@@ -3,10 +3,10 @@
 An edit has a name, FUNCTION.FAULT, where FUNCTION is the function whose body it changes (`Type-function` for a method) and
 FAULT says what is wrong. It has one change or more: an old text, which stands once in its file, and the new one.
 
-`edits/` has one file for each source file that has edits: `edits/X.edits` for `src/X.rt`, where X may have folders. An edit
+`edits/all.edits` has those of a crate, file by file: a line `file: src/X.rt` stands before those of a source file. An edit
 is its name, then the lines `old: TEXT` and `new: TEXT` of each change, and at last, if a run is to refute it, `run: CALL`
 (edit_calls.py), before it `item: ITEM` for each type or `impl` that the call needs; empty lines stand between edits, and a
-line `# ..` is a comment.
+line `# ..` is a comment. A line `file: PATH` within an edit names another file for the changes behind it.
 
 `must-fail/` has the form that `rt` reads: NAME.edit for each edit, with a line `file: PATH` before its changes.
 """
@@ -76,16 +76,18 @@ def edits_of_file(place, name):
     base, ending = os.path.splitext(name)
     if ending == ".edit":
         return [Edit(base, change_lines(read(path).rstrip("\n").split("\n"), None, path))]
-    edits = []
+    edits, source = [], None
     for block in re.split(r"\n\n+", read(path).strip("\n")):
         lines = [line for line in block.split("\n") if not line.startswith("#")]
-        if lines and not NAME.fullmatch(lines[0]):
+        if len(lines) == 1 and lines[0].startswith("file: "):
+            source = lines[0].removeprefix("file: ")
+        elif lines and not NAME.fullmatch(lines[0]):
             sys.exit("%s: %r is no name of an edit" % (path, lines[0]))
-        if lines:
+        elif lines:
             call = lines.pop().removeprefix("run: ") if lines[-1].startswith("run: ") else ""
             items = tuple(line.removeprefix("item: ") for line in lines if call and line.startswith("item: "))
             changes = [line for line in lines[1:] if not (call and line.startswith("item: "))]
-            edits.append(Edit(lines[0], change_lines(changes, "src/%s.rt" % base, "%s: %s" % (path, lines[0])), call, items))
+            edits.append(Edit(lines[0], change_lines(changes, source, "%s: %s" % (path, lines[0])), call, items))
     return edits
 
 
