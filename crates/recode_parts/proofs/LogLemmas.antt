@@ -40,7 +40,6 @@ feed_at (x ∷ bytes) more (y ∷ body) rest none e =
 module _ (n m : ℕ)
     (ends : (l : LogLine) → CanBeLogged l → (body : List ℕ) × (line_bytes l ≡ body ++ 10 ∷ []) × (feeds body ≡ 0) × (length body < 64))
     (apart : (a b : LogLine) (x y : List ℕ) → CanBeLogged a → CanBeLogged b → line_bytes a ++ x ≡ line_bytes b ++ y → (a ≡ b) × (x ≡ y)) where
-
   abbrev Moves : LogLine → Type 0
   Moves l = IsValid (moved_line n m l)
 
@@ -91,9 +90,9 @@ module _ (n m : ℕ)
       elim (begins held rest (omega (arith, within)) log.lines log.logged log.moved log.read) [
         | line l q v body more whole lacks short e ↦ elim (feed_at held rest body more lacks (split l body more held rest whole e)) [
           | inl h ↦
-            let size : k ≡ length body = grind (arith, found, h.0, h.1) in
-            let long : k + 1 ≡ length (line_bytes l) = omega (arith, size, ap length whole, length-append body (10 ∷ [])) in
-            none l q v (sym (take-append_seam (line_bytes l) more) ∙ ap (take (length (line_bytes l))) (sym e) ∙ ap (λ z. take z (held ++ rest)) (sym long) ∙ take-append-le (k + 1) held rest (omega (arith, within)))
+              let size : k ≡ length body = grind (arith, found, h.0, h.1) in
+              let long : k + 1 ≡ length (line_bytes l) = omega (arith, size, ap length whole, length-append body (10 ∷ [])) in
+              none l q v (sym (take-append_seam (line_bytes l) more) ∙ ap (take (length (line_bytes l))) (sym e) ∙ ap (λ z. take z (held ++ rest)) (sym long) ∙ take-append-le (k + 1) held rest (omega (arith, within)))
           | inr h ↦ grind (arith, found, within, h.1)
         ]
       ]

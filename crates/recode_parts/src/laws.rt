@@ -13,9 +13,7 @@ ghost use Rattle.recode_parts.specs.Summaries.{AddsParts, IsSummary};
 ghost use Rattle.recode_parts.specs.declared.summary.Summary.{Summary};
 
 use recode::laws::{parts_are_the_whole, pieces_are_the_input};
-use recode_places::laws::{
-    lines_are_told_apart, lines_end_in_feeds, lines_of_runs_can_be_logged,
-};
+use recode_places::laws::{lines_are_told_apart, lines_end_in_feeds, lines_of_runs_can_be_logged};
 
 /// Once two parts are joined, the next part follows them as it would the first: the input can be
 /// cut behind both, and the job of later parts stays.

@@ -68,7 +68,10 @@ fn counts_are_added(rt: HostRuntime) {
     };
     assert!(rt; jillapun_join_reports(&mut whole, &next));
     assert_eq!(rt; (whole.read, whole.bad, whole.lost), (1020, 31, 42));
-    assert_eq!(rt; (whole.characters, whole.written, whole.losses), (950, 1160, 73));
+    assert_eq!(rt;
+        (whole.characters, whole.written, whole.losses),
+        (950, 1160, 73)
+    );
     assert_eq!(rt; (whole.index, whole.scalar), (0, 0));
 }
 

@@ -24,11 +24,11 @@ pub returns-in_err-logged_line-clause-none : goal.returns-in_err-logged_line-cla
 returns-in_err-logged_line-clause-none c =
     let at = position-Some (λ byte. byte == 10) (take (length c.args.bytes.now - c.loop-dst.read) (drop c.loop-dst.read c.args.bytes.now)) c.in-Some.end 0 (sym c.in-Some.ensures) in
     said_at_none _ c.args.before.bytes c.args.before.characters c.args.bytes.now (λ more log. no_line_behind _ _ c.lines_end_in_feeds.ensures c.lines_are_told_apart.ensures c.args.bytes.now more _ _ c.loop-dst.read c.in-Some.end _ c.loop-dst.invariant.moves (take_rest c.args.bytes.now c.loop-dst.read) (sym c.in-Some.ensures)
-        (λ l logged moved same. c.in_err-logged_line.ensures.none l logged same) (omega (arith, at.0)) log)
+    (λ l logged moved same. c.in_err-logged_line.ensures.none l logged same) (omega (arith, at.0)) log)
 
 pub returns-in_err-line-clause-none : goal.returns-in_err-line-clause-none
 returns-in_err-line-clause-none c =
     let at = position-Some (λ byte. byte == 10) (take (length c.args.bytes.now - c.loop-dst.read) (drop c.loop-dst.read c.args.bytes.now)) c.in-Some.end 0 (sym c.in-Some.ensures) in
     let is = c.in_ok-logged_line.ensures in
     said_at_none _ c.args.before.bytes c.args.before.characters c.args.bytes.now (λ more log. no_line_behind _ _ c.lines_end_in_feeds.ensures c.lines_are_told_apart.ensures c.args.bytes.now more _ _ c.loop-dst.read c.in-Some.end _ c.loop-dst.invariant.moves (take_rest c.args.bytes.now c.loop-dst.read) (sym c.in-Some.ensures)
-        (not_moved _ _ c.lines_end_in_feeds.ensures c.lines_are_told_apart.ensures c.in_ok-logged_line.field-0 _ is.logged is.line c.in_err-line.ensures.none) (omega (arith, at.0)) log)
+    (not_moved _ _ c.lines_end_in_feeds.ensures c.lines_are_told_apart.ensures c.in_ok-logged_line.field-0 _ is.logged is.line c.in_err-line.ensures.none) (omega (arith, at.0)) log)
