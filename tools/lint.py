@@ -3,7 +3,7 @@
 
     python3 tools/lint.py
 
-- A public name of `specs/` has one definition in the whole repository.
+- A public name of `specs/` has one definition in the whole repository, since the prover names its goals by them.
 - `tools/limits.toml` has how many lines of `src/` may be long, how many clauses a function may have and how many lines
   of definitions the headline may stand on: today's numbers, so they only fall. No contract has more than 30 lines.
 - Each definition of `specs/` has a line of its own above it. None has a name of the standard library's, and a function

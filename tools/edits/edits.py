@@ -1,6 +1,7 @@
 #!/usr/bin/env python3
 """Tries edits, each a wrong body, which the prover has to refuse: those of `edits/` in each crate, which the merge gate
-leaves out, or with `--gate` those of `must-fail/`, which `rt ci` tries.
+leaves out, or with `--gate` those of `must-fail/`, which `rt ci` tries: one of each library, since each costs a check of
+its whole crate.
 
     python3 tools/edits/edits.py [--gate] [--anew] [--jobs N] [CRATE[/NAME]..]
     python3 tools/edits/edits.py --readable | --runs [--jobs N] [CRATE[/NAME]..]

@@ -6,7 +6,8 @@
 They are `recode` and `test_refusals`, which makes each call of the encoding crates that takes memory, as `rt ci` or
 `rt run` has left them in their `out/`. An allocator is compiled, by the kit's own clang, and loaded before the program.
 It refuses the Nth request (malloc, calloc, realloc, posix_memalign, aligned_alloc), for N = 1, 2, 3, .. until there is
-none left to refuse, or every one.
+none left to refuse, or every one. No test can hand in an allocator that refuses, since calls take that of std, and
+`rt try --fail-alloc` refuses one request for each build of half a minute.
 
 `recode` must end with status 3, write `recode: out of memory` to standard error, and write nothing to standard output.
 Only for two requests may it end as it does with memory: std, before it collects the words of the command line and their

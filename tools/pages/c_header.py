@@ -1,6 +1,7 @@
 #!/usr/bin/env python3
 """The C header of the libraries, `include/jillapun.h`, from the exports of `crates/jillapun_c`, their doc comments, the
-`repr(C)` structs that they name, and the constants of its `status.rt`: `make generate`.
+`repr(C)` structs that they name, and the constants of its `status.rt`: `make generate`. No proof covers declarations, so
+none is written by hand.
 
     python3 tools/pages/c_header.py
 

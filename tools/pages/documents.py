@@ -1,7 +1,8 @@
 """What `make lint` asks of the documents that people read: how long they are, and that what they link is there.
 
-They are README.md, CONTRIBUTING.md and docs/*.md, but for docs/HEADLINE.md, which a tool writes, and docs/DECISIONS.md, a
-register by number. Counted are words with a letter in them, outside of code and of what a tool writes between comments.
+They are README.md, CONTRIBUTING.md and docs/*.md, but for docs/HEADLINE.md, which a tool writes. Counted are words with a
+letter in them, outside of code and of what a tool writes between comments. Words are counted and not lines, since a limit of
+lines was once kept by paragraphs of 200 words.
 """
 
 import os
@@ -11,7 +12,7 @@ import limits
 from definitions import TOP, read
 
 # Not counted, of docs/.
-APART = ("HEADLINE.md", "DECISIONS.md")
+APART = ("HEADLINE.md",)
 
 LINK = re.compile(r"\[[^\]]*\]\(([^)\s]+)\)")
 HEADING = re.compile(r"^#+ (.*)$", re.M)
@@ -59,7 +60,7 @@ def link_faults(path, text):
 
 def linking():
     """The documents whose links are followed: those of the counted ones, and others by hand."""
-    return counted() + ["docs/DECISIONS.md", "docs/HEADLINE.md", "docs/reference/README.md", "tools/README.md", "bench/README.md", "bench/functions.md"]
+    return counted() + ["docs/HEADLINE.md", "docs/reference/README.md", "tools/README.md", "bench/README.md", "bench/functions.md"]
 
 
 def faults():

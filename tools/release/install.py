@@ -5,8 +5,8 @@
     python3 tools/release/install.py --archive
 
 It is the programs, the library for C with its header, its file for pkg-config and its man page, the programs' man pages and
-their completion in bash, and the index texts. What is called as `recode` and `recode-places` are commands that hand the
-folder of these to the programs.
+their completion in bash, and the index texts. What is called as `recode` and `recode-places` are scripts that hand the
+folder of these to the programs, which look in the current folder: another default would stand in what is proved.
 
 The archive, `out/jillapun-VERSION-x86_64-linux.tar.gz`, has the Python module, the crate for Rust and the licences too, and
 the wheel if `make wheel` has made one: it is for machines without `rt`. All finds the others by its own place, so it can be
