@@ -30,17 +30,38 @@ TOP = os.path.abspath(os.path.join(HERE, ".."))
 PAGE = os.path.join(TOP, "docs", "PERFORMANCE.md")
 RECODE = os.path.join(TOP, "crates", "recode_cli", "out", "recode_cli")
 INDEXES = os.path.join(TOP, "indexes")
-HEAD = ["Conversion", "parts", "wall, s", "processor, s", "wall to one `recode`", "processor to one `recode`", "as one `recode`"]
+HEAD = ["Conversion", "parts", "wall, s", "processor, s", "of it joining, s", "wall to one `recode`", "processor to one `recode`"]
+HEAD += ["as one `recode`"]
 
 WORDS = "ログ 2026-11-28 日本語 テスト かな 漢字 request served in 12 ms".split(" ")
 
-# The library, in as many parts at once; the log is what it tells.
+# The library, in as many parts at once; the log is what it tells. It prints how much processor time joining took: what the
+# thread that joins does for each block, but for the writing of its output and of the log.
 LIBRARY = """
-import sys, jillapun
+import sys, time, jillapun
+from jillapun._parts import _Parts
 source, output, log, parts = sys.argv[1:]
+spent = {"joining": 0.0, "writing": 0.0}
+
+def timed(name, call):
+    def timed_call(*words):
+        start = time.thread_time()
+        try:
+            return call(*words)
+        finally:
+            spent[name] += time.thread_time() - start
+    return timed_call
+
+class Timed:
+    def __init__(self, made):
+        self.writelines = timed("writing", made.writelines)
+
+join = timed("joining", _Parts.join)
+_Parts.join = lambda self, block, made, losses: join(self, block, Timed(made), losses)
 with open(log, "w") as lines:
-    told = lambda fault: lines.write("%s\\n" % (fault,))
+    told = timed("writing", lambda fault: lines.write("%s\\n" % (fault,)))
     jillapun.convert_file(source, output, "shift_jis", "utf-8", processes=int(parts), on_loss=told)
+print(spent["joining"] - spent["writing"])
 """
 
 
@@ -71,8 +92,12 @@ def by_recode(path, output, log):
 
 
 def by_library(path, output, log, parts):
+    """How long it takes, and what joining takes; with one part nothing is joined."""
     environment = dict(os.environ, PYTHONPATH=os.path.join(TOP, "python"))
-    return clocked([sys.executable, "-c", LIBRARY, path, output, log, str(parts)], env=environment)
+    with tempfile.TemporaryFile("w+") as said:
+        took = clocked([sys.executable, "-c", LIBRARY, path, output, log, str(parts)], env=environment, stdout=said)
+        said.seek(0)
+        return took, float(said.read())
 
 
 def by_iconv(path, output, parts):
@@ -88,16 +113,17 @@ def rows(given, folder):
     fill(path, given.megabytes)
     one = by_recode(path, output, log)
 
-    def row(name, parts, took, same):
+    def row(name, parts, took, same, joining=None):
         print("%s, %d: %.1f s, %.1f s of processor time, %s" % (name, parts, *took, same), flush=True)
         ratios = ["%.2f" % (ours / whole) for ours, whole in zip(took, one)]
-        return [name, str(parts), "%.1f" % took[0], "%.1f" % took[1], *ratios, same]
+        told = "" if joining is None else "%.2f" % joining
+        return [name, str(parts), "%.1f" % took[0], "%.1f" % took[1], told, *ratios, same]
 
     yield row("`recode`", 1, one, "yes")
     for parts in given.parts:
-        took = by_library(path, made, told, parts)
+        took, joining = by_library(path, made, told, parts)
         same = filecmp.cmp(output, made, shallow=False) and filecmp.cmp(log, told, shallow=False)
-        yield row("`convert_file` of Python", parts, took, "yes" if same else "NO")
+        yield row("`convert_file` of Python", parts, took, "yes" if same else "NO", joining if parts > 1 else None)
     for parts in given.parts if shutil.which("parallel") else [1]:
         yield row("`iconv -c`" + " under GNU parallel" * (parts > 1), parts, by_iconv(path, made, parts), "not compared")
 

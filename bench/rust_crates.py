@@ -1,0 +1,80 @@
+#!/usr/bin/env python3
+"""Measures the crate for Rust beside Debian's encoding_rs: see docs/PERFORMANCE.md.
+
+    python3 bench/rust_crates.py [--rounds N] [--write]
+
+It wants the library built (`make c`), cargo, and the crate encoding_rs of Debian (librust-encoding-rs-dev), which is built
+twice: as it is by default, and with the feature `fast-legacy-encode`. Each work is done by both crates of a program in
+turns. With --write the tables go into docs/PERFORMANCE.md.
+"""
+
+import argparse
+import os
+import shutil
+import subprocess
+import sys
+import tempfile
+
+HERE = os.path.dirname(os.path.abspath(__file__))
+sys.path.insert(0, HERE)
+
+import programs
+
+TOP = os.path.abspath(os.path.join(HERE, ".."))
+PAGE = os.path.join(TOP, "docs", "PERFORMANCE.md")
+FOLDER = os.path.join(HERE, "crates")
+BUILDS = {"encoding_rs": [], "encoding_rs, fast": ["--features", "fast"]}
+# The rows of a kind: the marks of its table, and its head.
+TABLES = {
+    "long": ("rust long", "16 MB, MB/s"),
+    "short": ("rust short", "20 bytes, ns a call"),
+}
+
+
+def copy(work):
+    """A copy of the program, which names the crate by its place in this repository."""
+    folder = shutil.copytree(FOLDER, os.path.join(work, "crates"))
+    words = os.path.join(folder, "Cargo.toml")
+    with open(words, encoding="utf-8") as file:
+        text = file.read().replace("../..", TOP)
+    with open(words, "w", encoding="utf-8") as file:
+        file.write(text)
+    return folder
+
+
+def rows(build, rounds, work):
+    """The rows that a build prints, by kind, encoding and work: ours, theirs, and the ratio with its quartiles."""
+    subprocess.run(["cargo", "build", "--release", "--offline", "--quiet", *build], cwd=work, check=True)
+    program = [os.path.join(work, "target", "release", "crates"), str(rounds)]
+    said = subprocess.run(program, stdout=subprocess.PIPE, text=True, check=True).stdout
+    for line in said.splitlines():
+        kind, label, what, ours, theirs, ratio, low, high = line.split("\t")
+        yield (kind, label, what), (ours, theirs, "%s (%s to %s)" % (ratio, low, high))
+
+
+def main():
+    parser = argparse.ArgumentParser(description=__doc__, formatter_class=argparse.RawDescriptionHelpFormatter)
+    parser.add_argument("--rounds", type=int, default=9)
+    parser.add_argument("--write", action="store_true")
+    given = parser.parse_args()
+    given.linear, given.megabytes = False, 16
+    about = programs.machine(given)
+    print(about, flush=True)
+    found = {}
+    for name, build in BUILDS.items():
+        with tempfile.TemporaryDirectory() as work:
+            found[name] = dict(rows(build, given.rounds, copy(work)))
+    for number, (kind, (mark, title)) in enumerate(TABLES.items()):
+        head = [title, "work", "ours"] + [cell for name in BUILDS for cell in (name, "ours to it")]
+        cells = []
+        for key, (ours, _, _) in found["encoding_rs"].items():
+            if key[0] == kind:
+                cells.append([key[1], key[2], ours] + [cell for name in BUILDS for cell in found[name][key][1:]])
+        table = programs.table(head, cells)
+        print(table, flush=True)
+        if given.write:
+            programs.write(PAGE, mark, table if number else about + "\n\n" + table)
+
+
+if __name__ == "__main__":
+    sys.exit(main())
