@@ -368,7 +368,7 @@ def machine(given):
     with open("/proc/cpuinfo") as info:
         model = next(line.split(":")[1].strip() for line in info if line.startswith("model name"))
     kit = subprocess.run(["rt", "version"], capture_output=True, text=True).stdout.split("\n")[0]
-    last = ["git", "log", "-1", "--format=%h", "--", ":(glob)crates/*/src/**"]
+    last = ["git", "log", "-1", "--format=%h", "--", ":(top,glob)crates/*/src/**"]
     code = subprocess.run(last, cwd=HERE, capture_output=True, text=True).stdout.strip() or "no commit"
     size = "%d and %d" % SIZES if given.linear else given.megabytes
     return "Measured on %s: code of %s; %s, %d processors, load %.1f at the start; %s; %d rounds of %s MB." % (
