@@ -1,5 +1,6 @@
 """Refutes wrong bodies by calls. An edit may have a call, its line `run: CALL`: an expression of the file that it changes, true
 with the right body and false with the wrong one. Its values are worked by hand from the definition. `rt` in it is a handle.
+What it needs of types and `impl`s of its own, as a device that fails, stands beside it, its lines `item: ITEM`.
 
 `rt try` compiles a copy of the crate with the calls as tests, without a proof; no program above the crate is built. In the
 first build each right body stands as it is, and beside it, under a name of its own, each wrong body of it; that of a method
@@ -121,8 +122,14 @@ def with_all(edits, folder, form=TEST, whole=TESTS):
         text = read(os.path.join(folder, path))
         for found in sorted(wrong[path], key=lambda found: -found.place):
             text = text[: found.place] + found.text + text[found.place :]
-        texts[path] = text + whole % added
+        texts[path] = text + whole % (items_of(edits, path) + added)
     return texts, names
+
+
+def items_of(edits, path):
+    """The items that the calls of edits of a file need, each once."""
+    items = [item for edit in edits if edit.changes[0][0] == path for item in edit.items]
+    return "".join("    %s\n" % item for item in dict.fromkeys(items))
 
 
 def can_be_above(edit, folder):
@@ -169,7 +176,7 @@ def with_round(edits, folder):
     for number, edit in enumerate(edits):
         tests[edit.changes[0][0]] += TEST % (WRONG % number, edit.call)
     for path, added in tests.items():
-        texts[path] += TESTS % added
+        texts[path] += TESTS % (items_of(edits, path) + added)
     return texts, [WRONG % number for number in range(len(edits))]
 
 

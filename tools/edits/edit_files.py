@@ -5,7 +5,8 @@ FAULT says what is wrong. It has one change or more: an old text, which stands o
 
 `edits/` has one file for each source file that has edits: `edits/X.edits` for `src/X.rt`, where X may have folders. An edit
 is its name, then the lines `old: TEXT` and `new: TEXT` of each change, and at last, if a run is to refute it, `run: CALL`
-(edit_calls.py); empty lines stand between edits, and a line `# ..` is a comment.
+(edit_calls.py), before it `item: ITEM` for each type or `impl` that the call needs; empty lines stand between edits, and a
+line `# ..` is a comment.
 
 `must-fail/` has the form that `rt` reads: NAME.edit for each edit, with a line `file: PATH` before its changes.
 """
@@ -26,11 +27,13 @@ NAME = re.compile(r"[\w-]+\.\w+")
 
 @dataclasses.dataclass
 class Edit:
-    """An edit; each change is the path of a file in the crate, the old text and the new one. The call may be empty."""
+    """An edit; each change is the path of a file in the crate, the old text and the new one. The call may be empty, and have
+    items of its own."""
 
     name: str
     changes: list
     call: str = ""
+    items: tuple = ()
 
     @property
     def function(self):
@@ -80,7 +83,9 @@ def edits_of_file(place, name):
             sys.exit("%s: %r is no name of an edit" % (path, lines[0]))
         if lines:
             call = lines.pop().removeprefix("run: ") if lines[-1].startswith("run: ") else ""
-            edits.append(Edit(lines[0], change_lines(lines[1:], "src/%s.rt" % base, "%s: %s" % (path, lines[0])), call))
+            items = tuple(line.removeprefix("item: ") for line in lines if call and line.startswith("item: "))
+            changes = [line for line in lines[1:] if not (call and line.startswith("item: "))]
+            edits.append(Edit(lines[0], change_lines(changes, "src/%s.rt" % base, "%s: %s" % (path, lines[0])), call, items))
     return edits
 
 

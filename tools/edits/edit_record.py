@@ -54,7 +54,7 @@ def checksum(text):
 
 
 def checksum_of_edit(edit):
-    return checksum((repr(edit.changes) + edit.call).encode())
+    return checksum((repr(edit.changes) + "".join(edit.items) + edit.call).encode())
 
 
 @functools.lru_cache(None)

@@ -150,7 +150,7 @@ class Edit:
     """An edit, and the function that its changes stand in."""
 
     def __init__(self, edit, folder):
-        self.name, self.changes, self.call = edit.name, edit.changes, edit.call
+        self.name, self.changes, self.call, self.items = edit.name, edit.changes, edit.call, edit.items
         self.checksum = edit_record.checksum_of_edit(edit)
         # Of a build of the calls of several crates: whether it told what came of the edit, or that its call is true with
         # the right body, and no more.

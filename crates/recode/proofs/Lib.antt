@@ -5,13 +5,8 @@ pub mod VerdictLemmas
 pub mod CodecCallLemmas
 pub mod StopLemmas
 pub mod StepLemmas
-pub mod ConversionLemmas
-pub mod RunLemmas
 pub mod InputLemmas
-pub mod PartLemmas
-pub mod PivotLemmas
 pub mod LatencyLemmas
 pub mod LoadLemmas
 pub mod TurnLemmas
-pub mod ConvertLemmas
 pub mod ShellLemmas

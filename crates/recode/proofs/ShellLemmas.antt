@@ -27,11 +27,10 @@ use Rattle.recode.specs.declared.job.Policy.{Policy}
 use Rattle.recode.specs.declared.writers.Writers.{Writers}
 use Rattle.recode.specs.laws.Items.{lost_line_count-bytes, spared_append, spared_nil}
 use Rattle.recode.proofs.WriterLemmas.{err_map, hands_start, hands_then, left_for_of, view_none}
-use Rattle.recode.proofs.TurnLemmas.{nothing_waits, standing_is, turns_more, turns_start}
+use Rattle.recode.proofs.TurnLemmas.{nothing_waits, standing_is, turns_more, turns_start, end_open, none_open}
 use Rattle.std.proofs.Math.Bool.{and-false, and-true}
 use Rattle.std.proofs.lemmas.Bool.{false_from_ne_true, true_from_ne_false}
 use Rattle.std.proofs.lemmas.List.{nil_from_length}
-use Rattle.recode.proofs.ConvertLemmas.{end_open, none_open}
 use Rattle.std.specs.Prelude.{◌&&◌}
 use Rattle.encoding_mem.specs.Piece.{Piece, sizes}
 use Rattle.encoding_mem.specs.declared.decoder_result.DecoderResult.{DecoderResult}

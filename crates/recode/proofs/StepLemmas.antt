@@ -1,31 +1,43 @@
--- How a step's parts make its clauses, and how a run and flushes make a conversion.
-use Rattle.std.proofs.Common.{Result, OnOk, IfErr, Err, Ok, ◌⊎◌, ◌≡◌, ℕ, ◌+◌, ◌≤◌, ◌<◌, add-zero, arith, length-append, append_assoc, List, [], ◌∷◌, ◌++◌, length, Bool, true, false, refl, sym, ap, ◌∙◌, subst, append-nil, inl, inr}
+-- How a step's parts make its clauses, how steps make a run, how a run and flushes make a conversion, and what its
+-- status says.
+use Rattle.std.proofs.Common.{Result, OnOk, IfErr, Err, Ok, ◌⊎◌, ◌≡◌, ℕ, ◌+◌, ◌≤◌, ◌<◌, add-zero, arith, length-append, append_assoc, List, [], ◌∷◌, ◌++◌, length, Bool, true, false, refl, sym, ap, ◌∙◌, subst, append-nil, inl, inr, ◌*◌, ◌≢◌, IfOk}
 use Rattle.std.specs.Prelude.{if◌then◌else◌}
-use Rattle.recode.proofs.TraceLemmas.{Gave-nil, Gave-one, Gave-trans, GaveThen-after, GaveToEnd-is, WritesItemsFor-start, Wrote-nil, Wrote-trans, left_behind}
+use Rattle.recode.proofs.TraceLemmas.{Gave-nil, Gave-one, Gave-trans, GaveThen-after, GaveToEnd-is, WritesItemsFor-start, Wrote-nil, Wrote-trans, left_behind, items_split}
 use Rattle.encoding_mem.specs.Items.{Item}
-use Rattle.encoding_mem.specs.Piece.{text}
+use Rattle.encoding_mem.specs.Piece.{text, AreWellFormed}
 use Rattle.encoding_mem.specs.laws.Piece.{text-append}
 use Rattle.recode.specs.State.{State, to_write}
-use Rattle.recode.specs.Devices.{Devices, Failures, Gave, GaveToEnd, KeepsWritten, Ports, Written, devices_of}
+use Rattle.recode.specs.Devices.{Devices, Failures, Gave, GaveToEnd, KeepsWritten, Ports, Written, devices_of, reads_of}
 use Rattle.recode.specs.TaggedByte.{Wrote, tagged, TaggedByte}
-use Rattle.recode.specs.Policy.{written_under}
-use Rattle.recode.specs.WrittenItems.{IsLeft, IsStop, WritesPrefixFor}
+use Rattle.recode.specs.Policy.{written_under, reference_form}
+use Rattle.recode.specs.WrittenItems.{IsLeft, IsStop, WritesPrefixFor, IsSpared, bad_line_count, lost_line_count}
 use Rattle.recode.specs.Step.{Finishes, HasRun, IsNearlyDecided, RunCalls, StepsOn, Stops, WasRead}
 use Rattle.recode.specs.Runs.{RunReturns}
 use Rattle.recode.specs.Fault.{of_other}
 use Rattle.recode.specs.declared.job.Fault.{Fault}
 use Rattle.recode.specs.declared.job.Fault.TheVariants.{Read, Write, Log, TooLong, Unmappable}
-use Rattle.recode.proofs.LatencyLemmas.{advances_more}
+use Rattle.recode.proofs.LatencyLemmas.{advances_more, stands_run, wrote_decided}
 use Rattle.recode.proofs.VerdictLemmas.{both_ways}
 use Rattle.recode.specs.laws.Items.{tagged-append, AreCounted-trans, spared_append}
-use Rattle.recode_log.specs.Counted.{TellsMessage}
+use Rattle.recode_log.specs.Counted.{TellsMessage, history_of, passed_of}
 use Rattle.recode_log.specs.declared.counted.Counted.{Counted}
 use Rattle.recode.specs.Conversion.{Converts, IsConversion, IsFlushed, message_of, after_flushes, status_of}
-use Rattle.recode.specs.Job.{trace}
-use Rattle.recode.specs.Session.{Completes, Fails}
+use Rattle.recode.specs.Job.{trace, IsValidJob, Faithful, input_pieces, output_pieces, input_text, target_of, log_of, output_of, whole_trace}
+use Rattle.recode.specs.Session.{Completes, Fails, View, IsNewSession, Tells}
 use Rattle.recode.specs.declared.job.Job.{Job}
 use Rattle.recode.specs.declared.job.Policy.{Policy}
 use Rattle.recode.specs.declared.job.Report.{Report}
+use Rattle.std.proofs.lemmas.List.{append_cancel_left, append_cancel_right}
+use Rattle.std.specs.List.{concat}
+use Rattle.encoding_mem.specs.Coding.{AllMapped}
+use Rattle.encoding_front.specs.Encodings.{KeepsCharacters}
+use Rattle.encoding_front.specs.laws.Encodings.{reads_back_exactly}
+use Rattle.encoding_front.specs.laws.Input.{marked_scalars}
+use Rattle.encoding_mem.specs.ReadBack.{ReadsAs}
+use Rattle.recode.specs.Work.{ReportsFewCalls}
+use Rattle.recode.specs.Latency.{WroteDecided}
+use Rattle.recode.proofs.StopLemmas.{bads_of, losts_of, mapped_where_faithful, output_where_mapped, quiet_where_kept, trace_where_spared, whole_within}
+use Rattle.recode_log.specs.laws.Calls.{passed_flush}
 
 nothing_under : (w : Written) (p : Policy) (f : Fault) (last : Bool) (to_write : List ℕ → List Item) → ((written : List Item) → IsStop p f [] written) → WritesPrefixFor w w p f last to_write
 nothing_under w p f last to_write stop = record { taken = []; wrote = Wrote-nil w; left = λ r h. record { prefix = (tagged (written_under p (to_write r)), refl); stopped = stop (written_under p (to_write r)) } }
@@ -167,6 +179,91 @@ goes_on_stop a b c limit s s1 f p q = record {
   latest = λ h. let kept = q.untouched h in (b, s1, p, sym (append-nil p.chunk) ∙ ap (λ x. p.chunk ++ x) (sym kept.0), kept.1);
 }
 
+-- From steps to runs.
+
+-- nothing was lost if each piece is well-formed and each character has bytes, and only then
+pub faithful_where_kept : (j : Job) (x : List ℕ) → IsValidJob j → KeepsCharacters j.to → AreWellFormed (input_pieces j x) → AllMapped (target_of j) (input_text j x) → Faithful j x
+faithful_where_kept j x v keeps h k =
+    let back = (reads_back_exactly j.tables.now j.to keeps v.tables (reference_form j.policy) (input_text j x) (marked_scalars j.tables.now j.mark j.from x v.tables)).1 k in
+    let read : ReadsAs (output_pieces j) (output_of j x) (input_text j x) =
+    subst (λ y. ReadsAs (output_pieces j) y (input_text j x)) (sym (output_where_mapped j x v k)) (record { well_formed = back.well_formed; same = back.same }) in
+    record { source = h; target = read.well_formed; same = read.same }
+
+pub quiet_where_faithful : (j : Job) (x : List ℕ) → IsValidJob j → Faithful j x → log_of j x ≡ []
+quiet_where_faithful j x v f = quiet_where_kept j x f.source (mapped_where_faithful j x v f)
+
+whole_items : {before after : Devices} {j : Job} {v : View} (u : View) → IsNewSession v j → (f : Finishes before after j.limit v.state u.state) → f.pays.written_items ≡ whole_trace j f.chunk
+whole_items u b f = sym (append-nil f.pays.written_items) ∙ sym f.pays.equals ∙ b.owes_trace f.chunk
+
+pub completes : (before after : Devices) (j : Job) (v u : View) (p : Report) → IsValidJob j → IsNewSession v j → Finishes before after j.limit v.state u.state → Tells u p
+    → Completes before.reads after.reads before.written after.written j p × ReportsFewCalls p
+completes before after j v u p valid b f t =
+    let x : List ℕ = f.chunk in
+    let items = whole_items u b f in
+    let spared : IsSpared j.policy (whole_trace j x) = subst (IsSpared j.policy) items (subst (λ (q : Policy). IsSpared q f.pays.written_items) b.policy f.pays.spared) in
+    let wrote : Wrote before.written after.written (tagged (trace j x)) = subst (λ t. Wrote before.written after.written (tagged t)) (items ∙ sym (trace_where_spared j x spared)) f.pays.wrote in
+    -- the bounds on the calls that are reported
+    let most : p.calls ≤ 37 * p.read + 9 =
+    omega (arith, t.calls, t.read, f.calls, b.calls, b.index, b.read, b.bad, b.lost, f.counted, f.pays.counted.bad, f.pays.counted.lost, ap bad_line_count items, ap lost_line_count items, f.sound.index, f.sound.bad, f.sound.lost, ap length (b.owes_trace x), items_split (whole_trace j x), whole_within j x valid) in
+    let calls : ReportsFewCalls p =
+    record { least = omega (arith, t.read, f.counted, b.read, t.calls, t.bad, t.lost, b.calls, b.bad, b.lost, f.least (omega (arith, most, t.calls, t.read, f.counted, f.within, b.read, valid.limit))); most = most } in (
+      record {
+        input = x;
+        given = f.given;
+        converted = record {
+          whole = record {
+            within = omega (arith, f.within, f.counted, b.read);
+            unstopped = λ stops. sym (losts_of j x) ∙ spared stops;
+            output = wrote.output;
+            logged = wrote.lined;
+          };
+          report = record {
+            read = omega (arith, t.read, f.counted, b.read);
+            bad = omega (arith, t.bad, f.pays.counted.bad, ap bad_line_count items, b.bad, bads_of j x);
+            lost = omega (arith, t.lost, f.pays.counted.lost, ap lost_line_count items, b.lost, losts_of j x);
+            encoding = t.encoding ∙ sym f.source ∙ b.source x;
+            faithful = (λ h. (b.verdict x).0 (f.verdict.1 (sym t.verdict ∙ h)), λ h. t.verdict ∙ f.verdict.0 ((b.verdict x).1 h));
+          };
+        };
+      },
+      calls,
+    )
+
+-- calls gave one input to its end
+given_once : (a b : List (List ℕ)) (x y : List ℕ) → GaveToEnd a b x → GaveToEnd a b y → x ≡ y
+given_once a b x y p q =
+    let end : List (List ℕ) = [] ∷ [] in
+    let same = append_cancel_right p.0 q.0 end (append_cancel_left a (p.0 ++ end) (q.0 ++ end) (sym p.1 ∙ q.1)) in
+    sym p.2 ∙ ap concat same ∙ q.2
+
+-- all characters of its text are counted
+pub counts_text : (before after : Devices) (j : Job) (v : View) (w : State) → IsNewSession v j → Finishes before after j.limit v.state w
+    → (x : List ℕ) → GaveToEnd before.reads after.reads x → w.counts.index ≡ length (input_text j x)
+counts_text before after j v w b f x given =
+    omega (arith, f.characters, b.index, ap (λ ps. length (text ps)) (b.pieces f.chunk), ap (λ y. length (input_text j y)) (given_once before.reads after.reads f.chunk x f.given given))
+
+pub fails : (before after : Devices) (j : Job) (v : View) (f : Fault) → IsNewSession v j → HasStopped before after j.limit v.state f → Fails before after j f
+fails before after j v f b s =
+    let left : (r : List ℕ) → (s.read.ended ≡ true → r ≡ []) → IsLeft j.policy f s.pays.taken (whole_trace j (s.read.input ++ r)) =
+    λ r h. subst (λ (p : Policy). IsLeft p f s.pays.taken (whole_trace j (s.read.input ++ r))) b.policy
+    (subst (IsLeft v.state.policy f s.pays.taken) (b.owes_trace (s.read.input ++ r)) (s.pays.left r h)) in
+    record {
+      read = s.read;
+      within = omega (arith, s.within, b.read);
+      limited = λ is. omega (arith, s.limited is, b.read);
+      taken = s.pays.taken;
+      wrote = s.pays.wrote;
+      prefix = λ r h. (left r h).prefix;
+      stopped = λ r h. (left r h).stopped;
+      latest = λ h.
+          let k = s.latest h in
+          let ran = k.2 in (
+            ran.advances.taken,
+            subst (λ x. WroteDecided before.written after.written j x ran.advances.taken) k.3
+                (wrote_decided before k.0 after.written j k.1 ran.chunk ran.advances.taken (stands_run before k.0 j v k.1 b ran) ran.settled k.4),
+          );
+    }
+
 -- What a conversion did.
 
 module _ (before ran : Devices) (j : Job) where
@@ -199,26 +296,19 @@ module _ (before ran : Devices) (j : Job) where
   converts_whole after p status k same kept is =
       let w = k.converted.whole in
       let f = k.converted.report.faithful in
+      let says = says_whether p.faithful is in
       record {
         input = k.input;
         given = rw same k.given;
         whole = record { within = w.within; unstopped = w.unstopped; output = kept.output ∙ w.output; logged = kept.log ∙ w.logged };
-        known = known p.faithful is;
-        faithful = λ zero. f.0 (is_faithful p.faithful is zero);
-        lossy = λ one h. is_lossy p.faithful is one (f.1 h);
+        known = says.0;
+        faithful = λ zero. f.0 (says.1 zero);
+        lossy = λ one h. says.2 one (f.1 h);
       }
     where
-      known : (b : Bool) → status ≡ (if b then 0 else 1) → (status ≡ 0) ⊎ (status ≡ 1)
-      known true is = inl is
-      known false is = inr is
-
-      is_faithful : (b : Bool) → status ≡ (if b then 0 else 1) → status ≡ 0 → b ≡ true
-      is_faithful true is zero = refl
-      is_faithful false is zero = absurd (omega (arith, is, zero))
-
-      is_lossy : (b : Bool) → status ≡ (if b then 0 else 1) → status ≡ 1 → b ≡ true → ⊥
-      is_lossy true is one h = omega (arith, is, one)
-      is_lossy false is one h = cc
+      says_whether : (b : Bool) → status ≡ (if b then 0 else 1) → ((status ≡ 0) ⊎ (status ≡ 1)) × (status ≡ 0 → b ≡ true) × (status ≡ 1 → b ≡ true → ⊥)
+      says_whether true is = (inl is, λ zero. refl, λ one h. omega (arith, is, one))
+      says_whether false is = (inr is, λ zero. absurd (omega (arith, is, zero)), λ one h. cc)
 
 -- a run, the flushes and what was told
 module _ {R W L : Type 0} (before ran after : Ports R W L) (flushed : Counted L) (j : Job) (room : ℕ) (answer : Result Report Fault) (writer_failed log_failed : Bool)
@@ -244,3 +334,35 @@ module _ {R W L : Type 0} (before ran after : Ports R W L) (flushed : Counted L)
     tells = tells;
     answered = answered;
   }
+
+-- what came to no fault
+pub record IsQuiet (answer came_to : Result Report Fault) (writer_failed log_failed : Bool) : Type 0 where
+  pub report : Report
+  pub returned : answer ≡ Ok report
+  pub comes : came_to ≡ Ok report
+  pub written : writer_failed ≡ false
+  pub logged : log_failed ≡ false
+
+quiet_of : (answer came_to : Result Report Fault) (writer_failed log_failed : Bool) (status : ℕ) → came_to ≡ after_flushes answer writer_failed log_failed → status ≡ status_of came_to → status ≢ 4 → IsQuiet answer came_to writer_failed log_failed
+quiet_of (Err f) came_to w l status first is whole = absurd (whole (is ∙ ap status_of first))
+quiet_of (Ok p) came_to true l status first is whole = absurd (whole (is ∙ ap status_of first))
+quiet_of (Ok p) came_to false true status first is whole = absurd (whole (is ∙ ap status_of first))
+quiet_of (Ok p) came_to false false status first is whole = record { report = p; returned = refl; comes = first; written = refl; logged = refl }
+
+-- a flush passes nothing
+flushed_nothing : {W : Type 0} (before after : Counted W) (failed : Bool) → IsFlushed before after failed → passed_of after ≡ passed_of before
+flushed_nothing before after failed h = ap concat (passed_flush (history_of before) (history_of after) failed h.once)
+
+module _ {R W L : Type 0} (before after : Ports R W L) (j : Job) (room status : ℕ) (c : IsConversion before after j room status) (whole : status ≢ 4) where
+  q : IsQuiet c.answer c.came_to c.writer_failed c.log_failed
+  q = quiet_of c.answer c.came_to c.writer_failed c.log_failed status c.first c.answered whole
+
+  unlogged : after.log ≡ c.flushed
+  unlogged = subst (λ (r : Result Report Fault). OnOk r (after.log ≡ c.flushed)) q.comes c.quiet
+
+  pub converts_of : Converts (devices_of before) (devices_of after) j status
+  converts_of =
+      let all : Completes (devices_of before).reads (devices_of c.ran).reads (devices_of before).written (devices_of c.ran).written j q.report =
+      subst (λ (r : Result Report Fault). IfOk r (Completes (devices_of before).reads (devices_of c.ran).reads (devices_of before).written (devices_of c.ran).written j)) q.returned c.returns.completes in
+      let kept : KeepsWritten (devices_of c.ran).written (devices_of after).written = record { output = flushed_nothing c.ran.writer after.writer c.writer_failed c.writer; log = ap passed_of unlogged ∙ flushed_nothing c.ran.log c.flushed c.log_failed c.log } in
+      converts_whole (devices_of before) (devices_of c.ran) j (devices_of after) q.report status all (ap reads_of c.unread) kept (c.answered ∙ ap status_of q.comes)

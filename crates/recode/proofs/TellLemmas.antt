@@ -5,7 +5,7 @@ use Rattle.std.specs.Io.KnownBytes.{Appends, Consumes, IsAtEnd}
 use Rattle.std.specs.List.{All, concat}
 use Rattle.std.proofs.lemmas.List.{append_cancel_left, same_from_push}
 use Rattle.std.proofs.lemmas.List.Elements.{All-append, All-cons, All-nil}
-use Rattle.recode_log.specs.Call.{Call, Failed, Flush, FlushesOnce, Passed, passed_by, failed_read, failed_write}
+use Rattle.recode_log.specs.Call.{Call, Failed, Flush, FlushesOnce, Passed, passed_by, failed_read}
 use Rattle.recode_log.specs.Counted.{CountsWrites, failures_of, history_of}
 use Rattle.recode_log.specs.declared.counted.Counted.{Counted}
 use Rattle.recode_log.specs.laws.Calls.{passed_failed, passed_one}
@@ -117,10 +117,6 @@ pub flushed_as : {W T E : Type 0} (before after : Counted W) (r : Result T E) �
     → OnErr r (failures_of after ≡ failures_of before + 1) → IsFlushed before after (is_err r)
 flushed_as before after (Ok x) once same more = record { once = once; counted = omega (arith, same) }
 flushed_as before after (Err e) once same more = record { once = once; counted = more }
-
-pub flush_rises : (failed : Bool) → failed_write (Flush failed) ≤ 1
-flush_rises true = omega arith
-flush_rises false = omega arith
 
 pub ruleset flush_rules = (flushed_as, flushed_none, taken_kept)
 

@@ -28,7 +28,7 @@ use Rattle.recode.specs.declared.job.Fault.TheVariants.{Write, Log, Unmappable}
 use Rattle.recode.specs.laws.Items.{lost_line_count-append, lost_line_count-bytes, tagged-append, written_spared, spared_nil}
 use Rattle.recode.proofs.TraceLemmas.{WritesPrefixFor-of, Wrote-nil, Wrote-trans, left_behind, under_bytes, under_lines, written_first, wrote_bytes, wrote_line}
 use Rattle.recode_log.specs.Counted.{inner_of, passed_of}
-use Rattle.recode.proofs.ConvertLemmas.{last_is, size_into}
+use Rattle.recode.proofs.TurnLemmas.{last_is, size_into}
 use Rattle.recode_log.specs.laws.Counts.{counts_none, counts_then}
 use Rattle.recode_log.specs.laws.Told.{taken_none, taken_then}
 

@@ -1,5 +1,5 @@
 use Rattle.std.proofs.Common.{rules, ◌+◌, sym, ◌∙◌, arith}
-use Rattle.recode.proofs.PivotLemmas.{all_counted, counted_few, more_counted}
+use Rattle.recode.proofs.CodecCallLemmas.{all_counted, counted_few, more_counted}
 use Rattle.recode.proofs.codec_calls.count_beginnings.Goals as goal
 
 pub overflow_add-count : goal.overflow_add-count

@@ -1,5 +1,5 @@
 use Rattle.std.proofs.Common.{arith}
-use Rattle.recode.proofs.PivotLemmas.{ends_of, written_prefix, written_to, written_within}
+use Rattle.recode.proofs.CodecCallLemmas.{ends_of, written_prefix, written_to, written_within}
 use Rattle.recode.proofs.codec_calls.decode_to_pivot.Goals as goal
 
 pub returns-in-Utf8-clause-law : goal.returns-in-Utf8-clause-law

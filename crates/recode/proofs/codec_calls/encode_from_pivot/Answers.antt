@@ -4,7 +4,7 @@ use Rattle.std.proofs.lemmas.Slice.{between_from_start}
 use Rattle.encoding_mem.specs.declared.reference.Reference.TheVariants.{Decimal}
 use Rattle.encoding_mem.specs.laws.EncoderCalls.{encoded_items}
 use Rattle.recode.specs.calls.PivotText.{pivot_chars}
-use Rattle.recode.proofs.PivotLemmas.{bytes_parts, bytes_passed, units_parts, units_passed}
+use Rattle.recode.proofs.CodecCallLemmas.{bytes_parts, bytes_passed, units_parts, units_passed}
 use Rattle.recode.proofs.codec_calls.encode_from_pivot.Goals as goal
 
 pub returns-in-Utf8-clause-passed : goal.returns-in-Utf8-clause-passed

@@ -1,7 +1,7 @@
 use Rattle.std.proofs.Common.{◌∙◌}
 use Rattle.recode.specs.calls.PivotText.{Holds}
 use Rattle.recode.specs.declared.job.Pivot.TheVariants.{Utf8, Utf16}
-use Rattle.recode.proofs.PivotLemmas.{spelled, text_of, utf16, utf8}
+use Rattle.recode.proofs.CodecCallLemmas.{spelled, text_of, utf16, utf8}
 use Rattle.recode.proofs.codec_calls.text_in.Goals as goal
 
 pub returns-in-Utf8-clause-chars : goal.returns-in-Utf8-clause-chars

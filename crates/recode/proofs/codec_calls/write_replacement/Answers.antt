@@ -1,6 +1,6 @@
 use Rattle.std.proofs.Common.{◌∷◌, ◌∙◌, ◌-◌, [], arith, drop, refl, take}
-use Rattle.recode.proofs.ConvertLemmas.{from_start}
-use Rattle.recode.proofs.PivotLemmas.{spelled, text_of, utf16, utf8, written_prefix, written_within}
+use Rattle.recode.proofs.TurnLemmas.{from_start}
+use Rattle.recode.proofs.CodecCallLemmas.{spelled, text_of, utf16, utf8, written_prefix, written_within}
 use Rattle.recode.proofs.codec_calls.write_replacement.Goals as goal
 
 pub returns-in-Utf8-clause-chars : goal.returns-in-Utf8-clause-chars

@@ -1,8 +1,7 @@
 use Rattle.std.proofs.Common.{Err, Ok, refl, sym, ◌∙◌}
 use Rattle.recode_log.specs.laws.Told.{taken_then}
 use Rattle.recode.specs.Devices.{ports}
-use Rattle.recode.proofs.ConversionLemmas.{converts_of}
-use Rattle.recode.proofs.StepLemmas.{conversion}
+use Rattle.recode.proofs.StepLemmas.{converts_of, conversion}
 use Rattle.recode.proofs.TellLemmas.{tells_more}
 use Rattle.recode.proofs.conversion.convert.Goals as goal
 

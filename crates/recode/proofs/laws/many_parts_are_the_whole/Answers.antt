@@ -1,4 +1,4 @@
-use Rattle.recode.proofs.PartLemmas.{all_parts, lines_of_all}
+use Rattle.recode.proofs.InputLemmas.{all_parts, lines_of_all}
 use Rattle.recode.proofs.laws.many_parts_are_the_whole.Goals as goal
 
 pub returns : goal.returns

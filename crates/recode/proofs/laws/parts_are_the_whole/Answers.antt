@@ -1,6 +1,6 @@
 use Rattle.recode.specs.Job.{trace}
 use Rattle.recode.specs.laws.Parts.{log_bytes-noted}
-use Rattle.recode.proofs.PartLemmas.{faithful_parts, later_is_valid, output_of_parts, pieces_parts, reports_of_parts, runs_through_parts, stops_in_first, text_parts, trace_of_parts, two_lines}
+use Rattle.recode.proofs.InputLemmas.{faithful_parts, later_is_valid, output_of_parts, pieces_parts, reports_of_parts, runs_through_parts, stops_in_first, text_parts, trace_of_parts, two_lines}
 use Rattle.recode.proofs.laws.parts_are_the_whole.Goals as goal
 
 pub returns : goal.returns

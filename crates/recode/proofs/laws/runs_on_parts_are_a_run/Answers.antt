@@ -1,4 +1,4 @@
-use Rattle.recode.proofs.PartLemmas.{runs_on_parts}
+use Rattle.recode.proofs.InputLemmas.{runs_on_parts}
 use Rattle.recode.proofs.laws.runs_on_parts_are_a_run.Goals as goal
 
 pub returns : goal.returns

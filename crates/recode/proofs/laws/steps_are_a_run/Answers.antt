@@ -1,7 +1,6 @@
 use Rattle.std.proofs.Common.{arith}
 use Rattle.recode.proofs.LatencyLemmas.{new_settled}
-use Rattle.recode.proofs.RunLemmas.{completes, counts_text, fails}
-use Rattle.recode.proofs.StepLemmas.{goes_on_start, goes_on_more, goes_on_finish, goes_on_stop}
+use Rattle.recode.proofs.StepLemmas.{completes, counts_text, fails, goes_on_start, goes_on_more, goes_on_finish, goes_on_stop}
 use Rattle.recode.proofs.laws.steps_are_a_run.Goals as goal
 
 pub returns : goal.returns

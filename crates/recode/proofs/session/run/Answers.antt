@@ -7,8 +7,7 @@ use Rattle.recode_log.specs.laws.Told.{none_yet}
 use Rattle.recode.proofs.TellLemmas.{completes_told, fails_told, none_yet_on, reads_on, reads_start, run_calls, tells_none, tells_then}
 use Rattle.recode.proofs.WriterLemmas.{kept_enough, kept_on, kept_start}
 use Rattle.recode.proofs.LatencyLemmas.{new_settled}
-use Rattle.recode.proofs.StepLemmas.{goes_on_start, goes_on_more, goes_on_finish, goes_on_stop}
-use Rattle.recode.proofs.RunLemmas.{completes, fails}
+use Rattle.recode.proofs.StepLemmas.{goes_on_start, goes_on_more, goes_on_finish, goes_on_stop, completes, fails}
 use Rattle.recode.proofs.session.run.Goals as goal
 
 pub run-init : goal.run-init

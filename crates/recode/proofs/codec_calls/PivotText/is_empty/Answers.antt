@@ -1,4 +1,4 @@
-use Rattle.recode.proofs.PivotLemmas.{empty, utf16, utf8}
+use Rattle.recode.proofs.CodecCallLemmas.{empty, utf16, utf8}
 use Rattle.recode.proofs.codec_calls.PivotText.is_empty.Goals as goal
 
 pub returns-in-Utf8 : goal.returns-in-Utf8

@@ -1,7 +1,7 @@
 use Rattle.std.proofs.Common.{◌∙◌, ap, refl, sym, ◌++◌}
 use Rattle.std.specs.Str.{encode_utf8_all}
 use Rattle.encoding_mem.specs.calls.Writing.{encode_utf16_all}
-use Rattle.recode.proofs.PivotLemmas.{begins_spelled, left_behind, no_start, starts, utf16, utf8}
+use Rattle.recode.proofs.CodecCallLemmas.{begins_spelled, left_behind, no_start, starts, utf16, utf8}
 use Rattle.recode.proofs.codec_calls.PivotText.strip_prefix.Goals as goal
 
 pub returns-in_err-rest-in-Utf8-Utf8 : goal.returns-in_err-rest-in-Utf8-Utf8

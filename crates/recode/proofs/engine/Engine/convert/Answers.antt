@@ -8,8 +8,7 @@ use Rattle.encoding_mem.specs.calls.EncoderRule.{WritesBytes}
 use Rattle.recode.specs.calls.Turns.{TakesTurns, stop_count, stop_items}
 use Rattle.recode.specs.declared.job.Policy.{Policy}
 use Rattle.recode.proofs.WriterLemmas.{lent_on, lent_start}
-use Rattle.recode.proofs.TurnLemmas.{turns_more, turns_start}
-use Rattle.recode.proofs.ConvertLemmas.{free_into, items_into, wrote_into}
+use Rattle.recode.proofs.TurnLemmas.{turns_more, turns_start, free_into, items_into, wrote_into}
 use Rattle.recode.proofs.engine.Engine.convert.Given.{Over}
 use Rattle.recode.proofs.engine.Engine.convert.Goals.{After-turn-stop}
 use Rattle.recode.proofs.engine.Engine.convert.Goals as goal

@@ -1,5 +1,5 @@
 use Rattle.std.proofs.Common.{false, [], append_assoc, ◌≡◌, ◌+◌, ◌-◌, ◌≤◌, ◌∙◌, ◌++◌, arith, refl, sym, ap, length, length-append, map, inl, inr, true≢false, take}
-use Rattle.recode.proofs.ConvertLemmas.{items_of_bytes, items_of_lost, left_in_pivot, lost_less}
+use Rattle.recode.proofs.TurnLemmas.{items_of_bytes, items_of_lost, left_in_pivot, lost_less}
 use Rattle.recode.proofs.CodecCallLemmas.{items_less, turn_items}
 use Rattle.recode.specs.Policy.{reference_form}
 use Rattle.recode.specs.declared.job.Policy.{Policy}

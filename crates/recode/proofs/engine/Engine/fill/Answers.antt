@@ -2,10 +2,9 @@ use Rattle.std.proofs.Common.{◌≡◌, ◌<◌, length, None, arith, length-dr
 use Rattle.encoding_mem.specs.declared.decoder_result.DecoderResult.TheVariants.{OutputFull}
 use Rattle.recode.specs.calls.EngineView.{chars_between, standing}
 use Rattle.recode.specs.declared.job.Policy.{Policy}
-use Rattle.recode.proofs.ConvertLemmas.{between_is, decode_turn_from, holds_between, none_open, open_after}
+use Rattle.recode.proofs.TurnLemmas.{between_is, decode_turn_from, holds_between, none_open, open_after}
 use Rattle.recode.proofs.VerdictLemmas.{next_tells}
-use Rattle.recode.proofs.CodecCallLemmas.{IsDecoded, decoded_by, fewer_left, some_written, written_some}
-use Rattle.recode.proofs.PivotLemmas.{holds_some}
+use Rattle.recode.proofs.CodecCallLemmas.{IsDecoded, decoded_by, fewer_left, some_written, written_some, holds_some}
 use Rattle.recode.proofs.engine.Engine.fill.Goals.{After-decode_to_pivot-call}
 use Rattle.recode.proofs.engine.Engine.fill.Given.{Over}
 use Rattle.recode.proofs.engine.Engine.fill.Goals as goal

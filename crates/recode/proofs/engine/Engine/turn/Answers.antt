@@ -7,9 +7,8 @@ use Rattle.recode.specs.calls.CodecCalls.{writes_all}
 use Rattle.recode.specs.calls.EngineView.{standing}
 use Rattle.recode.specs.calls.Turns.{TakesTurns, is_last_text}
 use Rattle.recode.specs.declared.job.Policy.{Policy}
-use Rattle.recode.proofs.TurnLemmas.{finish_turn, replace_turn, replaced_state}
+use Rattle.recode.proofs.TurnLemmas.{finish_turn, replace_turn, replaced_state, Encoded, done_in, encoded, lost_some, offset_fits, text_fits}
 use Rattle.recode.proofs.VerdictLemmas.{lost_tells}
-use Rattle.recode.proofs.ConvertLemmas.{Encoded, done_in, encoded, lost_some, offset_fits, text_fits}
 use Rattle.recode.proofs.engine.Engine.turn.Goals.{After-encode-answer}
 use Rattle.recode.proofs.engine.Engine.turn.Given.{Over}
 use Rattle.recode.proofs.engine.Engine.turn.Goals as goal

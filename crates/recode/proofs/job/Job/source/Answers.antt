@@ -1,5 +1,5 @@
 use Rattle.std.proofs.Common.{sym, ◌∙◌}
-use Rattle.recode.proofs.PartLemmas.{source_where_found}
+use Rattle.recode.proofs.InputLemmas.{source_where_found}
 use Rattle.recode.proofs.job.Job.source.Goals as goal
 
 pub returns-then-takes : goal.returns-then-takes

@@ -4,8 +4,7 @@ use Rattle.encoding_mem.specs.declared.decoder_result.DecoderResult.TheVariants.
 use Rattle.recode.specs.calls.PivotText.{pivot_chars}
 use Rattle.recode.proofs.WriterLemmas.{room_on, room_start}
 use Rattle.recode.proofs.VerdictLemmas.{compares_differing, compares_end, compares_malformed, compares_more, compares_start, counted_more}
-use Rattle.recode.proofs.CodecCallLemmas.{IsDecoded, decoded_by, fewer_left, some_written, written_some}
-use Rattle.recode.proofs.PivotLemmas.{holds_some}
+use Rattle.recode.proofs.CodecCallLemmas.{IsDecoded, decoded_by, fewer_left, some_written, written_some, holds_some}
 use Rattle.recode.proofs.verdict.Verdict.compare.Goals.{After-text_in-part}
 use Rattle.recode.proofs.verdict.Verdict.compare.Given.{Over}
 use Rattle.recode.proofs.verdict.Verdict.compare.Goals as goal
