@@ -1,9 +1,9 @@
 -- What a part's log becomes in the log of the whole.
-use Rattle.std.specs.Prelude.{◌≡◌, ℕ, ◌<◌, List, ◌∷◌, ◌++◌, [], length, map, take}
+use Rattle.std.specs.Prelude.{◌≡◌, ℕ, ◌+◌, ◌<◌, List, ◌∷◌, ◌++◌, [], length, map, take}
 use Rattle.std.specs.List.{All, flat_map}
-use Rattle.recode_log.specs.Call.{Call, Failed, Flush, Passed}
+use Rattle.recode_log.specs.Call.{Call, Failed, Flush, Passed, failed_read}
 use Rattle.recode_log.specs.Counted.{CountsWrites, failures_of, history_of}
-use Rattle.recode_log.specs.Line.{line_bytes}
+use Rattle.recode_log.specs.Line.{IsValid, line_bytes}
 use Rattle.recode_log.specs.declared.counted.Counted.{Counted}
 use Rattle.recode_log.specs.declared.line.LogLine.{LogLine}
 use Rattle.recode.specs.Devices.{Gave, GaveToEnd, Grew, reads_of}
@@ -16,6 +16,13 @@ pub record MovesLines (n m : ℕ) (bytes moved : List ℕ) : Type 0 where
   pub logged : All CanBeLogged lines
   pub read : bytes ≡ flat_map line_bytes lines
   pub written : moved ≡ flat_map line_bytes (map (moved_line n m) lines)
+
+-- Bytes can be moved by n bytes and m characters: they are lines of a log, and each is one after it is moved, too.
+pub record CanBeMoved (n m : ℕ) (bytes : List ℕ) : Type 0 where
+  pub lines : List LogLine
+  pub logged : All CanBeLogged lines
+  pub moved : All (λ l. IsValid (moved_line n m l)) lines
+  pub read : bytes ≡ flat_map line_bytes lines
 
 -- Calls of a reader gave a part's log to its end, and the log of the whole grew by its lines, moved by n bytes and m
 -- characters.
@@ -51,13 +58,19 @@ IsReadOfSome (Passed room bytes) = 0 < room
 IsReadOfSome (Failed room) = 0 < room
 IsReadOfSome (Flush failed) = ⊥
 
--- these calls of a reader were made, each a read with room for some bytes
+-- how many of a reader's calls failed
+abbrev pub failed_reads : List Call → ℕ
+failed_reads [] = 0
+failed_reads (call ∷ calls) = failed_read call + failed_reads calls
+
+-- These calls of a reader were made, each a read with room for some bytes, and the count rose by those of them that failed.
 pub record MadeReads {R : Type 0} (before after : Counted R) (calls : List Call) : Type 0 where
   pub made : history_of after ≡ history_of before ++ calls
   pub some : All IsReadOfSome calls
+  pub counted : failures_of after ≡ failures_of before + failed_reads calls
 
--- The reader of a part's log was called by reads with room for some bytes, and the writer by writes of some bytes, whose
--- count rose by as many as failed.
+-- The reader of a part's log was called by reads with room for some bytes, and the writer by writes of some bytes. The
+-- count of each rose by as many as failed.
 pub record JoinCalls {R W : Type 0} (part part' : Counted R) (whole whole' : Counted W) : Type 0 where
   pub calls : List Call
   pub reads : MadeReads part part' calls

@@ -1,3 +1,4 @@
+pub mod Fault
 pub mod Joins
 pub mod Summaries
 pub mod examples

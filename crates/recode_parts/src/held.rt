@@ -1,7 +1,7 @@
 //! Bytes of a log that were read, and whose lines are not moved yet.
 
 ghost use Rattle.std.specs.Prelude.{◌≡◌, ◌≢◌, ℕ, ◌+◌, ◌-◌, ◌<◌, ◌^◌, ◌≤◌, ◌↔◌, IsTrue, List, []};
-ghost use Rattle.std.specs.Prelude.{length, take, drop, IfOk, OnErr, ◌∷◌};
+ghost use Rattle.std.specs.Prelude.{length, take, drop, IfErr, IfOk, OnErr, ◌∷◌};
 ghost use Rattle.recode_log.specs.Counted.{failures_of};
 
 use crate::join::JoinFault;
@@ -27,7 +27,11 @@ impl Model for Held {
 impl Held {
     ghost use Rattle.recode.specs.Devices.{reads_of};
     ghost use Rattle.recode_log.specs.Call.{Call};
+    ghost use Rattle.recode_log.specs.Counted.{history_of, inner_of};
+    ghost use Rattle.recode_log.specs.Told.{TellsReads};
+    ghost use Rattle.recode_parts.specs.Fault.{EndsInFailedRead};
     ghost use Rattle.recode_parts.specs.Joins.{MadeReads, ReadsMore};
+    ghost use Rattle.recode_parts.specs.declared.join.JoinFault.{JoinFault};
 
     /// No bytes.
     pub(crate) fn none() -> Held
@@ -77,7 +81,11 @@ impl Held {
         ensures call { (call : Call) × MadeReads reader.old reader.new (call ∷ []) }
         ensures ok { IfOk result (ReadsMore reader.old reader.new self.old self.new) }
         ensures err { OnErr result ((reads_of reader.new ≡ reads_of reader.old)
-            × (failures_of reader.new ≡ failures_of reader.old + 1)) }
+            × (failures_of reader.new ≡ failures_of reader.old + 1)
+            × EndsInFailedRead (history_of reader.new)) }
+        ensures fault { IfErr result (λ f. f ≡ JoinFault.Read) }
+        ensures told { TellsReads (reads_of reader.old) (reads_of reader.new)
+            (R.remaining (inner_of reader.old)) (R.remaining (inner_of reader.new)) }
     {
         let Ok(count) = reader.read(&mut self.bytes[self.len..]) else {
             return Err(JoinFault::Read);

@@ -8,12 +8,14 @@ ghost use Rattle.recode.specs.Parts.{CanBeCut, later, unwritten};
 ghost use Rattle.recode.specs.Session.{IsConverted};
 ghost use Rattle.recode.specs.declared.job.Job.{Job};
 ghost use Rattle.recode.specs.declared.job.Report.{Report};
-ghost use Rattle.recode_parts.specs.Joins.{JoinsLog, MovesLines};
+ghost use Rattle.recode_parts.specs.Joins.{CanBeMoved, JoinsLog, MovesLines};
 ghost use Rattle.recode_parts.specs.Summaries.{AddsParts, IsSummary};
 ghost use Rattle.recode_parts.specs.declared.summary.Summary.{Summary};
 
-use recode::laws::parts_are_the_whole;
-use recode_places::laws::{lines_are_told_apart, lines_of_runs_can_be_logged};
+use recode::laws::{parts_are_the_whole, pieces_are_the_input};
+use recode_places::laws::{
+    lines_are_told_apart, lines_end_in_feeds, lines_of_runs_can_be_logged,
+};
 
 /// Once two parts are joined, the next part follows them as it would the first: the input can be
 /// cut behind both, and the job of later parts stays.
@@ -46,6 +48,21 @@ pub fn joined_logs_are_the_log()
 {
     parts_are_the_whole();
     lines_are_told_apart();
+    lines_of_runs_can_be_logged();
+}
+
+/// The log of a part can be joined to that of what stands before it, if the whole has at most 2^48
+/// bytes: its lines can be moved, and it is not too long. So `join_log` does not refuse it.
+pub fn logs_of_parts_can_be_joined()
+    ensures moved { (j : Job) (x y : List ℕ) → IsValidJob j → CanBeCut j x → RunsThrough j x
+        → length (x ++ y) ≤ 2 ^ 48
+        → CanBeMoved (length x) (length (input_text j x)) (log_of (later j x) y) }
+    ensures size { (j : Job) (x : List ℕ) → IsValidJob j → length x ≤ 2 ^ 48
+        → length (log_of j x) ≤ 2 ^ 55 }
+{
+    parts_are_the_whole();
+    pieces_are_the_input();
+    lines_end_in_feeds();
     lines_of_runs_can_be_logged();
 }
 

@@ -1,12 +1,14 @@
 -- Worked rows of `specs/Joins.antt`.
-use Rattle.std.proofs.Common.{ℕ, List, [], ◌∷◌, codes, refl, arith}
+use Rattle.std.proofs.Common.{◌≡◌, ℕ, ◌-◌, ◌^◌, List, [], ◌∷◌, codes, refl, arith}
 use Rattle.std.specs.Fmt.{digits}
 use Rattle.std.proofs.lemmas.List.Elements.{All-cons, All-nil}
-use Rattle.recode_log.specs.Call.{Call, IsWriteOfSome, Passed}
+use Rattle.recode_log.specs.Call.{Call, Failed, IsWriteOfSome, Passed}
 use Rattle.recode_log.specs.declared.counted.Counted.{Counted}
 use Rattle.recode_log.specs.declared.line.LogLine.TheVariants.{Bad, Lost}
 use Rattle.recode_places.specs.Logs.{CanBeLogged}
-use Rattle.recode_parts.specs.Joins.{IsReadOfSome, JoinCalls, JoinsFirst, JoinsLog, MovesLines}
+use Rattle.recode_log.specs.Line.{IsValid}
+use Rattle.recode.specs.Parts.{moved_line}
+use Rattle.recode_parts.specs.Joins.{CanBeMoved, IsReadOfSome, JoinCalls, JoinsFirst, JoinsLog, MovesLines, failed_reads}
 
 -- ten bytes and three characters stand before a part: a malformed sequence is named by its offset in the whole, a lost
 -- character by its index there
@@ -22,6 +24,11 @@ moves-two = record {
 one-line : MovesLines 10 3 (codes "bad 6 1\n") (codes "bad 16 1\n")
 unfolding digits
 one-line = record { lines = Bad 6 1 ∷ []; logged = All-cons CanBeLogged (Bad 6 1) [] ((omega arith, omega arith, omega arith), tt) (All-nil CanBeLogged); read = refl; written = refl }
+
+-- at the greatest offset that a line can name
+can_be_moved-greatest : CanBeMoved (2 ^ 48 - 6) 3 (codes "bad 6 1\n")
+unfolding digits
+can_be_moved-greatest = record { lines = Bad 6 1 ∷ []; logged = All-cons CanBeLogged (Bad 6 1) [] ((omega arith, omega arith, omega arith), tt) (All-nil CanBeLogged); moved = All-cons (λ l. IsValid (moved_line (2 ^ 48 - 6) 3 l)) (Bad 6 1) [] (omega arith, omega arith, omega arith) (All-nil (λ l. IsValid (moved_line (2 ^ 48 - 6) 3 l))); read = refl }
 
 -- a part's log that comes in two reads, then its end
 joins-one : JoinsLog 10 3 [] (codes "bad 6" ∷ codes " 1\n" ∷ [] ∷ []) (codes "bad 0 1\n") (codes "bad 0 1\nbad 16 1\n")
@@ -39,9 +46,13 @@ counted calls = record { recorded = record { inner = 0; history = record { calls
 join_calls-empty : JoinCalls (counted []) (counted (Passed 4 [] ∷ [])) (counted []) (counted [])
 join_calls-empty = record {
   calls = Passed 4 [] ∷ [];
-  reads = record { made = refl; some = All-cons IsReadOfSome (Passed 4 []) [] (omega arith) (All-nil IsReadOfSome) };
+  reads = record { made = refl; some = All-cons IsReadOfSome (Passed 4 []) [] (omega arith) (All-nil IsReadOfSome); counted = refl };
   writes = record { calls = []; made = refl; some = All-nil IsWriteOfSome; counted = refl };
 }
+
+-- of two calls the second failed
+failed_reads-second : failed_reads (Passed 4 [] ∷ Failed 4 ∷ []) ≡ 1
+failed_reads-second = refl
 
 -- a read without room is no such call
 is_read-no_room : IsReadOfSome (Passed 0 []) → ⊥
