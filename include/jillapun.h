@@ -21,7 +21,8 @@
  * handle by a pointer to `const` writes nothing to it: any number of such calls may be made with one
  * handle at once, while no other call is.
  *
- * If a function that returns a length can't do what is asked for, it returns SIZE_MAX.
+ * Lengths. A function that writes and returns a length has written nothing if that is greater than
+ * the room: so much is wanted. SIZE_MAX stands in place of a length if there is none.
  *
  * Functions take memory by malloc and give it back by free. None prints, locks, starts a thread or
  * opens a file.
@@ -164,8 +165,9 @@ enum {
 };
 
 /**
- * In place of a length: the room is not enough, or the bytes are not what the call is for.
- * Nothing was written, unless the call says otherwise.
+ * In place of a length: there is none, since nothing has the number, the bytes are not what the
+ * call is for, or the length passes a `size_t`. Nothing was written, unless the call says
+ * otherwise.
  */
 #define JILLAPUN_REFUSED SIZE_MAX
 
@@ -481,8 +483,8 @@ uint8_t jillapun_for_bom(const uint8_t *bytes, size_t bytes_len, size_t *length)
 
 /**
  * Writes the name of an encoding at the start of `name`, as the Encoding Standard writes it
- * (section 4.2): `Shift_JIS`. Returns its length in bytes; at most 14. Where no encoding has
- * the number, or `name` is shorter than that, nothing is written and `SIZE_MAX` is returned.
+ * (section 4.2): `Shift_JIS`. Returns its length in bytes; at most 14. If `name` is shorter
+ * than that, nothing is written. If no encoding has the number, `SIZE_MAX` is returned.
  */
 size_t jillapun_name(uint8_t encoding, uint8_t *name, size_t name_len);
 
@@ -518,8 +520,8 @@ bool jillapun_can_encode_everything(uint8_t encoding);
 /**
  * Writes the name of the file of the index with this place, from 0 on, among those that an
  * encoding needs, as `index-jis0208.txt`, at the start of `name`. Returns its length in bytes;
- * at most 30. Where the encoding needs no further index, no encoding has the number, or `name`
- * is shorter than that, nothing is written and `SIZE_MAX` is returned.
+ * at most 30. If `name` is shorter than that, nothing is written. If the encoding needs no
+ * further index, or no encoding has the number, `SIZE_MAX` is returned.
  */
 size_t jillapun_needs(uint8_t encoding, size_t place, uint8_t *name, size_t name_len);
 
@@ -576,39 +578,69 @@ void jillapun_decoder_free(jillapun_decoder *decoder);
 uint8_t jillapun_decoder_encoding(const jillapun_decoder *decoder);
 
 /**
- * How many bytes of UTF-8 are room enough for the text of `n` more bytes, with U+FFFD for each
- * malformed sequence; `SIZE_MAX` if the number passes a `size_t`, the handle holds no decoder,
- * or the stream has ended. What is pending counts too.
- */
-size_t jillapun_decoder_max_utf8_length(const jillapun_decoder *decoder, size_t n);
-
-/**
- * How many bytes of UTF-8 are room enough for the text of `n` more bytes up to the first
- * malformed sequence, and for one U+FFFD there; `SIZE_MAX` if the number passes a `size_t`, the
- * handle holds no decoder, or the stream has ended. What is pending counts too.
- */
-size_t jillapun_decoder_max_utf8_length_without_replacement(const jillapun_decoder *decoder,
-    size_t n);
-
-/**
- * How many units of UTF-16 are room enough for the text of `n` more bytes, with U+FFFD for each
- * malformed sequence; `SIZE_MAX` if the number passes a `size_t`, the handle holds no decoder,
- * or the stream has ended. What is pending counts too.
- */
-size_t jillapun_decoder_max_utf16_length(const jillapun_decoder *decoder, size_t n);
-
-/**
- * How many of `bytes`, if they come next, stand for the characters of their own numbers, as in
- * Latin1: a caller may copy these, and hand in the rest. In a single-byte encoding the index
- * decides, and the number is the most that is true. In the others it ends before the first byte
- * that is not ASCII, in ISO-2022-JP also before the first 0E, 0F or 1B.
+ * Tells in `length` how many bytes of UTF-8 are room enough for the text of `n` more bytes,
+ * with U+FFFD for each malformed sequence; `SIZE_MAX` if the number passes a `size_t`. What is
+ * pending counts too.
  *
- * `SIZE_MAX` if it is not known: a byte order mark may still come, bytes are pending,
- * ISO-2022-JP is in another mode than ASCII, the encoding is UTF-16BE, UTF-16LE or replacement,
- * the handle holds no decoder, or the stream has ended.
+ * Returns `JILLAPUN_OK`. Else `length` is 0: `JILLAPUN_CLOSED`, the handle holds no decoder;
+ * `JILLAPUN_FINISHED`, the stream has ended.
  */
-size_t jillapun_decoder_latin1_byte_compatible_up_to(jillapun_decoder *decoder,
-    const uint8_t *bytes, size_t bytes_len);
+uint8_t jillapun_decoder_max_utf8_length(const jillapun_decoder *decoder, size_t n, size_t *length);
+
+/**
+ * Tells in `length` how many bytes of UTF-8 are room enough for the text of `n` more bytes up
+ * to the first malformed sequence, and for one U+FFFD there; `SIZE_MAX` if the number passes a
+ * `size_t`. What is pending counts too. What is returned is as of
+ * `jillapun_decoder_max_utf8_length`.
+ */
+uint8_t jillapun_decoder_max_utf8_length_without_replacement(const jillapun_decoder *decoder,
+    size_t n, size_t *length);
+
+/**
+ * Tells in `length` how many units of UTF-16 are room enough for the text of `n` more bytes,
+ * with U+FFFD for each malformed sequence; `SIZE_MAX` if the number passes a `size_t`. What is
+ * pending counts too. What is returned is as of `jillapun_decoder_max_utf8_length`.
+ */
+uint8_t jillapun_decoder_max_utf16_length(const jillapun_decoder *decoder, size_t n,
+    size_t *length);
+
+/**
+ * Tells in `length` how many of `bytes`, if they come next, stand for the characters of their
+ * own numbers, as in Latin1: a caller may copy these, and hand in the rest. In a single-byte
+ * encoding the index decides, and the number is the most that is true. In the others it ends
+ * before the first byte that is not ASCII, in ISO-2022-JP also before the first 0E, 0F or 1B.
+ * It is `SIZE_MAX` if it is not known: a byte order mark may still come, bytes are pending,
+ * ISO-2022-JP is in another mode than ASCII, or the encoding is UTF-16BE, UTF-16LE or
+ * replacement.
+ *
+ * Returns `JILLAPUN_OK`. Else `length` is 0: `JILLAPUN_CLOSED`, the handle holds no decoder;
+ * `JILLAPUN_FINISHED`, the stream has ended.
+ */
+uint8_t jillapun_decoder_latin1_byte_compatible_up_to(jillapun_decoder *decoder,
+    const uint8_t *bytes, size_t bytes_len, size_t *length);
+
+/* The exports that decode to UTF-8 over a text. */
+
+/**
+ * Decodes the next bytes of a stream to UTF-8 at the start of a text, with U+FFFD for each
+ * malformed sequence. What it does and returns is as of `jillapun_decoder_decode_to_utf8`, but
+ * for this: if a character of `dst` is overwritten in part, its other bytes become 00, so what
+ * was UTF-8 is UTF-8 after the call. Of what stands behind the bytes that were written the call
+ * looks at three, and it changes those of them that go on with a character (80 to BF), whether
+ * or not `dst` was UTF-8.
+ */
+uint8_t jillapun_decoder_decode_to_str(jillapun_decoder *decoder, const uint8_t *src,
+    size_t src_len, uint8_t *dst, size_t dst_len, bool last, jillapun_progress *progress);
+
+/**
+ * Decodes the next bytes of a stream to UTF-8 at the start of a text, up to the first malformed
+ * sequence. What it does and returns is as of
+ * `jillapun_decoder_decode_to_utf8_without_replacement`, but that what was UTF-8 stays UTF-8,
+ * as with `jillapun_decoder_decode_to_str`.
+ */
+uint8_t jillapun_decoder_decode_to_str_without_replacement(jillapun_decoder *decoder,
+    const uint8_t *src, size_t src_len, uint8_t *dst, size_t dst_len, bool last,
+    jillapun_progress *progress);
 
 /* The exports that decode to UTF-16. */
 
@@ -621,7 +653,7 @@ size_t jillapun_decoder_latin1_byte_compatible_up_to(jillapun_decoder *decoder,
  * `JILLAPUN_OUTPUT_FULL` fewer than 2 units are free: make room, and hand in the rest again,
  * with `last` as it was, even if nothing is left. A surrogate pair is never split, and nothing
  * after what is written changes. `JILLAPUN_OUTPUT_FULL` does not come if `dst` is as long as
- * `jillapun_decoder_max_utf16_length` returns.
+ * `jillapun_decoder_max_utf16_length` tells.
  *
  * Else nothing is done, and all of `progress` is 0: `JILLAPUN_CLOSED`, the handle holds no
  * decoder; `JILLAPUN_FINISHED`, the stream has ended.
@@ -638,7 +670,7 @@ uint8_t jillapun_decoder_decode_to_utf16(jillapun_decoder *decoder, const uint8_
  * `JILLAPUN_OUTPUT_FULL` fewer than 2 units are free: make room, and hand in the rest again,
  * with `last` as it was, even if nothing is left. A surrogate pair is never split, and nothing
  * after what is written changes. `JILLAPUN_OUTPUT_FULL` does not come if `dst` is as long as
- * `jillapun_decoder_max_utf16_length` returns.
+ * `jillapun_decoder_max_utf16_length` tells.
  *
  * At `JILLAPUN_MALFORMED` a sequence of `malformed_length` bytes ends `malformed_after` bytes
  * before the end of what was read, and a unit is free: write U+FFFD or not, and go on as at
@@ -662,7 +694,7 @@ uint8_t jillapun_decoder_decode_to_utf16_without_replacement(jillapun_decoder *d
  * `JILLAPUN_OUTPUT_FULL` fewer than 4 bytes are free: make room, and hand in the rest again,
  * with `last` as it was, even if nothing is left. A character is never split, and nothing after
  * what is written changes. `JILLAPUN_OUTPUT_FULL` does not come if `dst` is as long as
- * `jillapun_decoder_max_utf8_length` returns.
+ * `jillapun_decoder_max_utf8_length` tells.
  *
  * Else nothing is done, and all of `progress` is 0: `JILLAPUN_CLOSED`, the handle holds no
  * decoder; `JILLAPUN_FINISHED`, the stream has ended.
@@ -679,7 +711,7 @@ uint8_t jillapun_decoder_decode_to_utf8(jillapun_decoder *decoder, const uint8_t
  * `JILLAPUN_OUTPUT_FULL` fewer than 4 bytes are free: make room, and hand in the rest again,
  * with `last` as it was, even if nothing is left. A character is never split, and nothing after
  * what is written changes. `JILLAPUN_OUTPUT_FULL` does not come if `dst` is as long as
- * `jillapun_decoder_max_utf8_length_without_replacement` returns.
+ * `jillapun_decoder_max_utf8_length_without_replacement` tells.
  *
  * At `JILLAPUN_MALFORMED` a sequence of `malformed_length` bytes ends `malformed_after` bytes
  * before the end of what was read, and 3 bytes are free: write U+FFFD or not, and go on as at
@@ -723,36 +755,37 @@ uint8_t jillapun_encoder_encoding(const jillapun_encoder *encoder);
 bool jillapun_encoder_has_pending_state(const jillapun_encoder *encoder);
 
 /**
- * How many bytes are room enough for what `n` bytes of UTF-8 are encoded to with references, if
- * each character has bytes; `SIZE_MAX` if the number passes a `size_t`, or the handle holds no
- * encoder.
+ * Tells in `length` how many bytes are room enough for what `n` bytes of UTF-8 are encoded to
+ * with references, if each character has bytes; `SIZE_MAX` if the number passes a `size_t`.
+ *
+ * Returns `JILLAPUN_OK`; or `JILLAPUN_CLOSED`, and `length` is 0: the handle holds no encoder.
  */
-size_t jillapun_encoder_max_length_from_utf8_if_no_unmappables(const jillapun_encoder *encoder,
-    size_t n);
+uint8_t jillapun_encoder_max_length_from_utf8_if_no_unmappables(const jillapun_encoder *encoder,
+    size_t n, size_t *length);
 
 /**
- * How many bytes are room enough for what `n` bytes of UTF-8 are encoded to without
- * replacement, and for the last escape; `SIZE_MAX` if the number passes a `size_t`, or the
- * handle holds no encoder.
+ * Tells in `length` how many bytes are room enough for what `n` bytes of UTF-8 are encoded to
+ * without replacement, and for the last escape; `SIZE_MAX` if the number passes a `size_t`.
+ * What is returned is as of `jillapun_encoder_max_length_from_utf8_if_no_unmappables`.
  */
-size_t jillapun_encoder_max_length_from_utf8_without_replacement(const jillapun_encoder *encoder,
-    size_t n);
+uint8_t jillapun_encoder_max_length_from_utf8_without_replacement(const jillapun_encoder *encoder,
+    size_t n, size_t *length);
 
 /**
- * How many bytes are room enough for what `n` units of UTF-16 are encoded to with references,
- * if each character has bytes; `SIZE_MAX` if the number passes a `size_t`, or the handle holds
- * no encoder.
+ * Tells in `length` how many bytes are room enough for what `n` units of UTF-16 are encoded to
+ * with references, if each character has bytes; `SIZE_MAX` if the number passes a `size_t`.
+ * What is returned is as of `jillapun_encoder_max_length_from_utf8_if_no_unmappables`.
  */
-size_t jillapun_encoder_max_length_from_utf16_if_no_unmappables(const jillapun_encoder *encoder,
-    size_t n);
+uint8_t jillapun_encoder_max_length_from_utf16_if_no_unmappables(const jillapun_encoder *encoder,
+    size_t n, size_t *length);
 
 /**
- * How many bytes are room enough for what `n` units of UTF-16 are encoded to without
- * replacement, and for the last escape; `SIZE_MAX` if the number passes a `size_t`, or the
- * handle holds no encoder.
+ * Tells in `length` how many bytes are room enough for what `n` units of UTF-16 are encoded to
+ * without replacement, and for the last escape; `SIZE_MAX` if the number passes a `size_t`.
+ * What is returned is as of `jillapun_encoder_max_length_from_utf8_if_no_unmappables`.
  */
-size_t jillapun_encoder_max_length_from_utf16_without_replacement(const jillapun_encoder *encoder,
-    size_t n);
+uint8_t jillapun_encoder_max_length_from_utf16_without_replacement(const jillapun_encoder *encoder,
+    size_t n, size_t *length);
 
 /* The exports that encode UTF-16. */
 
@@ -1017,7 +1050,7 @@ size_t jillapun_iso_2022_jp_ascii_valid_up_to(const uint8_t *buffer, size_t buff
 /**
  * Copies the longest prefix of `src` that is ASCII to the start of `dst`, and returns its
  * length in bytes. Room: as many bytes as `src` has; if `dst` is shorter, nothing is written
- * and `SIZE_MAX` is returned.
+ * and that number is returned.
  */
 size_t jillapun_mem_copy_ascii_to_ascii(const uint8_t *src, size_t src_len, uint8_t *dst,
     size_t dst_len);
@@ -1025,7 +1058,7 @@ size_t jillapun_mem_copy_ascii_to_ascii(const uint8_t *src, size_t src_len, uint
 /**
  * Copies the longest prefix of `src` that is ASCII to the start of `dst`, each byte as a unit
  * of UTF-16, and returns its length. Room: as many units as `src` has bytes; if `dst` is
- * shorter, nothing is written and `SIZE_MAX` is returned.
+ * shorter, nothing is written and that number is returned.
  */
 size_t jillapun_mem_copy_ascii_to_basic_latin(const uint8_t *src, size_t src_len,
     jillapun_char16 *dst, size_t dst_len);
@@ -1033,7 +1066,7 @@ size_t jillapun_mem_copy_ascii_to_basic_latin(const uint8_t *src, size_t src_len
 /**
  * Copies the longest prefix of `src` whose units of UTF-16 are below 80 hex to the start of
  * `dst`, each as a byte, and returns its length. Room: as many bytes as `src` has units; if
- * `dst` is shorter, nothing is written and `SIZE_MAX` is returned.
+ * `dst` is shorter, nothing is written and that number is returned.
  */
 size_t jillapun_mem_copy_basic_latin_to_ascii(const jillapun_char16 *src, size_t src_len,
     uint8_t *dst, size_t dst_len);
@@ -1114,7 +1147,7 @@ size_t jillapun_mem_str_latin1_up_to(const uint8_t *buffer, size_t buffer_len);
 /**
  * Converts Latin1 to UTF-16 at the start of `dst`, a unit for each byte, and returns how many
  * units were written. Room: as many units as `src` has bytes; if `dst` is shorter, nothing is
- * written and `SIZE_MAX` is returned.
+ * written and that number is returned.
  */
 size_t jillapun_mem_convert_latin1_to_utf16(const uint8_t *src, size_t src_len,
     jillapun_char16 *dst, size_t dst_len);
@@ -1123,24 +1156,24 @@ size_t jillapun_mem_convert_latin1_to_utf16(const uint8_t *src, size_t src_len,
  * Takes the low eight bits of each unit of UTF-16, into the start of `dst`, and returns how
  * many bytes were written. If `jillapun_mem_is_utf16_latin1` holds of `src`, that is its text
  * in Latin1; else it is not. Room: as many bytes as `src` has units; if `dst` is shorter,
- * nothing is written and `SIZE_MAX` is returned.
+ * nothing is written and that number is returned.
  */
 size_t jillapun_mem_convert_utf16_to_latin1_lossy(const jillapun_char16 *src, size_t src_len,
     uint8_t *dst, size_t dst_len);
 
 /**
  * Converts UTF-8 to Latin1 at the start of `dst`, a byte for each character, and returns how
- * many bytes were written. Room: as many bytes as `src` has. If `dst` is shorter, or
- * `jillapun_mem_is_utf8_latin1` does not hold of `src`, nothing is written and `SIZE_MAX` is
- * returned.
+ * many bytes were written. Room: as many bytes as `src` has; if `dst` is shorter, nothing is
+ * written and that number is returned. If there is room, but `jillapun_mem_is_utf8_latin1` does
+ * not hold of `src`, nothing is written and `SIZE_MAX` is returned.
  */
 size_t jillapun_mem_convert_utf8_to_latin1_lossy(const uint8_t *src, size_t src_len, uint8_t *dst,
     size_t dst_len);
 
 /**
  * Converts Latin1 to UTF-8 at the start of `dst`, and returns how many bytes were written.
- * Room: twice as many bytes as `src` has; if `dst` is shorter, nothing is written and
- * `SIZE_MAX` is returned.
+ * Room: twice as many bytes as `src` has; if `dst` is shorter, nothing is written and that
+ * number is returned.
  */
 size_t jillapun_mem_convert_latin1_to_utf8(const uint8_t *src, size_t src_len, uint8_t *dst,
     size_t dst_len);
@@ -1151,7 +1184,7 @@ size_t jillapun_mem_convert_latin1_to_utf8(const uint8_t *src, size_t src_len, u
  * UTF-8 after the call. Of what stands behind the bytes that were written the call looks at
  * three, and it changes those of them that go on with a character (80 to BF), whether or not
  * `dst` was UTF-8. Room: twice as many bytes as `src` has; if `dst` is shorter, nothing is
- * written and `SIZE_MAX` is returned.
+ * written and that number is returned.
  */
 size_t jillapun_mem_convert_latin1_to_str(const uint8_t *src, size_t src_len, uint8_t *dst,
     size_t dst_len);
@@ -1212,7 +1245,7 @@ void jillapun_mem_ensure_utf16_validity(jillapun_char16 *buffer, size_t buffer_l
 /**
  * Converts UTF-16 to UTF-8 at the start of `dst`, with U+FFFD for each surrogate in no pair,
  * and returns how many bytes were written. Room: three bytes for each unit of `src`; if `dst`
- * is shorter, nothing is written and `SIZE_MAX` is returned.
+ * is shorter, nothing is written and that number is returned.
  */
 size_t jillapun_mem_convert_utf16_to_utf8(const jillapun_char16 *src, size_t src_len, uint8_t *dst,
     size_t dst_len);
@@ -1223,7 +1256,7 @@ size_t jillapun_mem_convert_utf16_to_utf8(const jillapun_char16 *src, size_t src
  * other bytes become 00, so what was UTF-8 is UTF-8 after the call. Of what stands behind the
  * bytes that were written the call looks at three, and it changes those of them that go on with
  * a character (80 to BF), whether or not `dst` was UTF-8. Room: three bytes for each unit of
- * `src`; if `dst` is shorter, nothing is written and `SIZE_MAX` is returned.
+ * `src`; if `dst` is shorter, nothing is written and that number is returned.
  */
 size_t jillapun_mem_convert_utf16_to_str(const jillapun_char16 *src, size_t src_len, uint8_t *dst,
     size_t dst_len);
@@ -1239,16 +1272,16 @@ size_t jillapun_utf8_valid_up_to(const uint8_t *buffer, size_t buffer_len);
 /**
  * Converts UTF-8 to UTF-16 at the start of `dst`, with U+FFFD for each malformed sequence, and
  * returns how many units were written. Room: one unit more than `src` has bytes; if `dst` is
- * shorter, nothing is written and `SIZE_MAX` is returned.
+ * shorter, nothing is written and that number is returned.
  */
 size_t jillapun_mem_convert_utf8_to_utf16(const uint8_t *src, size_t src_len, jillapun_char16 *dst,
     size_t dst_len);
 
 /**
  * Converts UTF-8 to UTF-16 at the start of `dst`, and returns how many units were written.
- * Room: as many units as `src` has bytes; if `dst` is shorter, nothing is written and
- * `SIZE_MAX` is returned. If `src` is not well-formed, `SIZE_MAX` is returned, too, and `dst`
- * begins with the text before the first malformed sequence.
+ * Room: as many units as `src` has bytes; if `dst` is shorter, nothing is written and that
+ * number is returned. If there is room, but `src` is not well-formed, `SIZE_MAX` is returned,
+ * and `dst` begins with the text before the first malformed sequence.
  */
 size_t jillapun_mem_convert_utf8_to_utf16_without_replacement(const uint8_t *src, size_t src_len,
     jillapun_char16 *dst, size_t dst_len);

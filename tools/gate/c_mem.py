@@ -86,7 +86,8 @@ class Checks:
         return numbers
 
     def into_bytes(self, name, source, want, least, old=None):
-        """A call that writes bytes: what is wanted at the start, and nothing after it; with too little room, nothing at all."""
+        """A call that writes bytes: what is wanted at the start, and nothing after it; with too little room, nothing at all, and
+        it returns the least that is enough."""
         room = bytearray(old if old is not None else [BYTE] * (least + self.random.randint(0, 9)))
         before = bytes(room)
         got = getattr(self.library, name)(source, room)
@@ -94,7 +95,7 @@ class Checks:
         if least:
             short = bytearray([BYTE] * (least - 1))
             got = getattr(self.library, name)(source, short)
-            self.same(name + " with too little room", source, (got, set(short)), (REFUSED, {BYTE} if least > 1 else set()))
+            self.same(name + " with too little room", source, (got, set(short)), (least, {BYTE} if least > 1 else set()))
 
     @staticmethod
     def after(name, rest):
@@ -113,7 +114,7 @@ class Checks:
         self.same(name, source, (got, list(room)[:size]), (len(want) if result is None else result, wanted))
         if least:
             got = getattr(self.library, name)(source, (room, least - 1))
-            self.same(name + " with too little room", source, (got, list(room)[:size]), (REFUSED, wanted))
+            self.same(name + " with too little room", source, (got, list(room)[:size]), (least, wanted))
 
     def of_bytes(self):
         data, call = self.some_bytes(), self.library

@@ -137,6 +137,7 @@ class Streams:
         none = self.library.jillapun_for_label_no_replacement(b"iso-2022-kr")
         self.same("for_label_no_replacement", "iso-2022-kr", none, NUMBERS["NO_ENCODING"])
         self.same("name", 40, self.library.jillapun_name(40, bytearray(40)), NUMBERS["REFUSED"])
+        self.same("name in no room", 40, self.library.jillapun_name(self.numbers["GBK"], bytearray(2)), 3)
         length = ctypes.c_size_t()
         for name, mark in (*BOMS, (None, b"\xef\xbb"), (None, b"")):
             number = self.library.jillapun_for_bom(mark + b"a" if name else mark, length)
@@ -166,7 +167,7 @@ class Streams:
     def latin1(self):
         """How far a new decoder says that bytes are Latin1: they are so if each alone is the character of its number, and, where
         a character may have more bytes, if it is ASCII."""
-        call = self.library.jillapun_decoder_latin1_byte_compatible_up_to
+        call, found = self.library.jillapun_decoder_latin1_byte_compatible_up_to, ctypes.c_size_t()
         for name, number in self.numbers.items():
             most = 256 if name in standard.SINGLE_BYTE else 128
             alone = [standard.pieces(self.encodings[name].decoder(), bytes([byte])) for byte in range(most)]
@@ -179,9 +180,9 @@ class Streams:
                     data = bytes(self.random.choices(own or [0], k=self.random.randint(0, 9))) + self.random.randbytes(3)
                     length = next((at for at, byte in enumerate(data) if byte not in own), len(data))
                     wanted = length if is_known else NUMBERS["REFUSED"]
-                    self.same("latin1", (name, mark, data), call(handle, data), wanted)
+                    self.same("latin1", (name, mark, data), self.told("latin1", call(handle, data, found), found), wanted)
                 self.library.jillapun_decoder_free(handle)
-                self.same("latin1", "freed", call(handle, b"a"), NUMBERS["REFUSED"])
+                self.must("latin1 when freed", call(handle, b"a", found), "CLOSED")
 
     def decoded(self, call, job, parts, to_units):
         """A stream by a decoder of its own: its text, its faults, and whether a call told of errors."""
@@ -194,10 +195,12 @@ class Streams:
             last = number == len(parts) - 1
             for _ in range(MOST_CALLS):
                 size = self.random.randint(4, most)
-                room = (units([0] * size), size) if to_units else bytearray(size)
+                room = (units([0] * size), size) if to_units else bytearray(self.some_text(size))
                 self.must(call, getattr(self.library, call)(handle, part, room, last, progress))
                 part, before = part[progress.read :], before + progress.read
                 written = room[0][: progress.written] if to_units else room[: progress.written]
+                if "to_str" in call and self.valid_len(room) != size:
+                    raise Wrong("%s leaves no text" % call)
                 text += b"".join(unit.to_bytes(2, "little") for unit in written) if to_units else written
                 had_errors |= progress.had_errors
                 if progress.outcome == NUMBERS["INPUT_EMPTY"]:
@@ -214,12 +217,18 @@ class Streams:
         self.must("after it is freed", getattr(self.library, call)(handle, b"", room, True, progress), "CLOSED")
         return text.decode("utf-16-le" if to_units else "utf-8"), faults, had_errors
 
+    def some_text(self, size):
+        """A text of so many bytes."""
+        text = "".join(self.random.choice("aé日\U0001f4a9") for _ in range(min(size, 99))).encode()[:size]
+        text = text[: self.valid_len(text)]
+        return text + b"." * (size - len(text))
+
     def decoders(self, job, data, parts):
-        """The four calls of a decoder, and the call for a whole input."""
+        """The six calls of a decoder, and the call for a whole input."""
         pieces = plain_recode.pieces(self.encodings, job, data)[1]
         text = text_of(point for _, _, points in pieces for point in ((0xFFFD,) if points is None else points))
         faults = [(start, end - start) for start, end, points in pieces if points is None]
-        for to_units, name in ((False, "utf8"), (True, "utf16")):
+        for to_units, name in ((False, "utf8"), (False, "str"), (True, "utf16")):
             call = "jillapun_decoder_decode_to_" + name
             self.same(call, (job, data, parts), self.decoded(call, job, parts, to_units), (text, [], bool(faults)))
             call += "_without_replacement"
@@ -230,6 +239,16 @@ class Streams:
         if not faults:
             self.queried_without_faults(job, data, text)
 
+    def told(self, call, status, length):
+        """A length that a call tells beside its status."""
+        self.must(call, status)
+        return length.value
+
+    def asked_room(self, call, handle, size):
+        """What the query for room tells of so many bytes or units."""
+        length = ctypes.c_size_t()
+        return self.told(call, getattr(self.library, call)(handle, size, length), length)
+
     def queried(self, job, data, text):
         """A whole stream in one call, in the room that its query asks for."""
         progress = self.library.struct("Progress")()
@@ -239,7 +258,7 @@ class Streams:
             self.must("decoder_new", new)
             self.must("decoder_new twice", self.library.jillapun_decoder_new(self.tables, 0, 0, handle), "IN_USE")
             self.same("encoding", job, self.library.jillapun_decoder_encoding(handle), self.numbers[job.source])
-            size = getattr(self.library, "jillapun_decoder_max_%s_length" % name)(handle, len(data))
+            size = self.asked_room("jillapun_decoder_max_%s_length" % name, handle, len(data))
             room = bytearray(size) if name == "utf8" else (units([0] * size), size)
             call = "jillapun_decoder_decode_to_" + name
             self.must(call, getattr(self.library, call)(handle, data, room, True, progress))
@@ -252,7 +271,7 @@ class Streams:
         handle, progress = self.library.struct("DecoderHandle")(), self.library.struct("Progress")()
         new = self.library.jillapun_decoder_new(self.tables, self.numbers[job.source], MARKS[job.mark], handle)
         self.must("decoder_new", new)
-        room = bytearray(self.library.jillapun_decoder_max_utf8_length_without_replacement(handle, len(data)))
+        room = bytearray(self.asked_room("jillapun_decoder_max_utf8_length_without_replacement", handle, len(data)))
         call = "jillapun_decoder_decode_to_utf8_without_replacement"
         self.must(call, getattr(self.library, call)(handle, data, room, True, progress))
         written = bytes(room[: progress.written]).decode()
@@ -404,7 +423,7 @@ class Streams:
         number = self.library.jillapun_encoder_encoding(handle)
         self.same("encoder_encoding", job.target, number, self.numbers[self.encodings[job.target].output])
         source = self.source(text_of(points), of_units)
-        room = bytearray(getattr(self.library, query)(handle, source[1] if of_units else len(source)))
+        room = bytearray(self.asked_room(query, handle, source[1] if of_units else len(source)))
         self.must(call, getattr(self.library, call)(handle, source, room, True, progress))
         self.same(query, (job, points), (progress.outcome, bytes(room[: progress.written])), (NUMBERS["INPUT_EMPTY"], plain))
         self.same("after the end", job.target, self.library.jillapun_encoder_has_pending_state(handle), False)

@@ -74,7 +74,8 @@ HEAD = """/*
  * handle by a pointer to `const` writes nothing to it: any number of such calls may be made with one
  * handle at once, while no other call is.
  *
- * If a function that returns a length can't do what is asked for, it returns SIZE_MAX.
+ * Lengths. A function that writes and returns a length has written nothing if that is greater than
+ * the room: so much is wanted. SIZE_MAX stands in place of a length if there is none.
  *
  * Functions take memory by malloc and give it back by free. None prints, locks, starts a thread or
  * opens a file.

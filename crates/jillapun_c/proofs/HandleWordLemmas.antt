@@ -14,7 +14,7 @@ use Rattle.jillapun_c.specs.DecoderCalls.{AsksRoom}
 use Rattle.jillapun_c.specs.EncodingNumbers.{encoding_at}
 use Rattle.jillapun_c.specs.HandleWords.{decoder_words}
 use Rattle.jillapun_c.specs.declared.decoder.words.DecoderWords.{DecoderWords}
-use Rattle.jillapun_c.specs.declared.status.TheConstants.{REFUSED}
+use Rattle.jillapun_c.specs.declared.status.TheConstants.{CLOSED, OK, REFUSED}
 
 same_some : {X : Type 0} (x y : X) → Some x ≡ Some y → x ≡ y
 same_some x y same = ap (λ o. elim o [ None ↦ x | Some z ↦ z ]) same
@@ -24,15 +24,15 @@ pub found_at : (e : Encoding) → encoding_at (number_of e) ≡ Some e
 found_at Big5 = refl
 found_at _ = refl
 
-pub refused_if_unknown : (k : OutputUnit) (n : ℕ) (held : Option Decoder) (w : DecoderWords) → w ≡ decoder_words held → encoding_at w.encoding ≡ None → AsksRoom k held n REFUSED
-refused_if_unknown k n None w is none = refl
-refused_if_unknown k n (Some d) w is none =
+pub closed_if_unknown : (k : OutputUnit) (n length : ℕ) (held : Option Decoder) (w : DecoderWords) → w ≡ decoder_words held → encoding_at w.encoding ≡ None → AsksRoom k held n length CLOSED
+closed_if_unknown k n length None w is none = refl
+closed_if_unknown k n length (Some d) w is none =
     let at : encoding_at w.encoding ≡ Some ((decoder_view d).source []) = ap (λ (x : DecoderWords). encoding_at x.encoding) is ∙ found_at ((decoder_view d).source []) in absurd (cc)
 
 pub asked_by_words : (k : OutputUnit) (n : ℕ) (held : Option Decoder) (w : DecoderWords) (e : Encoding) (room : Option ℕ) → w ≡ decoder_words held → not w.is_there ≡ false → w.is_finished ≡ false
     → encoding_at w.encoding ≡ Some e
     → room ≡ room_by (record { encoding = e; may_be_utf8 = w.may_be_utf8; may_be_utf16 = w.may_be_utf16; ahead = w.ahead; pending = w.pending }) k n
-    → AsksRoom k held n (unwrap_or room REFUSED)
+    → AsksRoom k held n (unwrap_or room REFUSED) OK
 asked_by_words k n None w e room is there live at asked = let none : not w.is_there ≡ true = ap (λ (x : DecoderWords). not x.is_there) is in absurd (cc)
 asked_by_words k n (Some d) w e room is there live at asked =
     let r = room_rule_of (decoder_view d) in
@@ -40,5 +40,5 @@ asked_by_words k n (Some d) w e room is there live at asked =
     let by_words = ap (λ (x : DecoderWords). room_by (record { encoding = e; may_be_utf8 = x.may_be_utf8; may_be_utf16 = x.may_be_utf16; ahead = x.ahead; pending = x.pending }) k n) is in
     let by_rule = ap (λ (x : Encoding). room_by (record { encoding = x; may_be_utf8 = r.may_be_utf8; may_be_utf16 = r.may_be_utf16; ahead = r.ahead; pending = r.pending }) k n) named in (
       λ ended. let same : w.is_finished ≡ (decoder_view d).finished = ap (λ (x : DecoderWords). x.is_finished) is in absurd (cc),
-      λ _. ap (λ o. unwrap_or o REFUSED) (asked ∙ by_words ∙ by_rule ∙ sym (asked_by_rule (decoder_view d) (decoder.ghosts.opened d) k n)),
+      λ _. (refl, ap (λ o. unwrap_or o REFUSED) (asked ∙ by_words ∙ by_rule ∙ sym (asked_by_rule (decoder_view d) (decoder.ghosts.opened d) k n))),
     )

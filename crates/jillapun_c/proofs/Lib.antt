@@ -13,6 +13,7 @@ mod Openings
 mod RoomLemmas
 mod SomeBytesLemmas
 mod TextCallLemmas
+mod TextDecodeLemmas
 mod TextPartLemmas
 mod TextRoomLemmas
 mod UnitRoomLemmas

@@ -61,24 +61,24 @@ pub record DecodesUpToFault (unit : OutputUnit) (before : Decoder) (after : Opti
   pub call : DecoderCall (decoder_view before) (decoder_view decoder) src last progress.read Writes free room mark outcome
   pub enough : IfRoomAsked (decoder_view before) unit (length src) size (outcome ≢ raw_.OutputFull)
 
--- the room that is asked for the text of so many bytes; SIZE_MAX if it is more than a length can say, if there is no
--- decoder, or if its stream has ended
-abbrev pub AsksRoom : OutputUnit → Option Decoder → (size returned : ℕ) → Type 0
-AsksRoom asked_in None size returned = returned ≡ REFUSED
-AsksRoom asked_in (Some d) size returned =
-    ((decoder_view d).finished ≡ true → returned ≡ REFUSED) × ((decoder_view d).finished ≡ false → returned ≡ unwrap_or (room_asked (decoder_view d).opening asked_in size) REFUSED)
+-- What the status of a query says: there is no decoder, its stream has ended, or this is told of it.
+abbrev pub TellsOfOpen : Option Decoder → (status : ℕ) → (Tells : Decoder → Type 0) → Type 0
+TellsOfOpen None status Tells = status ≡ CLOSED
+TellsOfOpen (Some d) status Tells = ((decoder_view d).finished ≡ true → status ≡ FINISHED) × ((decoder_view d).finished ≡ false → (status ≡ OK) × Tells d)
+
+-- the room that is asked for the text of so many bytes is told; SIZE_MAX if it is more than a length can say
+abbrev pub AsksRoom : OutputUnit → Option Decoder → (size length status : ℕ) → Type 0
+AsksRoom asked_in held size length status = TellsOfOpen held status (λ d. length ≡ unwrap_or (room_asked (decoder_view d).opening asked_in size) REFUSED)
 
 -- how many bytes, if they come next, are their own characters in Latin1, if that is known; else SIZE_MAX
-pub record TellsIfKnown (d : Decoder) (bytes : List ℕ) (returned : ℕ) : Type 0 where
+pub record TellsIfKnown (d : Decoder) (bytes : List ℕ) (length : ℕ) : Type 0 where
   pub known : Option ℕ
   pub is : TellsLatin1Prefix (decoder_view d) bytes known
-  pub told : returned ≡ unwrap_or known REFUSED
+  pub told : length ≡ unwrap_or known REFUSED
 
--- the same of the decoder of a handle; SIZE_MAX too if there is none, or it ended
-abbrev pub TellsLatin1Length : Option Decoder → (bytes : List ℕ) (returned : ℕ) → Type 0
-TellsLatin1Length None bytes returned = returned ≡ REFUSED
-TellsLatin1Length (Some d) bytes returned =
-    ((decoder_view d).finished ≡ true → returned ≡ REFUSED) × ((decoder_view d).finished ≡ false → TellsIfKnown d bytes returned)
+-- that length is told of the decoder of a handle
+abbrev pub TellsLatin1Length : Option Decoder → (bytes : List ℕ) (length status : ℕ) → Type 0
+TellsLatin1Length held bytes length status = TellsOfOpen held status (λ d. TellsIfKnown d bytes length)
 
 -- What the status of a call on a decoder says: the handle holds none, its stream has ended, or all was done and this
 -- holds of it.

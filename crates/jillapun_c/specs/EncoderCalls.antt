@@ -49,10 +49,10 @@ pub record EncodesUpToLost (is_units : Bool) (before : EncoderState) (after : Op
   pub call : Encoded before last outcome text (take progress.written new) encoder rest (length new - progress.written)
   pub enough : room_without_reference before.encoding is_units size ≤ length old → outcome ≢ raw_.OutputFull
 
--- the number that an encoder tells, if there is one; else SIZE_MAX
-abbrev pub TellsNumber : Option EncoderState → (EncoderState → Option ℕ) → ℕ → Type 0
-TellsNumber None room returned = returned ≡ REFUSED
-TellsNumber (Some e) room returned = returned ≡ unwrap_or (room e) REFUSED
+-- What the status of a query says: there is no encoder, or its number is told, which is SIZE_MAX if no length can say it.
+abbrev pub TellsNumber : Option EncoderState → (EncoderState → Option ℕ) → (length status : ℕ) → Type 0
+TellsNumber None room length status = status ≡ CLOSED
+TellsNumber (Some e) room length status = (status ≡ OK) × (length ≡ unwrap_or (room e) REFUSED)
 
 -- What the status of a call on an encoder says: the handle holds none, or all was done and this holds of it.
 pub record AnswersEncoder (held : Option Coder) (status : ℕ) (Then : EncoderState → Type 0) : Type 0 where

@@ -8,7 +8,7 @@ use Rattle.encoding_front.specs.EncodingTable.{encodings}
 use Rattle.encoding_front.specs.declared.encoding.Encoding.{Encoding}
 use Rattle.encoding_front.specs.declared.mark.Mark.{Mark}
 use Rattle.jillapun_c.specs.declared.status.TheConstants.{CLOSED, NOT_READY, OK, UNKNOWN}
-use Rattle.jillapun_c.specs.Room.{IsPut, IsUnwritten}
+use Rattle.jillapun_c.specs.Room.{IsPut, IsUnwritten, WantsRoom}
 
 -- the encoding with that number, if there is one: its place in the order of the names
 abbrev pub encoding_at : ℕ → Option Encoding
@@ -18,12 +18,12 @@ encoding_at number = slice_get encodings number
 abbrev pub mark_at : ℕ → Option Mark
 mark_at number = slice_get (Mark.Sniff ∷ Mark.Remove ∷ Mark.Keep ∷ []) number
 
--- the room begins with the word, whose length is returned; if it is shorter, the call is refused
+-- the room begins with the word, whose length is returned; if the room is shorter, it is as it was
 pub record Writes (old word new : List ℕ) (returned : ℕ) : Type 0 where
   pub written : length word ≤ length old → IsPut old word new returned × (returned ≡ length word)
-  pub refused : length old < length word → IsUnwritten old new returned
+  pub wanted : length old < length word → WantsRoom (length word) old new returned
 
--- the room begins with the word; if there is none, or the room is shorter, the call is refused
+-- the room begins with the word, or is shorter; if there is none, the call is refused
 abbrev pub WritesIfAny : (word : Option (List ℕ)) → (old new : List ℕ) → ℕ → Type 0
 WritesIfAny word old new returned = MatchOption word (IsUnwritten old new returned) (λ w. Writes old w new returned)
 

@@ -27,6 +27,10 @@ pub record TextIsPut (old text new : List ℕ) (written : ℕ) : Type 0 where
 abbrev pub IsUnwritten : (old new : List ℕ) → ℕ → Type 0
 IsUnwritten old new returned = (returned ≡ REFUSED) × (new ≡ old)
 
+-- nothing in the room has changed, since it is too short, and the length that is returned is the one that is wanted
+abbrev pub WantsRoom : (wanted : ℕ) (old new : List ℕ) → ℕ → Type 0
+WantsRoom wanted old new returned = (returned ≡ wanted) × (new ≡ old)
+
 -- so many elements were put at the start of a room, and nothing after them has changed
 pub record IsFilled {X : Type 0} (old new : List X) (count : ℕ) : Type 0 where
   pub fits : count ≤ length new

@@ -8,6 +8,7 @@ ghost use Rattle.jillapun_c.specs.Openings.{Opens};
 ghost use Rattle.jillapun_c.specs.declared.status.TheConstants.{OK};
 
 pub(crate) mod queries;
+pub(crate) mod text;
 pub(crate) mod utf16;
 pub(crate) mod utf8;
 mod words;

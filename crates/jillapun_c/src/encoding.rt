@@ -70,8 +70,8 @@ pub extern "C" fn jillapun_for_bom(bytes: &[u8], length: &mut usize) -> u8
 }
 
 /// Writes the name of an encoding at the start of `name`, as the Encoding Standard writes it
-/// (section 4.2): `Shift_JIS`. Returns its length in bytes; at most 14. Where no encoding has the
-/// number, or `name` is shorter than that, nothing is written and `SIZE_MAX` is returned.
+/// (section 4.2): `Shift_JIS`. Returns its length in bytes; at most 14. If `name` is shorter than
+/// that, nothing is written. If no encoding has the number, `SIZE_MAX` is returned.
 #[unsafe(no_mangle)]
 pub extern "C" fn jillapun_name(encoding: u8, name: &mut [u8]) -> usize
     ensures { WritesIfAny (option_map encoding_name (encoding_at encoding)) name.old name.new
@@ -142,8 +142,8 @@ pub extern "C" fn jillapun_can_encode_everything(encoding: u8) -> bool
 
 /// Writes the name of the file of the index with this place, from 0 on, among those that an
 /// encoding needs, as `index-jis0208.txt`, at the start of `name`. Returns its length in bytes; at
-/// most 30. Where the encoding needs no further index, no encoding has the number, or `name` is
-/// shorter than that, nothing is written and `SIZE_MAX` is returned.
+/// most 30. If `name` is shorter than that, nothing is written. If the encoding needs no further
+/// index, or no encoding has the number, `SIZE_MAX` is returned.
 #[unsafe(no_mangle)]
 pub extern "C" fn jillapun_needs(encoding: u8, place: usize, name: &mut [u8]) -> usize
     ensures { WritesIfAny (needed_file encoding place) name.old name.new result }
@@ -179,7 +179,7 @@ fn write_word(word: &[u8], room: &mut [u8]) -> usize
     ensures { Writes room.old word.now room.new result }
 {
     if room.len() < word.len() {
-        return REFUSED;
+        return word.len();
     }
     room[..word.len()].copy_from_slice(word);
     word.len()

@@ -3,7 +3,7 @@
 //!
 //! Each export calls functions of the crates below and says their clauses again. No export has a
 //! condition on what it is handed but for pointers and lengths: if a function below has one, the
-//! export tests it, and returns a status (`status`) or `SIZE_MAX`.
+//! export tests it, and returns a status (`status`), the room that is wanted, or `SIZE_MAX`.
 #![tactic(auto)]
 
 mod coder;

@@ -3,7 +3,8 @@
 //! names; and five that those lack, or have in another form. They need no tables, and hold no
 //! memory.
 //!
-//! If the room is too small, encoding_rs panics, and these write nothing and return `SIZE_MAX`.
+//! If the room is too small, encoding_rs panics, and these write nothing and return how much is
+//! wanted, which is more than there is.
 
 mod ascii;
 mod bidi;
@@ -11,6 +12,6 @@ mod latin1;
 mod partial;
 #[cfg(test)]
 mod tests;
-mod text_room;
+pub(crate) mod text_room;
 mod utf16;
 pub(crate) mod utf8;

@@ -87,6 +87,7 @@ pub const BIDI: u32 = 2;
 
 /// No encoding. Each encoding is its number, from 0 on, in the order of the names.
 pub const NO_ENCODING: u8 = 255;
-/// In place of a length: the room is not enough, or the bytes are not what the call is for. Nothing
-/// was written, unless the call says otherwise.
+/// In place of a length: there is none, since nothing has the number, the bytes are not what the
+/// call is for, or the length passes a `size_t`. Nothing was written, unless the call says
+/// otherwise.
 pub const REFUSED: usize = usize::MAX;

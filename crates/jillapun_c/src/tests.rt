@@ -3,6 +3,7 @@
 mod converter;
 mod parts;
 mod queries;
+mod texts;
 mod whole;
 
 use crate::decoder::utf8::{
@@ -54,12 +55,14 @@ fn encodings_are_found(rt: HostRuntime) {
     assert_eq!(rt; jillapun_name(24, &mut name), 9);
     assert_eq!(rt; &name[..10], b"Shift_JIS\0".as_slice());
     assert_eq!(rt; jillapun_name(40, &mut name), REFUSED);
-    assert_eq!(rt; jillapun_name(24, &mut name[..8]), REFUSED);
+    assert_eq!(rt; jillapun_name(24, &mut name[..8]), 9);
     assert_eq!(rt; jillapun_output_encoding(26), 25);
     assert_eq!(rt; jillapun_output_encoding(40), NO_ENCODING);
     assert_eq!(rt; jillapun_needs(1, 1, &mut name), 17);
     assert_eq!(rt; &name[..17], b"index-jis0212.txt".as_slice());
+    assert_eq!(rt; jillapun_needs(1, 1, &mut name[..16]), 17);
     assert_eq!(rt; jillapun_needs(1, 2, &mut name), REFUSED);
+    assert_eq!(rt; jillapun_needs(40, 0, &mut name), REFUSED);
 }
 
 #[test]

@@ -42,7 +42,8 @@ use std::fmt;
 ///
 /// The outputs of all calls, joined, are the text of the stream as the definitions of the standard give it, however
 /// the stream is cut and however much room each call has. The functions of the header are
-/// `jillapun_decoder_decode_to_utf8`, `jillapun_decoder_decode_to_utf16` and those with `_without_replacement`.
+/// `jillapun_decoder_decode_to_utf8`, `jillapun_decoder_decode_to_str`, `jillapun_decoder_decode_to_utf16` and those
+/// with `_without_replacement`.
 pub struct Decoder(sys::Decoder);
 
 impl Decoder {

@@ -16,7 +16,12 @@ pub(crate) use labels::{
 };
 pub(crate) use tables::Tables;
 
-/// A length that the library returns, if it returns one.
-fn length(returned: usize) -> Option<usize> {
-    (returned != raw::REFUSED).then_some(returned)
+/// A length that the library tells, if it tells one.
+fn length(told: usize) -> Option<usize> {
+    (told != raw::REFUSED).then_some(told)
+}
+
+/// How much the library says that it wrote into so much room, if it wrote.
+fn written(returned: usize, room: usize) -> Option<usize> {
+    (returned <= room).then_some(returned)
 }

@@ -20,7 +20,7 @@ use std::alloc::Global;
 /// what follows; with `last` the stream has ended. At `OUTPUT_FULL` fewer than 2 units are free:
 /// make room, and hand in the rest again, with `last` as it was, even if nothing is left. A
 /// surrogate pair is never split, and nothing after what is written changes. `OUTPUT_FULL` does not
-/// come if `dst` is as long as `jillapun_decoder_max_utf16_length` returns.
+/// come if `dst` is as long as `jillapun_decoder_max_utf16_length` tells.
 ///
 /// Else nothing is done, and all of `progress` is 0: `CLOSED`, the handle holds no decoder;
 /// `FINISHED`, the stream has ended.
@@ -90,7 +90,7 @@ fn to_utf16(
 /// what follows; with `last` the stream has ended. At `OUTPUT_FULL` fewer than 2 units are free:
 /// make room, and hand in the rest again, with `last` as it was, even if nothing is left. A
 /// surrogate pair is never split, and nothing after what is written changes. `OUTPUT_FULL` does not
-/// come if `dst` is as long as `jillapun_decoder_max_utf16_length` returns.
+/// come if `dst` is as long as `jillapun_decoder_max_utf16_length` tells.
 ///
 /// At `MALFORMED` a sequence of `malformed_length` bytes ends `malformed_after` bytes before the
 /// end of what was read, and a unit is free: write U+FFFD or not, and go on as at `OUTPUT_FULL`.

@@ -21,7 +21,7 @@ use std::alloc::Global;
 /// what follows; with `last` the stream has ended. At `OUTPUT_FULL` fewer than 4 bytes are free:
 /// make room, and hand in the rest again, with `last` as it was, even if nothing is left. A
 /// character is never split, and nothing after what is written changes. `OUTPUT_FULL` does not come
-/// if `dst` is as long as `jillapun_decoder_max_utf8_length` returns.
+/// if `dst` is as long as `jillapun_decoder_max_utf8_length` tells.
 ///
 /// Else nothing is done, and all of `progress` is 0: `CLOSED`, the handle holds no decoder;
 /// `FINISHED`, the stream has ended.
@@ -85,7 +85,7 @@ fn to_utf8(coder: &mut Coder, src: &[u8], dst: &mut [u8], last: bool, progress: 
 /// what follows; with `last` the stream has ended. At `OUTPUT_FULL` fewer than 4 bytes are free:
 /// make room, and hand in the rest again, with `last` as it was, even if nothing is left. A
 /// character is never split, and nothing after what is written changes. `OUTPUT_FULL` does not come
-/// if `dst` is as long as `jillapun_decoder_max_utf8_length_without_replacement` returns.
+/// if `dst` is as long as `jillapun_decoder_max_utf8_length_without_replacement` tells.
 ///
 /// At `MALFORMED` a sequence of `malformed_length` bytes ends `malformed_after` bytes before the
 /// end of what was read, and 3 bytes are free: write U+FFFD or not, and go on as at `OUTPUT_FULL`.

@@ -1,16 +1,17 @@
 //! What a handle tells of its decoder, for queries that write nothing.
 
-ghost use Rattle.std.specs.Prelude.{◌≡◌, None, Some};
+ghost use Rattle.std.specs.Prelude.{◌≡◌, ◌≢◌, None, Some};
 ghost use Rattle.encoding_mem.specs.declared.room.OutputUnit.{OutputUnit};
 ghost use Rattle.encoding_front.specs.declared.decoder.Decoder.{Decoder};
 ghost use Rattle.std.specs.declared.option.Option.{Option};
 ghost use Rattle.jillapun_c.specs.Coders.{decoder_in};
 ghost use Rattle.jillapun_c.specs.DecoderCalls.{AsksRoom};
 ghost use Rattle.jillapun_c.specs.HandleWords.{decoder_words};
+ghost use Rattle.jillapun_c.specs.declared.status.TheConstants.{OK};
 
 use crate::coder::Coder;
 use crate::encoding_number::{encoding_of, number_of};
-use crate::status::REFUSED;
+use crate::status::{CLOSED, FINISHED, OK, REFUSED};
 use encoding_front::{Decoder, RoomRule};
 use encoding_mem::room::OutputUnit;
 
@@ -69,17 +70,23 @@ impl DecoderWords {
         }
     }
 
-    /// The room that is enough for the text of `n` more bytes; `REFUSED` if it passes a `usize`,
-    /// there is no decoder, or its stream has ended.
-    pub(crate) fn room(self, count: OutputUnit, n: usize) -> usize
-        ensures { (held : Option Decoder) → self ≡ decoder_words held
-            → AsksRoom count held n result }
+    /// Tells the room that is enough for the text of `n` more bytes, or `REFUSED` if it passes a
+    /// `usize`. Returns `OK`. Else it tells 0: `CLOSED`, there is no decoder; `FINISHED`, its
+    /// stream has ended.
+    pub(crate) fn room(self, count: OutputUnit, n: usize, length: &mut usize) -> u8
+        ensures tells { (held : Option Decoder) → self ≡ decoder_words held
+            → AsksRoom count held n length.new result }
+        ensures nothing { result ≢ OK → length.new ≡ 0 }
     {
-        if !self.is_there || self.is_finished {
-            return REFUSED;
+        *length = 0;
+        if !self.is_there {
+            return CLOSED;
+        }
+        if self.is_finished {
+            return FINISHED;
         }
         let Some(encoding) = encoding_of(self.encoding) else {
-            return REFUSED;
+            return CLOSED;
         };
         let rule = RoomRule {
             encoding,
@@ -88,6 +95,7 @@ impl DecoderWords {
             ahead: self.ahead,
             pending: self.pending,
         };
-        rule.max_buffer_length(count, n).unwrap_or(REFUSED)
+        *length = rule.max_buffer_length(count, n).unwrap_or(REFUSED);
+        OK
     }
 }

@@ -6,10 +6,10 @@ ghost use Rattle.encoding_front.specs.EncodingTable.{number_of};
 ghost use Rattle.encoding_front.specs.calls.Encoder.{queried_room, queried_with_kept};
 ghost use Rattle.jillapun_c.specs.Coders.{encoder_in};
 ghost use Rattle.jillapun_c.specs.EncoderCalls.{TellsNumber};
-ghost use Rattle.jillapun_c.specs.declared.status.TheConstants.{NO_ENCODING};
+ghost use Rattle.jillapun_c.specs.declared.status.TheConstants.{NO_ENCODING, OK};
 
 use crate::encoder::EncoderHandle;
-use crate::status::{NO_ENCODING, REFUSED};
+use crate::status::{CLOSED, NO_ENCODING, OK, REFUSED};
 
 /// The number of the output encoding, in which the encoder writes; `NO_ENCODING` if the handle
 /// holds no encoder.
@@ -34,78 +34,95 @@ pub extern "C" fn jillapun_encoder_has_pending_state(encoder: &EncoderHandle) ->
     encoder.words.has_pending_state
 }
 
-/// How many bytes are room enough for what `n` bytes of UTF-8 are encoded to with references, if
-/// each character has bytes; `SIZE_MAX` if the number passes a `size_t`, or the handle holds no
-/// encoder.
+/// Tells in `length` how many bytes are room enough for what `n` bytes of UTF-8 are encoded to with
+/// references, if each character has bytes; `SIZE_MAX` if the number passes a `size_t`.
+///
+/// Returns `OK`; or `CLOSED`, and `length` is 0: the handle holds no encoder.
 #[unsafe(no_mangle)]
 pub extern "C" fn jillapun_encoder_max_length_from_utf8_if_no_unmappables(
     encoder: &EncoderHandle,
     n: usize,
-) -> usize
-    ensures { TellsNumber (encoder_in encoder.now.coder.coder)
-        (λ e. queried_with_kept e.encoding false n) result }
+    length: &mut usize,
+) -> u8
+    ensures tells { TellsNumber (encoder_in encoder.now.coder.coder)
+        (λ e. queried_with_kept e.encoding false n) length.new result }
+    ensures nothing { result ≢ OK → length.new ≡ 0 }
 {
+    *length = 0;
     let Some(encoding) = encoder.words.output_encoding() else {
-        return REFUSED;
+        return CLOSED;
     };
-    encoding
+    *length = encoding
         .max_length_from_utf8_if_no_unmappables(n)
-        .unwrap_or(REFUSED)
+        .unwrap_or(REFUSED);
+    OK
 }
 
-/// How many bytes are room enough for what `n` bytes of UTF-8 are encoded to without replacement,
-/// and for the last escape; `SIZE_MAX` if the number passes a `size_t`, or the handle holds no
-/// encoder.
+/// Tells in `length` how many bytes are room enough for what `n` bytes of UTF-8 are encoded to
+/// without replacement, and for the last escape; `SIZE_MAX` if the number passes a `size_t`. What
+/// is returned is as of `jillapun_encoder_max_length_from_utf8_if_no_unmappables`.
 #[unsafe(no_mangle)]
 pub extern "C" fn jillapun_encoder_max_length_from_utf8_without_replacement(
     encoder: &EncoderHandle,
     n: usize,
-) -> usize
-    ensures { TellsNumber (encoder_in encoder.now.coder.coder)
-        (λ e. queried_room e.encoding false n) result }
+    length: &mut usize,
+) -> u8
+    ensures tells { TellsNumber (encoder_in encoder.now.coder.coder)
+        (λ e. queried_room e.encoding false n) length.new result }
+    ensures nothing { result ≢ OK → length.new ≡ 0 }
 {
+    *length = 0;
     let Some(encoding) = encoder.words.output_encoding() else {
-        return REFUSED;
+        return CLOSED;
     };
-    encoding
+    *length = encoding
         .max_length_from_utf8_without_replacement(n)
-        .unwrap_or(REFUSED)
+        .unwrap_or(REFUSED);
+    OK
 }
 
-/// How many bytes are room enough for what `n` units of UTF-16 are encoded to with references, if
-/// each character has bytes; `SIZE_MAX` if the number passes a `size_t`, or the handle holds no
-/// encoder.
+/// Tells in `length` how many bytes are room enough for what `n` units of UTF-16 are encoded to
+/// with references, if each character has bytes; `SIZE_MAX` if the number passes a `size_t`. What
+/// is returned is as of `jillapun_encoder_max_length_from_utf8_if_no_unmappables`.
 #[unsafe(no_mangle)]
 pub extern "C" fn jillapun_encoder_max_length_from_utf16_if_no_unmappables(
     encoder: &EncoderHandle,
     n: usize,
-) -> usize
-    ensures { TellsNumber (encoder_in encoder.now.coder.coder)
-        (λ e. queried_with_kept e.encoding true n) result }
+    length: &mut usize,
+) -> u8
+    ensures tells { TellsNumber (encoder_in encoder.now.coder.coder)
+        (λ e. queried_with_kept e.encoding true n) length.new result }
+    ensures nothing { result ≢ OK → length.new ≡ 0 }
 {
+    *length = 0;
     let Some(encoding) = encoder.words.output_encoding() else {
-        return REFUSED;
+        return CLOSED;
     };
-    encoding
+    *length = encoding
         .max_length_from_utf16_if_no_unmappables(n)
-        .unwrap_or(REFUSED)
+        .unwrap_or(REFUSED);
+    OK
 }
 
-/// How many bytes are room enough for what `n` units of UTF-16 are encoded to without replacement,
-/// and for the last escape; `SIZE_MAX` if the number passes a `size_t`, or the handle holds no
-/// encoder.
+/// Tells in `length` how many bytes are room enough for what `n` units of UTF-16 are encoded to
+/// without replacement, and for the last escape; `SIZE_MAX` if the number passes a `size_t`. What
+/// is returned is as of `jillapun_encoder_max_length_from_utf8_if_no_unmappables`.
 #[unsafe(no_mangle)]
 pub extern "C" fn jillapun_encoder_max_length_from_utf16_without_replacement(
     encoder: &EncoderHandle,
     n: usize,
-) -> usize
-    ensures { TellsNumber (encoder_in encoder.now.coder.coder)
-        (λ e. queried_room e.encoding true n) result }
+    length: &mut usize,
+) -> u8
+    ensures tells { TellsNumber (encoder_in encoder.now.coder.coder)
+        (λ e. queried_room e.encoding true n) length.new result }
+    ensures nothing { result ≢ OK → length.new ≡ 0 }
 {
+    *length = 0;
     let Some(encoding) = encoder.words.output_encoding() else {
-        return REFUSED;
+        return CLOSED;
     };
-    encoding
+    *length = encoding
         .max_length_from_utf16_without_replacement(n)
-        .unwrap_or(REFUSED)
+        .unwrap_or(REFUSED);
+    OK
 }

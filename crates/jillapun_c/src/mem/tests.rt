@@ -65,17 +65,14 @@ fn ascii_is_copied_to_its_end(rt: HostRuntime) {
         1
     );
     assert_eq!(rt; bytes, [0x43, 0x42, 1, 1]);
-    assert_eq!(rt;
-        jillapun_mem_copy_ascii_to_ascii(&[0x44; 5], &mut bytes),
-        REFUSED
-    );
+    assert_eq!(rt; jillapun_mem_copy_ascii_to_ascii(&[0x44; 5], &mut bytes), 5);
     assert_eq!(rt;
         jillapun_mem_copy_ascii_to_basic_latin(&[0x44; 5], &mut units),
-        REFUSED
+        5
     );
     assert_eq!(rt;
         jillapun_mem_copy_basic_latin_to_ascii(&[0x44; 5], &mut bytes),
-        REFUSED
+        5
     );
     assert_eq!(rt; bytes, [0x43, 0x42, 1, 1]);
 }
@@ -172,41 +169,34 @@ fn too_small_a_room_is_left_alone(rt: HostRuntime) {
     let mut bytes = [0x7A; 1];
     assert_eq!(rt;
         jillapun_mem_convert_latin1_to_utf16(&[0xE9; 2], &mut units),
-        REFUSED
+        2
     );
-    assert_eq!(rt;
-        jillapun_mem_convert_utf8_to_utf16(&[0x41], &mut units),
-        REFUSED
-    );
+    assert_eq!(rt; jillapun_mem_convert_utf8_to_utf16(&[0x41], &mut units), 2);
     assert_eq!(rt;
         jillapun_mem_convert_str_to_utf16(&[0x41; 2], &mut units),
-        REFUSED
+        2
+    );
+    assert_eq!(rt;
+        jillapun_mem_convert_utf8_to_utf16_without_replacement(&[0xFF; 2], &mut units),
+        2
     );
     assert_eq!(rt; units, [0x7A]);
-    assert_eq!(rt;
-        jillapun_mem_convert_latin1_to_utf8(&[0xE9], &mut bytes),
-        REFUSED
-    );
-    assert_eq!(rt;
-        jillapun_mem_convert_latin1_to_str(&[0xE9], &mut bytes),
-        REFUSED
-    );
+    assert_eq!(rt; jillapun_mem_convert_latin1_to_utf8(&[0xE9], &mut bytes), 2);
+    assert_eq!(rt; jillapun_mem_convert_latin1_to_str(&[0xE9], &mut bytes), 2);
     assert_eq!(rt;
         jillapun_mem_convert_utf8_to_latin1_lossy(&[0xE9], &mut bytes),
         REFUSED
     );
     assert_eq!(rt;
+        jillapun_mem_convert_utf8_to_latin1_lossy(&[0xE9; 2], &mut bytes),
+        2
+    );
+    assert_eq!(rt;
         jillapun_mem_convert_utf16_to_latin1_lossy(&[0x41; 2], &mut bytes),
-        REFUSED
+        2
     );
-    assert_eq!(rt;
-        jillapun_mem_convert_utf16_to_utf8(&[0x41], &mut bytes),
-        REFUSED
-    );
-    assert_eq!(rt;
-        jillapun_mem_convert_utf16_to_str(&[0x41], &mut bytes),
-        REFUSED
-    );
+    assert_eq!(rt; jillapun_mem_convert_utf16_to_utf8(&[0x41], &mut bytes), 3);
+    assert_eq!(rt; jillapun_mem_convert_utf16_to_str(&[0x41], &mut bytes), 3);
     assert_eq!(rt; bytes, [0x7A]);
 }
 

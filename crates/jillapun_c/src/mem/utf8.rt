@@ -1,13 +1,13 @@
 //! UTF-8: how far it is well-formed, and conversions to UTF-16.
 
-ghost use Rattle.std.specs.Prelude.{◌≡◌, ◌↔◌, ◌<◌, ◌≤◌, IsTrue, length};
+ghost use Rattle.std.specs.Prelude.{◌≡◌, ◌↔◌, ◌+◌, ◌<◌, ◌≤◌, IsTrue, length};
 ghost use Rattle.std.specs.Str.{IsUtf8};
 ghost use Rattle.encoding_mem.specs.Conversions.{text_in_utf16, text_prefix};
 ghost use Rattle.encoding_mem.specs.LongestPrefix.{IsLongestPrefix};
 ghost use Rattle.encoding_mem.specs.Piece.{text};
 ghost use Rattle.encoding_mem.specs.Utf8.{pieces_utf8};
 ghost use Rattle.encoding_mem.specs.calls.Writing.{encode_utf16_all};
-ghost use Rattle.jillapun_c.specs.Room.{IsPut, IsUnwritten};
+ghost use Rattle.jillapun_c.specs.Room.{IsPut, WantsRoom};
 
 use crate::status::REFUSED;
 
@@ -29,23 +29,24 @@ pub(crate) fn is_text(bytes: &[u8]) -> bool
 
 /// Converts UTF-8 to UTF-16 at the start of `dst`, with U+FFFD for each malformed sequence, and
 /// returns how many units were written. Room: one unit more than `src` has bytes; if `dst` is
-/// shorter, nothing is written and `SIZE_MAX` is returned.
+/// shorter, nothing is written and that number is returned.
 #[unsafe(no_mangle)]
 pub extern "C" fn jillapun_mem_convert_utf8_to_utf16(src: &[u8], dst: &mut [u16]) -> usize
     ensures converts { length src.now < length dst.old
         → IsPut dst.old (encode_utf16_all (text (pieces_utf8 src.now))) dst.new result }
-    ensures refuses { length dst.old ≤ length src.now → IsUnwritten dst.old dst.new result }
+    ensures refuses { length dst.old ≤ length src.now
+        → WantsRoom (1 + length src.now) dst.old dst.new result }
 {
     if dst.len() <= src.len() {
-        return REFUSED;
+        return 1 + src.len();
     }
     encoding_mem::convert_utf8_to_utf16(src, dst)
 }
 
 /// Converts UTF-8 to UTF-16 at the start of `dst`, and returns how many units were written. Room:
-/// as many units as `src` has bytes; if `dst` is shorter, nothing is written and `SIZE_MAX` is
-/// returned. If `src` is not well-formed, `SIZE_MAX` is returned, too, and `dst` begins with the
-/// text before the first malformed sequence.
+/// as many units as `src` has bytes; if `dst` is shorter, nothing is written and that number is
+/// returned. If there is room, but `src` is not well-formed, `SIZE_MAX` is returned, and `dst`
+/// begins with the text before the first malformed sequence.
 #[unsafe(no_mangle)]
 pub extern "C" fn jillapun_mem_convert_utf8_to_utf16_without_replacement(
     src: &[u8],
@@ -53,14 +54,16 @@ pub extern "C" fn jillapun_mem_convert_utf8_to_utf16_without_replacement(
 ) -> usize
     ensures counts { IsUtf8 src.now → length src.now ≤ length dst.old
         → result ≡ length (text_in_utf16 src.now) }
-    ensures malformed { ¬ (IsUtf8 src.now) → result ≡ REFUSED }
+    ensures malformed { ¬ (IsUtf8 src.now) → length src.now ≤ length dst.old
+        → result ≡ REFUSED }
     ensures converts { length src.now ≤ length dst.old
         → let units = text_in_utf16 (text_prefix src.now) in
         IsPut dst.old units dst.new (length units) }
-    ensures refuses { length dst.old < length src.now → IsUnwritten dst.old dst.new result }
+    ensures refuses { length dst.old < length src.now
+        → WantsRoom (length src.now) dst.old dst.new result }
 {
     if dst.len() < src.len() {
-        return REFUSED;
+        return src.len();
     }
     match encoding_mem::convert_utf8_to_utf16_without_replacement(src, dst) {
         Some(written) => written,
@@ -74,11 +77,13 @@ pub extern "C" fn jillapun_mem_convert_utf8_to_utf16_without_replacement(
 pub extern "C" fn jillapun_mem_convert_str_to_utf16(src: &[u8], dst: &mut [u16]) -> usize
     ensures counts { IsUtf8 src.now → length src.now ≤ length dst.old
         → result ≡ length (text_in_utf16 src.now) }
-    ensures malformed { ¬ (IsUtf8 src.now) → result ≡ REFUSED }
+    ensures malformed { ¬ (IsUtf8 src.now) → length src.now ≤ length dst.old
+        → result ≡ REFUSED }
     ensures converts { length src.now ≤ length dst.old
         → let units = text_in_utf16 (text_prefix src.now) in
         IsPut dst.old units dst.new (length units) }
-    ensures refuses { length dst.old < length src.now → IsUnwritten dst.old dst.new result }
+    ensures refuses { length dst.old < length src.now
+        → WantsRoom (length src.now) dst.old dst.new result }
 {
     jillapun_mem_convert_utf8_to_utf16_without_replacement(src, dst)
 }

@@ -13,7 +13,7 @@ use crate::encoder::queries::{
 use crate::encoder::{EncoderHandle, jillapun_encoder_free, jillapun_encoder_new};
 use crate::index_files::IndexFile;
 use crate::progress::Progress;
-use crate::status::{KEEP, NO_ENCODING, OK, REFUSED, SNIFF};
+use crate::status::{CLOSED, FINISHED, KEEP, NO_ENCODING, OK, REFUSED, SNIFF};
 use crate::tables::{IndexFault, jillapun_tables_new};
 use crate::tables_handle::TablesHandle;
 use std::alloc::Global;
@@ -38,19 +38,44 @@ fn decoder(alloc: Global, encoding: u8, mark: u8) -> DecoderHandle {
     handle
 }
 
-// What a decoder returns that has decoded these bytes.
+// What a decoder tells.
+fn latin1_length(alloc: Global, handle: &mut DecoderHandle) -> (u8, usize) {
+    let mut length = 9;
+    let status = jillapun_decoder_latin1_byte_compatible_up_to(
+        alloc,
+        handle,
+        b"a\xE9\x7F\x80b",
+        &mut length,
+    );
+    (status, length)
+}
+
+// What it tells once it has decoded these bytes.
 fn length_after(alloc: Global, handle: &mut DecoderHandle, src: &[u8], last: bool) -> (u8, usize) {
     let mut text = [0; 8];
     let mut progress = Progress::NONE;
-    let status = jillapun_decoder_decode_to_utf8(
-        alloc,
-        handle,
-        src,
-        &mut text,
-        last,
-        &mut progress,
-    );
-    let length = jillapun_decoder_latin1_byte_compatible_up_to(alloc, handle, b"a\xE9\x7F\x80b");
+    jillapun_decoder_decode_to_utf8(alloc, handle, src, &mut text, last, &mut progress);
+    latin1_length(alloc, handle)
+}
+
+// How many bytes of UTF-8 are room enough for the text of so many.
+fn bytes_for(handle: &DecoderHandle, n: usize) -> (u8, usize) {
+    let mut length = 9;
+    let status = jillapun_decoder_max_utf8_length(handle, n, &mut length);
+    (status, length)
+}
+
+// How many units of UTF-16 are.
+fn units_for(handle: &DecoderHandle, n: usize) -> (u8, usize) {
+    let mut length = 9;
+    let status = jillapun_decoder_max_utf16_length(handle, n, &mut length);
+    (status, length)
+}
+
+// How many bytes are room enough for what so many units are encoded to.
+fn encoded_length(handle: &EncoderHandle, n: usize) -> (u8, usize) {
+    let mut length = 9;
+    let status = jillapun_encoder_max_length_from_utf16_without_replacement(handle, n, &mut length);
     (status, length)
 }
 
@@ -59,11 +84,9 @@ fn latin1_is_found(rt: HostRuntime) {
     let alloc = rt.alloc();
     let mut handle = decoder(alloc, WINDOWS_1252, KEEP);
     assert_eq!(rt; length_after(alloc, &mut handle, b"a", false), (OK, 3));
-    assert_eq!(rt; length_after(alloc, &mut handle, b"a", true), (OK, REFUSED));
+    assert_eq!(rt; length_after(alloc, &mut handle, b"a", true), (FINISHED, 0));
     jillapun_decoder_free(alloc, &mut handle);
-    let bytes = b"a\xE9";
-    let length = jillapun_decoder_latin1_byte_compatible_up_to(alloc, &mut handle, bytes);
-    assert_eq!(rt; length, REFUSED);
+    assert_eq!(rt; latin1_length(alloc, &mut handle), (CLOSED, 0));
     let mut handle = decoder(alloc, UTF_8, KEEP);
     assert_eq!(rt; length_after(alloc, &mut handle, b"a", false), (OK, 1));
     assert_eq!(rt;
@@ -71,8 +94,7 @@ fn latin1_is_found(rt: HostRuntime) {
         (OK, REFUSED)
     );
     let mut handle = decoder(alloc, UTF_8, SNIFF);
-    let length = jillapun_decoder_latin1_byte_compatible_up_to(alloc, &mut handle, bytes);
-    assert_eq!(rt; length, REFUSED);
+    assert_eq!(rt; latin1_length(alloc, &mut handle), (OK, REFUSED));
 }
 
 #[test]
@@ -83,14 +105,15 @@ fn decoders_are_asked(rt: HostRuntime) {
     length_after(alloc, &mut handle, b"\xEF\xBB\xBF", false);
     assert_eq!(rt; jillapun_decoder_encoding(&handle), UTF_8);
     let mut handle = decoder(alloc, WINDOWS_1252, KEEP);
-    assert_eq!(rt; jillapun_decoder_max_utf16_length(&handle, 5), 5);
-    assert_eq!(rt; jillapun_decoder_max_utf8_length(&handle, 5), 15);
+    assert_eq!(rt; units_for(&handle, 5), (OK, 5));
+    assert_eq!(rt; bytes_for(&handle, 5), (OK, 15));
+    assert_eq!(rt; bytes_for(&handle, usize::MAX), (OK, REFUSED));
     length_after(alloc, &mut handle, b"a", true);
-    assert_eq!(rt; jillapun_decoder_max_utf16_length(&handle, 5), REFUSED);
+    assert_eq!(rt; units_for(&handle, 5), (FINISHED, 0));
     assert_eq!(rt; jillapun_decoder_encoding(&handle), WINDOWS_1252);
     jillapun_decoder_free(alloc, &mut handle);
     assert_eq!(rt; jillapun_decoder_encoding(&handle), NO_ENCODING);
-    assert_eq!(rt; jillapun_decoder_max_utf8_length(&handle, 0), REFUSED);
+    assert_eq!(rt; bytes_for(&handle, 0), (CLOSED, 0));
 }
 
 #[test]
@@ -104,8 +127,9 @@ fn encoders_are_asked(rt: HostRuntime) {
     jillapun_tables_new(alloc, &[], &mut tables, &mut fault);
     jillapun_encoder_new(alloc, tables, UTF_16LE, &mut handle);
     assert_eq!(rt; jillapun_encoder_encoding(&handle), UTF_8);
-    let length = jillapun_encoder_max_length_from_utf16_without_replacement(&handle, 5);
-    assert_eq!(rt; length, 15);
+    assert_eq!(rt; encoded_length(&handle, 5), (OK, 15));
+    assert_eq!(rt; encoded_length(&handle, usize::MAX), (OK, REFUSED));
     jillapun_encoder_free(alloc, &mut handle);
     assert_eq!(rt; jillapun_encoder_encoding(&handle), NO_ENCODING);
+    assert_eq!(rt; encoded_length(&handle, 0), (CLOSED, 0));
 }

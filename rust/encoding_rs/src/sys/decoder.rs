@@ -32,7 +32,6 @@ pub(crate) struct Decoder {
     tables: Tables,
     // Whether it is known how far bytes that come next are Latin1.
     knows_latin1: bool,
-    has_ended: bool,
 }
 
 // SAFETY: the header lets threads use a handle one after the other; what it holds is the library's, on the heap.
@@ -48,7 +47,7 @@ impl Decoder {
         // SAFETY: the handle begins empty.
         let status = unsafe { raw::jillapun_decoder_new(tables.0, encoding, mark as u8, &mut handle) };
         made(status);
-        let mut decoder = Decoder { handle, tables, knows_latin1: false, has_ended: false };
+        let mut decoder = Decoder { handle, tables, knows_latin1: false };
         decoder.knows_latin1 = decoder.latin1_length(&[]).is_some();
         decoder
     }
@@ -82,9 +81,12 @@ impl Decoder {
     }
 
     fn latin1_length(&mut self, bytes: &[u8]) -> Option<usize> {
-        let (at, len) = (bytes.as_ptr(), bytes.len());
-        // SAFETY: the handle is open; a slice is what the header asks of a pointer and a length.
-        length(unsafe { raw::jillapun_decoder_latin1_byte_compatible_up_to(&mut self.handle, at, len) })
+        let (at, len, mut known) = (bytes.as_ptr(), bytes.len(), 0);
+        // SAFETY: the handle is open; a slice is what the header asks of a pointer and a length, and `known` is a place
+        // of its own.
+        let status =
+            unsafe { raw::jillapun_decoder_latin1_byte_compatible_up_to(&mut self.handle, at, len, &mut known) };
+        length(known).filter(|_| status == raw::OK)
     }
 
     pub(crate) fn decode_to_utf8(&mut self, src: &[u8], dst: &mut [u8], last: bool, at_error: OnMalformed) -> Decoded {
@@ -105,13 +107,12 @@ impl Decoder {
 
     /// Decodes to the start of a text. What is left of a character that was overwritten in part becomes 00.
     pub(crate) fn decode_to_str(&mut self, src: &[u8], dst: &mut str, last: bool, at_error: OnMalformed) -> Decoded {
-        // SAFETY: the call writes characters of UTF-8 and leaves what follows; the loop clears what is left of one.
-        let bytes = unsafe { dst.as_bytes_mut() };
-        let decoded = self.decode_to_utf8(src, bytes, last, at_error);
-        for byte in bytes[decoded.written..].iter_mut().take_while(|byte| **byte & 0xC0 == 0x80) {
-            *byte = 0;
-        }
-        decoded
+        let export: raw::Decode<u8> = match at_error {
+            OnMalformed::Replace => raw::jillapun_decoder_decode_to_str,
+            OnMalformed::Report => raw::jillapun_decoder_decode_to_str_without_replacement,
+        };
+        // SAFETY: `dst` is what the two say, and the header says that what was UTF-8 is UTF-8 after the call.
+        unsafe { self.decode(export, src, dst.as_mut_ptr(), dst.len(), last) }
     }
 
     /// Decodes to the end of a text, as far as its capacity reaches.
@@ -135,28 +136,27 @@ impl Decoder {
     unsafe fn decode<Unit>(
         &mut self, export: raw::Decode<Unit>, src: &[u8], dst: *mut Unit, room: usize, last: bool,
     ) -> Decoded {
-        self.assert_not_ended();
         let mut progress = raw::Progress::default();
-        let status = export(&mut self.handle, src.as_ptr(), src.len(), dst, room, last, &mut progress);
-        assert!(status == raw::OK, "the library does not decode: status {status}");
+        answered(export(&mut self.handle, src.as_ptr(), src.len(), dst, room, last, &mut progress));
         let result = match progress.outcome {
             raw::INPUT_EMPTY => DecoderResult::InputEmpty,
             raw::OUTPUT_FULL => DecoderResult::OutputFull,
             _ => DecoderResult::Malformed(progress.malformed_length, progress.malformed_after),
         };
-        self.has_ended = last && result == DecoderResult::InputEmpty;
         self.knows_latin1 = self.latin1_length(&[]).is_some();
         Decoded { result, read: progress.read, written: progress.written, had_errors: progress.had_errors }
     }
 
     fn room(&self, export: raw::Room<raw::Decoder>, bytes: usize) -> Option<usize> {
-        self.assert_not_ended();
-        // SAFETY: the handle is open.
-        length(unsafe { export(&self.handle, bytes) })
+        let mut enough = 0;
+        // SAFETY: the handle is open, and `enough` is a place of its own.
+        answered(unsafe { export(&self.handle, bytes, &mut enough) });
+        length(enough)
     }
 
+    /// Panics after the end of the stream, as each query does.
     fn assert_not_ended(&self) {
-        assert!(!self.has_ended, "a decoder was used after the end of its stream");
+        self.max_utf16_length(0);
     }
 }
 
@@ -171,6 +171,15 @@ fn to_utf8(at_error: OnMalformed) -> raw::Decode<u8> {
     match at_error {
         OnMalformed::Replace => raw::jillapun_decoder_decode_to_utf8,
         OnMalformed::Report => raw::jillapun_decoder_decode_to_utf8_without_replacement,
+    }
+}
+
+/// Panics unless a decoder did what it was called for.
+fn answered(status: u8) {
+    match status {
+        raw::OK => {}
+        raw::FINISHED => panic!("a decoder was used after the end of its stream"),
+        _ => panic!("the library does not decode: status {status}"),
     }
 }
 

@@ -111,8 +111,11 @@ impl Encoder {
     }
 
     fn room(&self, export: raw::Room<raw::Encoder>, units: usize) -> Option<usize> {
-        // SAFETY: the handle is open.
-        length(unsafe { export(&self.0, units) })
+        let mut enough = 0;
+        // SAFETY: the handle is open, and `enough` is a place of its own.
+        let status = unsafe { export(&self.0, units, &mut enough) };
+        assert!(status == raw::OK, "the library does not answer: status {status}");
+        length(enough)
     }
 }
 

@@ -1,6 +1,6 @@
 //! The calls from memory to memory, over slices and texts.
 
-use super::{length, raw};
+use super::{raw, written};
 use crate::mem::Latin1Bidi;
 
 /// Calls that look at a buffer.
@@ -56,7 +56,7 @@ macro_rules! convert {
     ($($name:ident($src:ty, $unit:ty) = $export:ident;)*) => {$(
         pub(crate) fn $name(src: $src, dst: &mut [$unit]) -> Option<usize> {
             // SAFETY: a slice, or a text, is what the header asks of a pointer and a length; `dst` overlaps nothing.
-            length(unsafe { raw::$export(src.as_ptr(), src.len(), dst.as_mut_ptr(), dst.len()) })
+            written(unsafe { raw::$export(src.as_ptr(), src.len(), dst.as_mut_ptr(), dst.len()) }, dst.len())
         }
     )*};
 }
@@ -81,7 +81,7 @@ macro_rules! convert_to_str {
     ($($name:ident($src:ty) = $export:ident;)*) => {$(
         pub(crate) fn $name(src: $src, dst: &mut str) -> Option<usize> {
             // SAFETY: as of a slice, and the header says that what was UTF-8 is UTF-8 after the call.
-            length(unsafe { raw::$export(src.as_ptr(), src.len(), dst.as_mut_ptr(), dst.len()) })
+            written(unsafe { raw::$export(src.as_ptr(), src.len(), dst.as_mut_ptr(), dst.len()) }, dst.len())
         }
     )*};
 }

@@ -6,6 +6,7 @@ use std::ptr;
 pub(super) const OK: u8 = 0;
 pub(super) const BAD_INDEX: u8 = 4;
 pub(super) const NO_MEMORY: u8 = 5;
+pub(super) const FINISHED: u8 = 8;
 
 pub(super) const INPUT_EMPTY: u8 = 0;
 pub(super) const OUTPUT_FULL: u8 = 1;
@@ -120,7 +121,7 @@ pub(super) type Encode<Unit> =
     unsafe extern "C" fn(*mut Encoder, *const Unit, usize, *mut u8, usize, bool, *mut EncoderProgress) -> u8;
 
 /// The form of the calls that tell how much room is enough for so many units more.
-pub(super) type Room<Handle> = unsafe extern "C" fn(*const Handle, usize) -> usize;
+pub(super) type Room<Handle> = unsafe extern "C" fn(*const Handle, usize, *mut usize) -> u8;
 
 extern "C" {
     pub(super) fn jillapun_for_label(label: *const u8, label_len: usize) -> u8;
@@ -138,17 +139,27 @@ extern "C" {
     pub(super) fn jillapun_decoder_new(tables: Tables, encoding: u8, mark: u8, out: *mut Decoder) -> u8;
     pub(super) fn jillapun_decoder_free(decoder: *mut Decoder);
     pub(super) fn jillapun_decoder_encoding(decoder: *const Decoder) -> u8;
-    pub(super) fn jillapun_decoder_max_utf8_length(decoder: *const Decoder, n: usize) -> usize;
-    pub(super) fn jillapun_decoder_max_utf8_length_without_replacement(decoder: *const Decoder, n: usize) -> usize;
-    pub(super) fn jillapun_decoder_max_utf16_length(decoder: *const Decoder, n: usize) -> usize;
+    pub(super) fn jillapun_decoder_max_utf8_length(decoder: *const Decoder, n: usize, length: *mut usize) -> u8;
+    pub(super) fn jillapun_decoder_max_utf8_length_without_replacement(
+        decoder: *const Decoder, n: usize, length: *mut usize,
+    ) -> u8;
+    pub(super) fn jillapun_decoder_max_utf16_length(decoder: *const Decoder, n: usize, length: *mut usize) -> u8;
     pub(super) fn jillapun_decoder_latin1_byte_compatible_up_to(
-        decoder: *mut Decoder, bytes: *const u8, bytes_len: usize,
-    ) -> usize;
+        decoder: *mut Decoder, bytes: *const u8, bytes_len: usize, length: *mut usize,
+    ) -> u8;
     pub(super) fn jillapun_decoder_decode_to_utf8(
         decoder: *mut Decoder, src: *const u8, src_len: usize, dst: *mut u8, dst_len: usize, last: bool,
         progress: *mut Progress,
     ) -> u8;
     pub(super) fn jillapun_decoder_decode_to_utf8_without_replacement(
+        decoder: *mut Decoder, src: *const u8, src_len: usize, dst: *mut u8, dst_len: usize, last: bool,
+        progress: *mut Progress,
+    ) -> u8;
+    pub(super) fn jillapun_decoder_decode_to_str(
+        decoder: *mut Decoder, src: *const u8, src_len: usize, dst: *mut u8, dst_len: usize, last: bool,
+        progress: *mut Progress,
+    ) -> u8;
+    pub(super) fn jillapun_decoder_decode_to_str_without_replacement(
         decoder: *mut Decoder, src: *const u8, src_len: usize, dst: *mut u8, dst_len: usize, last: bool,
         progress: *mut Progress,
     ) -> u8;
@@ -165,13 +176,18 @@ extern "C" {
     pub(super) fn jillapun_encoder_free(encoder: *mut Encoder);
     pub(super) fn jillapun_encoder_encoding(encoder: *const Encoder) -> u8;
     pub(super) fn jillapun_encoder_has_pending_state(encoder: *const Encoder) -> bool;
-    pub(super) fn jillapun_encoder_max_length_from_utf8_if_no_unmappables(encoder: *const Encoder, n: usize) -> usize;
-    pub(super) fn jillapun_encoder_max_length_from_utf8_without_replacement(encoder: *const Encoder, n: usize)
-        -> usize;
-    pub(super) fn jillapun_encoder_max_length_from_utf16_if_no_unmappables(encoder: *const Encoder, n: usize) -> usize;
+    pub(super) fn jillapun_encoder_max_length_from_utf8_if_no_unmappables(
+        encoder: *const Encoder, n: usize, length: *mut usize,
+    ) -> u8;
+    pub(super) fn jillapun_encoder_max_length_from_utf8_without_replacement(
+        encoder: *const Encoder, n: usize, length: *mut usize,
+    ) -> u8;
+    pub(super) fn jillapun_encoder_max_length_from_utf16_if_no_unmappables(
+        encoder: *const Encoder, n: usize, length: *mut usize,
+    ) -> u8;
     pub(super) fn jillapun_encoder_max_length_from_utf16_without_replacement(
-        encoder: *const Encoder, n: usize,
-    ) -> usize;
+        encoder: *const Encoder, n: usize, length: *mut usize,
+    ) -> u8;
     pub(super) fn jillapun_encoder_encode_from_utf8(
         encoder: *mut Encoder, text: *const u8, text_len: usize, dst: *mut u8, dst_len: usize, last: bool,
         progress: *mut EncoderProgress,

@@ -1,0 +1,148 @@
+-- What a call of a decoder wrote, put over a text.
+use Rattle.std.proofs.Common.{◌≡◌, ◌≢◌, ℕ, ◌≤◌, Bool, true, false, Option, None, Some, List, [], ◌∷◌, ◌++◌, length, take, drop, refl, sym, ◌∙◌, ap, subst, arith, encode_utf8_all}
+use Rattle.std.proofs.lemmas.Bool.{and_parts}
+use Rattle.std.proofs.lemmas.List.{drop_at, take_at}
+use Rattle.std.proofs.Math.Utf8.{scalar}
+use Rattle.std.specs.Str.{all_scalars}
+use Rattle.encoding_mem.specs.Piece.{Piece, well_formed, malformed, text, scalars, ArePieces}
+use Rattle.encoding_mem.specs.calls.Decoding.{DecoderState, EndsWith, Takes}
+use Rattle.encoding_mem.specs.calls.Writing.{Adds}
+use Rattle.encoding_mem.specs.declared.decoder_result.DecoderResult.{DecoderResult}
+use Rattle.encoding_mem.specs.declared.room.OutputUnit.{OutputUnit}
+use Rattle.encoding_front.specs.calls.DecodedText.{raw_result}
+use Rattle.encoding_front.specs.calls.DecoderCall.{DecoderCall, TextCall}
+use Rattle.encoding_front.specs.calls.DecoderViews.{decoder_view}
+use Rattle.encoding_front.specs.calls.Stream.{DecoderView}
+use Rattle.encoding_front.specs.declared.coder_result.CoderResult.{CoderResult}
+use Rattle.encoding_front.specs.declared.decoder.Decoder.{Decoder}
+use Rattle.encoding_front.specs.laws.Input.{text_scalars}
+use Rattle.jillapun_c.specs.Coders.{decoder_in}
+use Rattle.jillapun_c.specs.DecoderCalls.{AnswersDecoder, Decodes, DecodesUpToFault}
+use Rattle.jillapun_c.specs.Room.{TextIsPut}
+use Rattle.jillapun_c.specs.declared.coder.Coder.{Coder}
+use Rattle.jillapun_c.specs.declared.progress.Progress.{Progress}
+use Rattle.jillapun_c.specs.declared.status.TheConstants.{CLOSED, FINISHED, OK}
+
+-- ---- the text is one of characters
+
+scalars_join : (a b : List ℕ) → all_scalars a ≡ true → all_scalars b ≡ true → all_scalars (a ++ b) ≡ true
+scalars_join [] b h k = k
+scalars_join (c ∷ a) b h k = let p = and_parts (scalar c) (all_scalars a) h in rw (p.0, scalars_join a b p.1 k) refl
+
+are_scalars : (ps : List Piece) → ArePieces ps → all_scalars (scalars ps) ≡ true
+are_scalars [] h = refl
+are_scalars (well_formed n cs ∷ ps) h = scalars_join cs (scalars ps) h.0.are_scalars (are_scalars ps h.1)
+are_scalars (malformed n ∷ ps) h = are_scalars ps h.1
+
+prefix_pieces : (a b : List Piece) → ArePieces (a ++ b) → ArePieces a
+prefix_pieces [] b h = tt
+prefix_pieces (p ∷ a) b h = (h.0, prefix_pieces a b h.1)
+
+-- ---- it is put in place of one that was added
+
+-- what is behind a text is cleared, whatever the text
+abbrev pub PutsOver : (mid new : List ℕ) (w : ℕ) → Type 0
+PutsOver mid new w = (text old : List ℕ) → all_scalars text ≡ true → take w mid ≡ encode_utf8_all text → drop w mid ≡ drop w old → TextIsPut old (encode_utf8_all text) new w
+
+put_over : (old mid new : List ℕ) (w : ℕ) → PutsOver mid new w → (t : List ℕ) → all_scalars t ≡ true → Adds old 0 (encode_utf8_all t) mid w → TextIsPut old (encode_utf8_all t) new w
+put_over old mid new w puts t are h = puts t old are (ap (take w) h.list ∙ take_at (encode_utf8_all t) (drop w old) w (omega (arith, h.counted)))
+    (ap (drop w) h.list ∙ drop_at (encode_utf8_all t) (drop w old) w (omega (arith, h.counted)))
+
+text_over : (v v' : DecoderView) (src : List ℕ) (last : Bool) (n : ℕ) (old mid new : List ℕ) (w free room mark : ℕ) (outcome : CoderResult) (had : Bool) → PutsOver mid new w
+    → length (drop w mid) ≡ free → TextCall v v' src last n (λ t. Adds old 0 (encode_utf8_all t) mid w) (length (drop w mid)) room mark outcome had
+    → TextCall v v' src last n (λ t. TextIsPut old (encode_utf8_all t) new w) free room mark outcome had
+text_over v v' src last n old mid new w free room mark outcome had puts size h = record {
+  law = record {
+    taken = h.law.taken;
+    had = h.law.had;
+    within = h.law.within;
+    counted = h.law.counted;
+    writes = put_over old mid new w puts (text h.law.taken) (text_scalars h.law.taken (prefix_pieces h.law.taken _ (subst ArePieces (h.law.rest [] (λ _. refl)) (v.state.are_pieces (src ++ []))))) h.law.writes;
+    rest = h.law.rest;
+  };
+  ends = subst (λ (k : ℕ). EndsWith v'.state (drop n src) last k room mark (raw_result outcome)) size h.ends;
+  source = h.source;
+  finished = h.finished;
+}
+
+scalars_over : (v v' : DecoderView) (src : List ℕ) (last : Bool) (n : ℕ) (old mid new : List ℕ) (w free room mark : ℕ) (outcome : DecoderResult) → PutsOver mid new w
+    → length (drop w mid) ≡ free → DecoderCall v v' src last n (λ t. Adds old 0 (encode_utf8_all t) mid w) (length (drop w mid)) room mark outcome
+    → DecoderCall v v' src last n (λ t. TextIsPut old (encode_utf8_all t) new w) free room mark outcome
+scalars_over v v' src last n old mid new w free room mark outcome puts size h = record {
+  law = record {
+    taken = h.law.taken;
+    well_formed = h.law.well_formed;
+    within = h.law.within;
+    counted = h.law.counted;
+    writes = put_over old mid new w puts (scalars h.law.taken) (are_scalars h.law.taken (prefix_pieces h.law.taken _ (subst ArePieces (h.law.rest [] (λ _. refl)) (v.state.are_pieces (src ++ []))))) h.law.writes;
+    rest = h.law.rest;
+  };
+  ends = subst (λ (k : ℕ). EndsWith v'.state (drop n src) last k room mark outcome) size h.ends;
+  source = h.source;
+  finished = h.finished;
+}
+
+-- ---- of the decoder of a handle
+
+-- a call that was made is one of an open decoder
+done_if_ok : (held : Option Decoder) (status : ℕ) (Then : Decoder → Type 0) → (held ≡ None → status ≡ CLOSED) → ((d : Decoder) → held ≡ Some d → (decoder_view d).finished ≡ true → status ≡ FINISHED)
+    → ((d : Decoder) → held ≡ Some d → (decoder_view d).finished ≡ false → (status ≡ OK) × Then d) → status ≡ OK → (d : Decoder) × Then d
+done_if_ok None status Then closed finished done ok = let none : status ≡ CLOSED = closed refl in absurd (cc)
+done_if_ok (Some d) status Then closed finished done ok = by_end (decoder_view d).finished (λ is. finished d refl is) (λ is. done d refl is)
+  where
+    by_end : (t : Bool) → (t ≡ true → status ≡ FINISHED) → (t ≡ false → (status ≡ OK) × Then d) → (d : Decoder) × Then d
+    by_end true ended live = let is : status ≡ FINISHED = ended refl in absurd (cc)
+    by_end false ended live = (d, (live refl).1)
+
+pub done_of : (held : Option Coder) (status : ℕ) (Then : Decoder → Type 0) → AnswersDecoder held status Then → status ≡ OK → (d : Decoder) × Then d
+done_of held status Then h ok = done_if_ok (decoder_in held) status Then h.closed h.finished h.done ok
+
+-- what a call that was not made says holds of any other
+pub not_done : (held : Option Coder) (status : ℕ) (Then Other : Decoder → Type 0) → AnswersDecoder held status Then → status ≢ OK → AnswersDecoder held status Other
+not_done held status Then Other h other = record { closed = h.closed; finished = h.finished; done = λ d is live. absurd (other (h.done d is live).0) }
+
+-- with U+FFFD for each malformed sequence
+pub decodes_over : (held after : Option Coder) (unit : OutputUnit) (src : List ℕ) (last : Bool) (old mid new : List ℕ) (size free room mark status : ℕ) (p : Progress) → PutsOver mid new p.written
+    → length (drop p.written mid) ≡ free
+    → AnswersDecoder held status (λ d. Decodes unit d after src last (λ t. Adds old 0 (encode_utf8_all t) mid p.written) size (length (drop p.written mid)) room mark p)
+    → AnswersDecoder held status (λ d. Decodes unit d after src last (λ t. TextIsPut old (encode_utf8_all t) new p.written) size free room mark p)
+decodes_over held after k src last old mid new size free room mark status p puts same h = record {
+  closed = h.closed;
+  finished = h.finished;
+  done = λ d is live.
+      let did = (h.done d is live).1 in (
+        (h.done d is live).0,
+        record {
+          decoder = did.decoder;
+          held = did.held;
+          outcome = did.outcome;
+          told = did.told;
+          no_length = did.no_length;
+          call = text_over (decoder_view d) (decoder_view did.decoder) src last p.read old mid new p.written free room mark did.outcome p.had_errors puts same did.call;
+          enough = did.enough;
+        },
+      );
+}
+
+-- up to the first malformed sequence
+pub decodes_part_over : (held after : Option Coder) (k : OutputUnit) (src : List ℕ) (last : Bool) (old mid new : List ℕ) (size free room mark status : ℕ) (p : Progress) → PutsOver mid new p.written
+    → length (drop p.written mid) ≡ free
+    → AnswersDecoder held status (λ d. DecodesUpToFault k d after src last (λ t. Adds old 0 (encode_utf8_all t) mid p.written) size (length (drop p.written mid)) room mark p)
+    → AnswersDecoder held status (λ d. DecodesUpToFault k d after src last (λ t. TextIsPut old (encode_utf8_all t) new p.written) size free room mark p)
+decodes_part_over held after k src last old mid new size free room mark status p puts same h = record {
+  closed = h.closed;
+  finished = h.finished;
+  done = λ d is live.
+      let did = (h.done d is live).1 in (
+        (h.done d is live).0,
+        record {
+          decoder = did.decoder;
+          held = did.held;
+          outcome = did.outcome;
+          told = did.told;
+          none_replaced = did.none_replaced;
+          call = scalars_over (decoder_view d) (decoder_view did.decoder) src last p.read old mid new p.written free room mark did.outcome puts same did.call;
+          enough = did.enough;
+        },
+      );
+}

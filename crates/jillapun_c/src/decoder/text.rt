@@ -1,0 +1,80 @@
+//! The exports that decode to UTF-8 over a text.
+
+ghost use Rattle.std.specs.Prelude.{◌≡◌, ◌≢◌, drop, length, encode_utf8_all};
+ghost use Rattle.encoding_mem.specs.declared.room.OutputUnit.TheVariants.{Bytes, Replaced};
+ghost use Rattle.jillapun_c.specs.DecoderCalls.{AnswersDecoder, Decodes, DecodesUpToFault};
+ghost use Rattle.jillapun_c.specs.Room.{TextIsPut};
+ghost use Rattle.jillapun_c.specs.declared.progress.TheConstants.Progress.{NONE};
+ghost use Rattle.jillapun_c.specs.declared.status.TheConstants.{OK};
+
+use crate::decoder::DecoderHandle;
+use crate::decoder::utf8::{
+    jillapun_decoder_decode_to_utf8, jillapun_decoder_decode_to_utf8_without_replacement,
+};
+use crate::mem::text_room::clear_rest;
+use crate::progress::Progress;
+use crate::status::OK;
+use std::alloc::Global;
+
+/// Decodes the next bytes of a stream to UTF-8 at the start of a text, with U+FFFD for each
+/// malformed sequence. What it does and returns is as of `jillapun_decoder_decode_to_utf8`, but for
+/// this: if a character of `dst` is overwritten in part, its other bytes become 00, so what was
+/// UTF-8 is UTF-8 after the call. Of what stands behind the bytes that were written the call looks
+/// at three, and it changes those of them that go on with a character (80 to BF), whether or not
+/// `dst` was UTF-8.
+#[unsafe(no_mangle)]
+pub extern "C" fn jillapun_decoder_decode_to_str(
+    alloc: Global,
+    decoder: &mut DecoderHandle,
+    src: &[u8],
+    dst: &mut [u8],
+    last: bool,
+    progress: &mut Progress,
+) -> u8
+    ensures decodes { AnswersDecoder decoder.old.coder.coder result
+        (λ d. Decodes Replaced d decoder.new.coder.coder src.now last
+        (λ text. TextIsPut dst.old (encode_utf8_all text) dst.new progress.new.written)
+        (length dst.old) (length (drop progress.new.written dst.new)) 4 3 progress.new) }
+    ensures unchanged { result ≢ OK
+        → (dst.new ≡ dst.old) × (decoder.new.coder.coder ≡ decoder.old.coder.coder) }
+    ensures nothing { result ≢ OK → progress.new ≡ NONE }
+{
+    let status = jillapun_decoder_decode_to_utf8(alloc, decoder, src, dst, last, progress);
+    if status != OK {
+        return status;
+    }
+    clear_rest(dst, progress.written);
+    status
+}
+
+/// Decodes the next bytes of a stream to UTF-8 at the start of a text, up to the first malformed
+/// sequence. What it does and returns is as of
+/// `jillapun_decoder_decode_to_utf8_without_replacement`, but that what was UTF-8 stays UTF-8, as
+/// with `jillapun_decoder_decode_to_str`.
+#[unsafe(no_mangle)]
+pub extern "C" fn jillapun_decoder_decode_to_str_without_replacement(
+    alloc: Global,
+    decoder: &mut DecoderHandle,
+    src: &[u8],
+    dst: &mut [u8],
+    last: bool,
+    progress: &mut Progress,
+) -> u8
+    ensures decodes { AnswersDecoder decoder.old.coder.coder result
+        (λ d. DecodesUpToFault Bytes d decoder.new.coder.coder src.now last
+        (λ text. TextIsPut dst.old (encode_utf8_all text) dst.new progress.new.written)
+        (length dst.old) (length (drop progress.new.written dst.new)) 4 3 progress.new) }
+    ensures unchanged { result ≢ OK
+        → (dst.new ≡ dst.old) × (decoder.new.coder.coder ≡ decoder.old.coder.coder) }
+    ensures nothing { result ≢ OK → progress.new ≡ NONE }
+{
+    let status = jillapun_decoder_decode_to_utf8_without_replacement(
+        alloc, decoder, src, dst, last, progress,
+    );
+    if status != OK {
+        return status;
+    }
+    let written = progress.written;
+    clear_rest(dst, written);
+    status
+}
