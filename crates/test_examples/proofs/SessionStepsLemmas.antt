@@ -137,7 +137,7 @@ module _ (j : Job) (x rest output log : List ℕ) (t' : Devices) (tells : TellWh
 
   -- what was converted is all
   pub gave_all : (p : Report) (characters : ℕ) → IsConverted devices_before.written t'.written j x p → characters ≡ length (input_text j x) → GaveAll j x output log characters p.faithful
-  gave_all p characters converted counted = record { written = is_output ∙ converted.whole.output; logged = is_log ∙ converted.whole.logged; counted = counted; verdict = converted.report.faithful }
+  gave_all p characters converted counted = record { within = converted.whole.within; unstopped = converted.whole.unstopped; written = is_output ∙ converted.whole.output; logged = is_log ∙ converted.whole.logged; counted = counted; verdict = converted.report.faithful }
 
 -- what a fault that ended them tells is true
 pub told_fault : (j : Job) (x : List ℕ) (t' : Devices) (f : Fault) → Fails devices_before t' j f
