@@ -65,12 +65,16 @@ fn convert_parts(
     parts_are_the_whole();
     joined_logs_are_the_log();
     devices_tell();
-    ensure!(job.can_be_cut(first), "the input is not to be cut here");
+    if !job.can_be_cut(first) {
+        bail!("the input is not to be cut here");
+    }
     let later = job.later(first);
     let one = convert_whole(alloc, job, first, buffers)?;
     let other = convert_whole(alloc, later, second, buffers)?;
     let size = first.len() as u64 + second.len() as u64;
-    ensure!(size <= job.limit, "the input is too long");
+    if size > job.limit {
+        bail!("the input is too long");
+    }
     let mut output = one.output;
     output.extend_from_slice(&other.output)?;
     let mut part = Counted::new(SingleBytes { rest: &other.log });
