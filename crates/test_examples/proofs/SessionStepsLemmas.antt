@@ -1,5 +1,5 @@
 -- What steps of a session have done, and what they have to write with.
-use Rattle.std.proofs.Common.{◌≡◌, ℕ, ◌+◌, ◌<◌, ◌≤◌, List, [], ◌∷◌, ◌++◌, take, Option, Some, Result, Ok, length, refl, sym, subst, ◌∙◌, ap, arith}
+use Rattle.std.proofs.Common.{◌≡◌, ℕ, ◌+◌, ◌<◌, ◌≤◌, List, [], ◌∷◌, ◌++◌, take, Some, Result, Ok, length, refl, sym, subst, ◌∙◌, ap, arith}
 use Rattle.std.specs.Io.KnownBytes.{Consumes}
 use Rattle.encoding_mem.specs.Decided.{IsDecided}
 use Rattle.encoding_mem.specs.Piece.{Piece, sizes}
@@ -7,7 +7,7 @@ use Rattle.std.specs.List.{concat}
 use Rattle.recode_log.specs.Call.{Call, passed_by}
 use Rattle.recode.specs.Devices.{CountsFault, Devices, Gave, devices_in, reads_of}
 use Rattle.recode.specs.Job.{input_pieces, input_text, lost_log_lines, target_of, trace}
-use Rattle.recode.specs.Latency.{HasReached, WroteDecided}
+use Rattle.recode.specs.Latency.{HasReached}
 use Rattle.recode.specs.Session.{Fails, IsConverted, IsStepped, View, phase_after}
 use Rattle.recode.specs.State.{State}
 use Rattle.recode.specs.Step.{HasRun, IsNearlyDecided, StepsOn, WrotePrefix}

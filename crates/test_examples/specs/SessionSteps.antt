@@ -1,7 +1,6 @@
 -- What steps of a session gave.
 use Rattle.std.specs.Prelude.{◌≡◌, ◌↔◌, ℕ, ◌<◌, ◌≤◌, Bool, IsTrue, List, [], ◌∷◌, ◌++◌, length, take}
 use Rattle.encoding_mem.specs.Piece.{Piece, text}
-use Rattle.recode.specs.Devices.{Written}
 use Rattle.recode.specs.Job.{Faithful, RunsThrough, input_text, log_of, lost_log_lines, output_of, target_of}
 use Rattle.recode.specs.Latency.{WroteDecided}
 use Rattle.recode.specs.declared.job.Fault.{Fault}
