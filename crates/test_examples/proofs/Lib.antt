@@ -2,3 +2,4 @@ pub mod OwnTextsLemmas
 pub mod CallsLemmas
 pub mod FirstFaultLemmas
 pub mod SessionStepsLemmas
+pub mod PartRunsLemmas

@@ -1,5 +1,5 @@
 -- What steps of a session have done, and what they have to write with.
-use Rattle.std.proofs.Common.{◌≡◌, ℕ, ◌+◌, ◌<◌, ◌≤◌, List, [], ◌∷◌, ◌++◌, take, Option, Some, Result, Ok, length, refl, sym, subst, ◌∙◌, ap, arith}
+use Rattle.std.proofs.Common.{◌≡◌, ℕ, ◌+◌, ◌<◌, ◌≤◌, List, [], ◌∷◌, ◌++◌, take, Some, Result, Ok, length, refl, sym, subst, ◌∙◌, ap, arith}
 use Rattle.std.specs.Io.KnownBytes.{Consumes}
 use Rattle.encoding_mem.specs.Decided.{IsDecided}
 use Rattle.encoding_mem.specs.Piece.{Piece, sizes}
@@ -7,7 +7,7 @@ use Rattle.std.specs.List.{concat}
 use Rattle.recode_log.specs.Call.{Call, passed_by}
 use Rattle.recode.specs.Devices.{CountsFault, Devices, Gave, devices_in, reads_of}
 use Rattle.recode.specs.Job.{input_pieces, input_text, lost_log_lines, target_of, trace}
-use Rattle.recode.specs.Latency.{HasReached, WroteDecided}
+use Rattle.recode.specs.Latency.{HasReached}
 use Rattle.recode.specs.Session.{Fails, IsConverted, IsStepped, View, phase_after}
 use Rattle.recode.specs.State.{State}
 use Rattle.recode.specs.Step.{HasRun, IsNearlyDecided, StepsOn, WrotePrefix}
@@ -137,7 +137,7 @@ module _ (j : Job) (x rest output log : List ℕ) (t' : Devices) (tells : TellWh
 
   -- what was converted is all
   pub gave_all : (p : Report) (characters : ℕ) → IsConverted devices_before.written t'.written j x p → characters ≡ length (input_text j x) → GaveAll j x output log characters p.faithful
-  gave_all p characters converted counted = record { written = is_output ∙ converted.whole.output; logged = is_log ∙ converted.whole.logged; counted = counted; verdict = converted.report.faithful }
+  gave_all p characters converted counted = record { within = converted.whole.within; unstopped = converted.whole.unstopped; written = is_output ∙ converted.whole.output; logged = is_log ∙ converted.whole.logged; counted = counted; verdict = converted.report.faithful }
 
 -- what a fault that ended them tells is true
 pub told_fault : (j : Job) (x : List ℕ) (t' : Devices) (f : Fault) → Fails devices_before t' j f

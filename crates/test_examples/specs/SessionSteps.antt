@@ -1,8 +1,7 @@
 -- What steps of a session gave.
 use Rattle.std.specs.Prelude.{◌≡◌, ◌↔◌, ℕ, ◌<◌, ◌≤◌, Bool, IsTrue, List, [], ◌∷◌, ◌++◌, length, take}
 use Rattle.encoding_mem.specs.Piece.{Piece, text}
-use Rattle.recode.specs.Devices.{Written}
-use Rattle.recode.specs.Job.{Faithful, input_text, log_of, lost_log_lines, output_of, target_of}
+use Rattle.recode.specs.Job.{Faithful, RunsThrough, input_text, log_of, lost_log_lines, output_of, target_of}
 use Rattle.recode.specs.Latency.{WroteDecided}
 use Rattle.recode.specs.declared.job.Fault.{Fault}
 use Rattle.recode.specs.declared.job.Fault.TheVariants.{Log, Read, TooLong, Unmappable, Write}
@@ -10,8 +9,11 @@ use Rattle.recode.specs.declared.job.Job.{Job}
 use Rattle.recode.specs.declared.job.Policy.{Policy}
 use Rattle.recode_log.specs.declared.line.LogLine.TheVariants.{Lost}
 
--- an output, a log, a count of characters and a verdict are those of a job for a whole input
+-- An output, a log, a count of characters and a verdict are those of a job for a whole input, which is within its limit and
+-- in which its policy stops nothing.
 pub record GaveAll (j : Job) (x output log : List ℕ) (characters : ℕ) (faithful : Bool) : Type 0 where
+  pub within : length x ≤ j.limit
+  pub unstopped : RunsThrough j x
   pub written : output ≡ output_of j x
   pub logged : log ≡ log_of j x
   pub counted : characters ≡ length (input_text j x)

@@ -1,6 +1,7 @@
 //! Joins the log of a part of an input to that of what stands before it.
 
-use recode_log::Counted;
+use anyhow::ensure;
+use recode_log::{Counted, LogLine};
 use recode_parts::{Before, join_log};
 use std::alloc::Global;
 
@@ -15,4 +16,32 @@ pub(crate) fn joins_a_log(alloc: Global) -> anyhow::Result<bool> {
     join_log(&mut log, before, &mut whole)?;
     // end
     Ok(whole.get_ref().as_slice() == b"bad 1006 1\nlost 907 128169\n".as_slice())
+}
+
+// Puts a line of a log behind others.
+fn put_line(log: &mut Vec<u8>, offset: u64) -> anyhow::Result<()> {
+    let line = LogLine::Bad { offset, length: 1 };
+    ensure!(line.is_valid(), "the offset is too great");
+    let mut text = [0; 32];
+    let size = line.write_into(&mut text);
+    log.extend_from_slice(&text[..size])?;
+    Ok(())
+}
+
+/// Joins a log of 600 lines, which has more bytes than `join_log` holds at once.
+pub(crate) fn joins_a_long_log(alloc: Global) -> anyhow::Result<bool> {
+    let mut log = Vec::new(alloc);
+    let mut moved = Vec::new(alloc);
+    for offset in 0..600 {
+        put_line(&mut log, offset)?;
+        put_line(&mut moved, offset + 1_000_000)?;
+    }
+    let mut part = Counted::new(log.as_slice());
+    let mut whole = Counted::new(Vec::new(alloc));
+    let before = Before {
+        bytes: 1_000_000,
+        characters: 0,
+    };
+    join_log(&mut part, before, &mut whole)?;
+    Ok(log.len() > 4096 && whole.get_ref().as_slice() == moved.as_slice())
 }

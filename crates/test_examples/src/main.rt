@@ -3,10 +3,10 @@
 //! page.
 //!
 //! There are also programs as users write them: `stream_faults`, `stream_losses`, `whole_runs` and
-//! `whole_texts`. Each loads its indexes and uses them in one function. `part_runs` recodes an
-//! input in two parts. `decoded_texts`, `lost_characters`, `first_faults` and `session_steps` have
-//! functions whose contracts users prove from the contracts and laws of the libraries, `own_texts`
-//! a sink and a source of a user's own.
+//! `whole_texts`. Each loads its indexes and uses them in one function. `decoded_texts`,
+//! `lost_characters`, `first_faults`, `session_steps` and `part_runs`, which recodes an input in
+//! two parts, have functions whose contracts users prove from the contracts and laws of the
+//! libraries, `own_texts` a sink and a source of a user's own.
 #![tactic(auto)]
 
 mod conversions;
@@ -219,6 +219,7 @@ fn main(rt: HostRuntime) -> anyhow::Result<()> {
     print(rt, "recode_log", streams::writes_a_line(alloc)?)?;
     print(rt, "recode_places", places::tells_a_place(alloc)?)?;
     print(rt, "recode_parts", joined_logs::joins_a_log(alloc)?)?;
+    print(rt, "a long log", joined_logs::joins_a_long_log(alloc)?)?;
     print(rt, "recode_words", streams::reads_words(alloc)?)?;
     print(rt, "recode", conversions::converts_a_stream(alloc)?)?;
     print(rt, "recode_places_report", reports::reports_a_place(alloc)?)?;

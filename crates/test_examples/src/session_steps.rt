@@ -17,8 +17,8 @@ use std::io::{ErrorKind, Read, Write};
 
 // A reader of bytes in memory that gives one at a time. Its `remaining` are those that are left.
 #[derive(Drop)]
-struct SingleBytes<'a> {
-    rest: &'a [u8],
+pub(crate) struct SingleBytes<'a> {
+    pub(crate) rest: &'a [u8],
 }
 
 impl<'a> Read for SingleBytes<'a> {
@@ -35,8 +35,8 @@ impl<'a> Read for SingleBytes<'a> {
 
 // A writer that keeps all that it is given. Its `contents` are these bytes.
 #[derive(Drop)]
-struct Keeper {
-    bytes: Vec<u8>,
+pub(crate) struct Keeper {
+    pub(crate) bytes: Vec<u8>,
 }
 
 impl Write for Keeper {

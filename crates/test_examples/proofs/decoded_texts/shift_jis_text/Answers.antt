@@ -1,5 +1,3 @@
-use Rattle.std.proofs.Common.{◌≡◌, ℕ, List, ◌++◌, encode_utf8_all, string_bytes, ◌∙◌, ap}
-use Rattle.encoding_mem.specs.Piece.{Piece, text}
 use Rattle.encoding_front.specs.laws.Calls.{wrote_text}
 use Rattle.test_examples.proofs.decoded_texts.shift_jis_text.Goals as goal
 

@@ -1,4 +1,4 @@
-use Rattle.std.proofs.Common.{◌≡◌, ℕ, ◌+◌, List, true, arith, rules, ap, sym, ◌∙◌}
+use Rattle.std.proofs.Common.{◌≡◌, ℕ, ◌+◌, List, arith, rules, ap, sym, ◌∙◌}
 use Rattle.std.specs.Str.{chars}
 use Rattle.encoding_mem.specs.Coding.{Coding, lost_count}
 use Rattle.encoding_mem.specs.laws.ReadBack.{none_lost}
