@@ -180,7 +180,7 @@ class Streams:
                     data = bytes(self.random.choices(own or [0], k=self.random.randint(0, 9))) + self.random.randbytes(3)
                     length = next((at for at, byte in enumerate(data) if byte not in own), len(data))
                     wanted = length if is_known else NUMBERS["REFUSED"]
-                    self.same("latin1", (name, mark, data), self.told("latin1", call(handle, data, found), found), wanted)
+                    self.same("latin1", (name, mark, data), self.told_length("latin1", call(handle, data, found), found), wanted)
                 self.library.jillapun_decoder_free(handle)
                 self.must("latin1 when freed", call(handle, b"a", found), "CLOSED")
 
@@ -239,7 +239,7 @@ class Streams:
         if not faults:
             self.queried_without_faults(job, data, text)
 
-    def told(self, call, status, length):
+    def told_length(self, call, status, length):
         """A length that a call tells beside its status."""
         self.must(call, status)
         return length.value
@@ -247,7 +247,7 @@ class Streams:
     def asked_room(self, call, handle, size):
         """What the query for room tells of so many bytes or units."""
         length = ctypes.c_size_t()
-        return self.told(call, getattr(self.library, call)(handle, size, length), length)
+        return self.told_length(call, getattr(self.library, call)(handle, size, length), length)
 
     def queried(self, job, data, text):
         """A whole stream in one call, in the room that its query asks for."""

@@ -59,11 +59,17 @@ fn encodings_are_found(rt: HostRuntime) {
     assert_eq!(rt; jillapun_name(24, &mut name[..8]), 9);
     assert_eq!(rt; jillapun_output_encoding(26), 25);
     assert_eq!(rt; jillapun_output_encoding(40), NO_ENCODING);
+}
+
+#[test]
+fn indexes_are_named(rt: HostRuntime) {
+    let mut name = [0; 30];
+    let mut short = [0; 16];
     assert_eq!(rt; jillapun_needs(1, 1, &mut name), 17);
     assert_eq!(rt; &name[..17], b"index-jis0212.txt".as_slice());
-    assert_eq!(rt; jillapun_needs(1, 1, &mut name[..16]), 17);
-    assert_eq!(rt; jillapun_needs(1, 2, &mut name), REFUSED);
-    assert_eq!(rt; jillapun_needs(40, 0, &mut name), REFUSED);
+    assert_eq!(rt; jillapun_needs(1, 1, &mut short), 17);
+    assert_eq!(rt; jillapun_needs(1, 2, &mut short), REFUSED);
+    assert_eq!(rt; jillapun_needs(40, 0, &mut short), REFUSED);
 }
 
 #[test]
