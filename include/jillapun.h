@@ -1020,7 +1020,8 @@ uint8_t jillapun_converter_step(jillapun_converter *converter, const uint8_t *sr
  * The outputs of all parts, in a row, are the output for the whole. So are their records of
  * losses, once `jillapun_join_loss` has moved them, and what is told of the parts, once
  * `jillapun_join_reports` has added it. Nothing was lost of the whole if nothing was lost of
- * any part. A part that the policy stops is the last.
+ * any part. A part that the policy stops is the last, and is not added: the stop of the whole
+ * has its `scalar`, and its `index` with the `characters` of the parts before.
  */
 uint8_t jillapun_part_encoding(uint8_t from, uint8_t to, uint8_t mark, const uint8_t *first,
     size_t first_len);
@@ -1037,8 +1038,8 @@ bool jillapun_join_loss(const jillapun_report *before, jillapun_loss *loss);
 
 /**
  * Adds what is told of the next part to what is told of those before it: `read`, `bad`, `lost`,
- * `characters`, `written` and `losses`. The status of both is `JILLAPUN_LOSSY` if that of one
- * is.
+ * `characters`, `written` and `losses`; `index` and `scalar` stay. The status of both is
+ * `JILLAPUN_LOSSY` if that of one is.
  *
  * Returns whether that was done. Else nothing is changed, since a sum would be 2^64 or more:
  * never of parts of an input that is within a limit.

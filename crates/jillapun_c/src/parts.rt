@@ -1,7 +1,7 @@
 //! The exports on an input that is converted part by part.
 
 ghost use Rattle.std.specs.Prelude.{◌≡◌, ◌⊎◌, ◌≤◌, ◌^◌, IfNone, IfSome, MatchOption};
-ghost use Rattle.std.specs.Prelude.{true, false};
+ghost use Rattle.std.specs.Prelude.{None, true, false};
 ghost use Rattle.encoding_front.specs.EncodingTable.{number_of};
 ghost use Rattle.encoding_front.specs.Marks.{source_of};
 ghost use Rattle.jillapun_c.specs.Losses.{line_of};
@@ -29,7 +29,8 @@ use encoding_front::{Encoding, Mark};
 /// The outputs of all parts, in a row, are the output for the whole. So are their records of
 /// losses, once `jillapun_join_loss` has moved them, and what is told of the parts, once
 /// `jillapun_join_reports` has added it. Nothing was lost of the whole if nothing was lost of any
-/// part. A part that the policy stops is the last.
+/// part. A part that the policy stops is the last, and is not added: the stop of the whole has its
+/// `scalar`, and its `index` with the `characters` of the parts before.
 #[unsafe(no_mangle)]
 pub extern "C" fn jillapun_part_encoding(from: u8, to: u8, mark: u8, first: &[u8]) -> u8
     ensures { MatchOption (encoding_of_parts_at from to mark first.now) (result ≡ NO_ENCODING)
@@ -81,6 +82,7 @@ pub extern "C" fn jillapun_join_loss(before: &Report, loss: &mut Loss) -> bool
     ensures unchanged { result ≡ false → loss.new ≡ loss.old }
     ensures why { result ≡ false → (line_of loss.old ≡ None)
         ⊎ (2 ^ 64 ≤ (loss_in_whole before.now loss.old).place) }
+    ensures other { line_of loss.old ≡ None → result ≡ false }
 {
     let moved = if loss.kind == BAD {
         loss.place.checked_add(before.read)
@@ -97,7 +99,8 @@ pub extern "C" fn jillapun_join_loss(before: &Report, loss: &mut Loss) -> bool
 }
 
 /// Adds what is told of the next part to what is told of those before it: `read`, `bad`, `lost`,
-/// `characters`, `written` and `losses`. The status of both is `LOSSY` if that of one is.
+/// `characters`, `written` and `losses`; `index` and `scalar` stay. The status of both is `LOSSY`
+/// if that of one is.
 ///
 /// Returns whether that was done. Else nothing is changed, since a sum would be 2^64 or more: never
 /// of parts of an input that is within a limit.
