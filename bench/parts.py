@@ -36,12 +36,14 @@ HEAD += ["as one `recode`"]
 WORDS = "ログ 2026-11-28 日本語 テスト かな 漢字 request served in 12 ms".split(" ")
 
 # The library, in as many parts at once; the log is what it tells. It prints how much processor time joining took: what the
-# thread that joins does for each block, but for the writing of its output and of the log.
+# thread that joins does for each block, but for what one conversion does as well, the writing of the output, and the reading
+# and telling of losses.
 LIBRARY = """
 import sys, time, jillapun
 from jillapun._parts import _Parts
+from jillapun._results import Losses
 source, output, log, parts = sys.argv[1:]
-spent = {"joining": 0.0, "writing": 0.0}
+spent = {"joining": 0.0, "both": 0.0}
 
 def timed(name, call):
     def timed_call(*words):
@@ -54,14 +56,15 @@ def timed(name, call):
 
 class Timed:
     def __init__(self, made):
-        self.writelines = timed("writing", made.writelines)
+        self.writelines = timed("both", made.writelines)
 
 join = timed("joining", _Parts.join)
 _Parts.join = lambda self, block, made, losses: join(self, block, Timed(made), losses)
+Losses.add = timed("both", Losses.add)
 with open(log, "w") as lines:
-    told = timed("writing", lambda fault: lines.write("%s\\n" % (fault,)))
+    told = lambda fault: lines.write("%s\\n" % (fault,))
     jillapun.convert_file(source, output, "shift_jis", "utf-8", processes=int(parts), on_loss=told)
-print(spent["joining"] - spent["writing"])
+print(spent["joining"] - spent["both"])
 """
 
 
