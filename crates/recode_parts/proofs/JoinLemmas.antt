@@ -139,6 +139,7 @@ module _ (n m : ℕ) (reads : List (List ℕ)) (log : List ℕ) where
       record {
         part = h.lines;
         moved = h.moved;
+        size = omega (arith, h.size, ap length h.whole, length-append h.lines held);
         given = (
           h.front,
           gave ∙ ap (λ b. reads' ++ (b ∷ [])) (empty_list bytes (size ∙ none)) ∙ ap (λ l. l ++ ([] ∷ [])) h.gave ∙ append_assoc reads h.front ([] ∷ []),

@@ -55,7 +55,7 @@ module _ (n m : ℕ)
   -- what is left of a log behind lines that were moved
   pub log_behind : (lines moved rest bytes : List ℕ) → MovesLines n m lines moved → bytes ≡ lines ++ rest → CanBeMoved n m bytes → CanBeMoved n m rest
   log_behind lines moved rest bytes h is log =
-      behind h.lines log.lines rest h.logged log.logged log.moved (ap (λ l. l ++ rest) (sym h.read) ∙ sym is ∙ log.read)
+      behind h.from.lines log.lines rest h.from.logged log.logged log.moved (ap (λ l. l ++ rest) (sym h.from.read) ∙ sym is ∙ log.read)
 
   -- a log that is not empty begins with a line, whose line feed is the first
   data Begins (held rest : List ℕ) : Type 0 where

@@ -96,7 +96,7 @@ module _ (told_apart : (a b : LogLine) (x y : List ℕ) → CanBeLogged a → Ca
       → MovesLines n m (log_of (later j x) y) moved
       → log_of j (x ++ y) ≡ log_of j x ++ moved
   joined j x y moved n m first second whole lines logged moves =
-      let same = same_lines moves.lines (lines_of (later j x) y) moves.logged logged (sym moves.read ∙ second) in
+      let same = same_lines moves.from.lines (lines_of (later j x) y) moves.from.logged logged (sym moves.from.read ∙ second) in
       whole ∙ ap (flat_map line_bytes) lines
       ∙ flat_map-append line_bytes (lines_of j x) (map (moved_line n m) (lines_of (later j x) y))
       ∙ ap (λ l. l ++ flat_map line_bytes (map (moved_line n m) (lines_of (later j x) y))) (sym first)

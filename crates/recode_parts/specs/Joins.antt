@@ -1,5 +1,5 @@
 -- What a part's log becomes in the log of the whole.
-use Rattle.std.specs.Prelude.{◌≡◌, ℕ, ◌+◌, ◌<◌, List, ◌∷◌, ◌++◌, [], length, map, take}
+use Rattle.std.specs.Prelude.{◌≡◌, ℕ, ◌+◌, ◌<◌, ◌≤◌, ◌^◌, List, ◌∷◌, ◌++◌, [], length, map, take}
 use Rattle.std.specs.List.{All, flat_map}
 use Rattle.recode_log.specs.Call.{Call, Failed, Flush, Passed, failed_read}
 use Rattle.recode_log.specs.Counted.{CountsWrites, failures_of, history_of}
@@ -10,13 +10,6 @@ use Rattle.recode.specs.Devices.{Gave, GaveToEnd, Grew, reads_of}
 use Rattle.recode.specs.Parts.{moved_line}
 use Rattle.recode_places.specs.Logs.{CanBeLogged}
 
--- Some bytes are lines of a log, and others are these lines, moved by n bytes and m characters.
-pub record MovesLines (n m : ℕ) (bytes moved : List ℕ) : Type 0 where
-  pub lines : List LogLine
-  pub logged : All CanBeLogged lines
-  pub read : bytes ≡ flat_map line_bytes lines
-  pub written : moved ≡ flat_map line_bytes (map (moved_line n m) lines)
-
 -- Bytes can be moved by n bytes and m characters: they are lines of a log, and each is one after it is moved, too.
 pub record CanBeMoved (n m : ℕ) (bytes : List ℕ) : Type 0 where
   pub lines : List LogLine
@@ -24,12 +17,18 @@ pub record CanBeMoved (n m : ℕ) (bytes : List ℕ) : Type 0 where
   pub moved : All (λ l. IsValid (moved_line n m l)) lines
   pub read : bytes ≡ flat_map line_bytes lines
 
--- Calls of a reader gave a part's log to its end, and the log of the whole grew by its lines, moved by n bytes and m
--- characters.
+-- Some bytes are lines of a log, and others are these lines, moved by n bytes and m characters, which are lines of a log, too.
+pub record MovesLines (n m : ℕ) (bytes moved : List ℕ) : Type 0 where
+  pub from : CanBeMoved n m bytes
+  pub written : moved ≡ flat_map line_bytes (map (moved_line n m) from.lines)
+
+-- Calls of a reader gave a part's log to its end, of at most 2^55 bytes, and the log of the whole grew by its lines, moved
+-- by n bytes and m characters.
 pub record JoinsLog (n m : ℕ) (reads reads' : List (List ℕ)) (log log' : List ℕ) : Type 0 where
   pub part : List ℕ
   pub moved : List ℕ
   pub given : GaveToEnd reads reads' part
+  pub size : length part ≤ 2 ^ 55
   pub lines : MovesLines n m part moved
   pub wrote : Grew log log' moved
 

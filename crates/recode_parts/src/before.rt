@@ -17,8 +17,8 @@ pub struct Before {
 
 impl Before {
     /// A line of the part's log as a line of the log of the whole: its offset counts the bytes
-    /// before the part too, its index the characters. `None` if no line of a log can name that
-    /// offset or index (`LogLine::is_valid`).
+    /// before the part too, its index the characters. `None` if that is no
+    /// line of a log (`LogLine::is_valid`).
     pub fn line_in_whole(self, line: LogLine) -> Option<LogLine>
         ensures some { IfSome result (λ l. l ≡ moved_line self.bytes self.characters line) }
         ensures valid { IfSome result IsValid }

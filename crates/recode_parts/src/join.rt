@@ -16,7 +16,7 @@ use recode_places::laws::{lines_are_told_apart, lines_end_in_feeds};
 use std::io::{Read, Write};
 use thiserror::Error;
 
-/// The most bytes that are read of the log of a part, 2^55. No log of a run is longer
+/// The greatest length of a log that is joined, 2^55 bytes. No log of a run is longer
 /// (`laws::logs_of_parts_can_be_joined`).
 pub const GREATEST_LOG: u64 = 1 << 55;
 
@@ -39,10 +39,10 @@ pub enum JoinFault {
 /// end, and writes them to the second, with the bytes and the characters before the part added to
 /// their offsets and indexes. It holds 4 KiB of each, however long the log is.
 ///
-/// - `Ok`: what was read is a log, and exactly its lines were written.
-/// - `Err`: a prefix of the lines was written. The last call of the reader (`Read`) or of the
-///   writer (`Write`) failed, and no other. Or none failed, and what was read is of no log that can
-///   be moved, however the reader goes on, or has more than 2^55 bytes (`NotALog`).
+/// - `Ok`: what was read is a log, and exactly its lines were written, moved.
+/// - `Err`: a prefix of the bytes of moved lines was written. The last call of the reader (`Read`)
+///   or of the writer (`Write`) failed, and no other. Or none failed, and what was read is of no
+///   log that can be moved, however the reader goes on, or has more than 2^55 bytes (`NotALog`).
 ///
 /// A message of `recode`, as stands behind the lines of a conversion that ended early, is no line
 /// of a log. Each call of the reader is a read with room for some bytes, and each of the writer a

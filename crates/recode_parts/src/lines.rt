@@ -32,14 +32,11 @@ fn logged_line(bytes: &[u8]) -> Option<LogLine>
     ensures none { IfNone result ((line : LogLine) → CanBeLogged line
         → ¬ (line_bytes line ≡ bytes.now)) }
 {
-    match LogLine::parse(bytes) {
-        Some(line) => Some(line),
-        None => None,
-    }
+    LogLine::parse(bytes)
 }
 
-/// Moves whole lines from the start of `bytes` to the start of `dst`, as many as it has room for:
-/// at least one, if one ends there. `None` if one of them is no line of a log, or can't be moved.
+/// Moves whole lines from the start of `bytes` to the start of `dst`: at least one, if one ends
+/// there. `None` if one of them is no line of a log, or can't be moved.
 pub(crate) fn move_lines(bytes: &[u8], before: Before, dst: &mut [u8]) -> Option<Moved>
     requires { 32 ≤ length dst.old }
     ensures lines { IfSome result (λ m. MovesLines before.bytes before.characters

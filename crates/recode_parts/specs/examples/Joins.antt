@@ -15,15 +15,18 @@ use Rattle.recode_parts.specs.Joins.{CanBeMoved, IsReadOfSome, JoinCalls, JoinsF
 moves-two : MovesLines 10 3 (codes "bad 6 1\nlost 1 128169\n") (codes "bad 16 1\nlost 4 128169\n")
 unfolding digits
 moves-two = record {
-  lines = Bad 6 1 ∷ Lost 1 128169 ∷ [];
-  logged = All-cons CanBeLogged (Bad 6 1) (Lost 1 128169 ∷ []) ((omega arith, omega arith, omega arith), tt) (All-cons CanBeLogged (Lost 1 128169) [] (omega arith, refl) (All-nil CanBeLogged));
-  read = refl;
+  from = record {
+    lines = Bad 6 1 ∷ Lost 1 128169 ∷ [];
+    logged = All-cons CanBeLogged (Bad 6 1) (Lost 1 128169 ∷ []) ((omega arith, omega arith, omega arith), tt) (All-cons CanBeLogged (Lost 1 128169) [] (omega arith, refl) (All-nil CanBeLogged));
+    moved = All-cons (λ l. IsValid (moved_line 10 3 l)) (Bad 6 1) (Lost 1 128169 ∷ []) (omega arith, omega arith, omega arith) (All-cons (λ l. IsValid (moved_line 10 3 l)) (Lost 1 128169) [] (omega arith) (All-nil (λ l. IsValid (moved_line 10 3 l))));
+    read = refl;
+  };
   written = refl;
 }
 
 one-line : MovesLines 10 3 (codes "bad 6 1\n") (codes "bad 16 1\n")
 unfolding digits
-one-line = record { lines = Bad 6 1 ∷ []; logged = All-cons CanBeLogged (Bad 6 1) [] ((omega arith, omega arith, omega arith), tt) (All-nil CanBeLogged); read = refl; written = refl }
+one-line = record { from = record { lines = Bad 6 1 ∷ []; logged = All-cons CanBeLogged (Bad 6 1) [] ((omega arith, omega arith, omega arith), tt) (All-nil CanBeLogged); moved = All-cons (λ l. IsValid (moved_line 10 3 l)) (Bad 6 1) [] (omega arith, omega arith, omega arith) (All-nil (λ l. IsValid (moved_line 10 3 l))); read = refl }; written = refl }
 
 -- at the greatest offset that a line can name
 can_be_moved-greatest : CanBeMoved (2 ^ 48 - 6) 3 (codes "bad 6 1\n")
@@ -32,7 +35,7 @@ can_be_moved-greatest = record { lines = Bad 6 1 ∷ []; logged = All-cons CanBe
 
 -- a part's log that comes in two reads, then its end
 joins-one : JoinsLog 10 3 [] (codes "bad 6" ∷ codes " 1\n" ∷ [] ∷ []) (codes "bad 0 1\n") (codes "bad 0 1\nbad 16 1\n")
-joins-one = record { part = codes "bad 6 1\n"; moved = codes "bad 16 1\n"; given = (codes "bad 6" ∷ codes " 1\n" ∷ [], refl, refl); lines = one-line; wrote = refl }
+joins-one = record { part = codes "bad 6 1\n"; moved = codes "bad 16 1\n"; given = (codes "bad 6" ∷ codes " 1\n" ∷ [], refl, refl); size = omega arith; lines = one-line; wrote = refl }
 
 -- a writer that took six bytes of a line, and then failed
 joins-first : JoinsFirst 10 3 [] (codes "bad 6 1\nba" ∷ []) [] (codes "bad 16")

@@ -1,9 +1,12 @@
-use Rattle.std.proofs.Common.{◌-◌, ◌==◌, arith, drop, length, sym, take}
+use Rattle.std.proofs.Common.{◌-◌, ◌==◌, arith, drop, length, refl, sym, take}
 use Rattle.std.proofs.lemmas.List.{take_rest}
 use Rattle.std.proofs.lemmas.List.Quantifiers.{position-Some}
 use Rattle.recode_parts.proofs.LogLemmas.{no_line_behind, not_moved, said_at_none}
-use Rattle.recode_parts.proofs.MoveLemmas.{moves_next, put_within, text_size}
+use Rattle.recode_parts.proofs.MoveLemmas.{moves_next, moves_none, put_within, text_size}
 use Rattle.recode_parts.proofs.lines.move_lines.Goals as goal
+
+pub loop-dst-init : goal.loop-dst-init
+loop-dst-init c = record { read_within = omega arith; written_within = omega arith; none_yet = λ e. refl; moves = moves_none _ _ }
 
 pub loop-dst-preserved : goal.loop-dst-preserved
 loop-dst-preserved c =
@@ -17,7 +20,7 @@ loop-dst-preserved c =
           (text_size text part c.write_into-size.result _ c.in_ok-line.line c.write_into-size.ensures.line c.write_into-size.ensures.size c.copy_from_slice.ensures.after (omega arith));
       none_yet = λ e. absurd (omega (arith, e));
       moves = moves_next _ _ c.args.bytes.now c.loop-dst.dst text part c.loop-dst.read _ _ c.loop-dst.written _ c.write_into-size.result _ c.in_ok-logged_line.field-0 c.in_ok-line.line
-          i.moves c.in_ok-logged_line.ensures.logged c.in_ok-logged_line.ensures.line (omega arith) c.in_ok-line.ensures.some c.write_into-size.ensures.line c.write_into-size.ensures.size c.copy_from_slice.ensures.after (omega arith) i.written_within;
+          i.moves c.in_ok-logged_line.ensures.logged c.in_ok-logged_line.ensures.line (omega arith) c.in_ok-line.ensures.some c.in_ok-line.ensures.valid c.write_into-size.ensures.line c.write_into-size.ensures.size c.copy_from_slice.ensures.after (omega arith) i.written_within;
     }
 
 pub returns-in_err-logged_line-clause-none : goal.returns-in_err-logged_line-clause-none
