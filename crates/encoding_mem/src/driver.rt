@@ -214,6 +214,27 @@ fn decode_pieces<F: DecoderRule, S: Sink>(
     (DecoderResult::InputEmpty, src.len())
 }
 
+// `decode_pieces` as a call of its own. A sink that cannot be detached decodes by it: with that loop
+// twice in it, `decode_detached` would be too long to be inlined.
+#[inline(never)]
+fn decode_in_place<F: DecoderRule, S: Sink>(
+    codec: &mut F,
+    pending: &mut Pending,
+    src: &[u8],
+    sink: &mut S,
+    last: bool,
+) -> (DecoderResult, usize)
+    requires { pending.old ≡ [] }
+    ensures call { DriverCall (F.pieces codec.old) (F.pieces codec.new)
+        (F.needs codec.old) (F.needs codec.new) [] pending.new src.now last result.1
+        (λ text. S.writes sink.old text sink.new) S.is_units (S.free sink.old) (S.free sink.new)
+        S.room (S.cost 0xFFFD) (Some result.0) }
+    ensures limits { F.limits codec.new ≡ F.limits codec.old }
+    ensures waits { Remains (F.pieces codec.new) pending.new }
+{
+    decode_pieces(codec, pending, src, sink, last)
+}
+
 /// Decodes a source with nothing pending (`decode_pieces`), for speed by a sink that this call
 /// owns, if it can be detached (`Sink::detach`).
 #[inline(always)]
@@ -238,6 +259,6 @@ pub(crate) fn decode_detached<F: DecoderRule, S: Sink>(
             *sink = own;
             ended
         }
-        None => decode_pieces(codec, pending, src, sink, last),
+        None => decode_in_place(codec, pending, src, sink, last),
     }
 }
