@@ -220,10 +220,16 @@ def encoding_variants():
     return ["    %s," % name for name in VARIANTS]
 
 
-def encoding_at_number():
-    lines = ["// All encodings, in the order of `encoding_labels::places`."]
-    lines += array("ENCODINGS", "Encoding", ["Encoding::" + name for name in VARIANTS])
-    return lines
+def all_encodings_in_code():
+    lines = ["/// All encodings, in the order of their numbers (`encoding as usize`)."]
+    lines += array("ALL", "Encoding", ["Encoding::" + name for name in VARIANTS], "pub ")
+    return ["    " + line for line in lines]
+
+
+def all_kinds_in_code():
+    lines = ["/// All kinds, as they are listed above."]
+    lines += array("ALL", "IndexKind", ["IndexKind::" + kind for kind in KINDS], "pub ")
+    return ["    " + line for line in lines]
 
 
 def constants():
@@ -332,11 +338,9 @@ def array(name, element, elements, visible=""):
 
 
 def lists_of_files():
-    names = [constant(row["name"]) for row in STANDARD]
     lines = [
-        "//! The indexes and the encodings, and what is printed of each index.",
+        "//! The indexes, and what is printed of each.",
         "",
-        *imports("encoding_front", ["Encoding", *names]),
         "use encoding_tables::IndexKind;",
         "",
         "// The pointers that are printed of each kind.",
@@ -345,23 +349,7 @@ def lists_of_files():
     for row in INDEXES:
         items = ["IndexKind::" + variant(row["name"]), "&[%s]" % ", ".join(map(str, row["pointers"]))]
         lines += inner("(", items, "),", "    ")
-    lines += ["];", "", "// In the order of the Encoding Standard, section 4.2."]
-    return lines + array("ENCODINGS", "Encoding", names, "pub(crate) ")
-
-
-def lists_for_c():
-    lines = [
-        "//! The encodings, in the order of their numbers, and the kinds of index.",
-        "",
-        "use encoding_front::Encoding;",
-        "use encoding_tables::IndexKind;",
-        "",
-        "/// The encodings.",
-    ]
-    encodings = ["Encoding::" + variant(row["name"]) for row in ENCODINGS]
-    kinds = ["IndexKind::" + kind for kind in KINDS]
-    lines += array("ENCODINGS", "Encoding", encodings, "pub(crate) ") + ["", "/// The kinds of index."]
-    return lines + array("KINDS", "IndexKind", kinds, "pub(crate) ")
+    return lines + ["];"]
 
 
 def empty_conversions():
@@ -419,20 +407,19 @@ WHOLE = {
     "encoding_front/src/constants.rt": constants,
     "encoding_front/specs/examples/Constants.antt": worked_constants,
     "test_index_files/src/lists.rt": lists_of_files,
-    "jillapun_c/src/lists.rt": lists_for_c,
     "recode/src/listing.rt": listing,
     "test_recode_cases/data/nothing.txt": empty_conversions,
     "../python/jillapun/_labels.py": labels_for_python,
 }
 PARTS = {
     "encoding_labels/specs/Labels.antt": [constants_of_places, places_rise],
-    "encoding_tables/src/index_kind.rt": [kind_variants, kind_files, kind_slot],
+    "encoding_tables/src/index_kind.rt": [kind_variants, all_kinds_in_code, kind_files, kind_slot],
     "encoding_tables/src/tables.rt": [flats, no_flats],
     "encoding_tables/specs/calls/Slots.antt": [variants_of_kinds, kind_slots],
     "encoding_tables/specs/FileNames.antt": [variants_of_kinds],
     "encoding_tables/specs/laws/Kinds.antt": [variants_of_kinds, all_kinds],
     "encoding_tables/specs/examples/Kinds.antt": [variants_of_kinds, kinds_of_examples],
-    "encoding_front/src/encoding.rt": [encoding_variants, encoding_at_number],
+    "encoding_front/src/encoding.rt": [encoding_variants, all_encodings_in_code],
     "encoding_front/src/lib.rt": [front_constants],
     "encoding_front/src/codec_kind.rt": [rows],
     "encoding_front/specs/EncodingTable.antt": [variants_of_encodings, all_encodings],

@@ -17,6 +17,7 @@ indexes; and what it writes for each character, and how that is read again. The 
 
 import itertools
 import multiprocessing
+import re
 import sys
 
 sys.dont_write_bytecode = True
@@ -142,6 +143,11 @@ def part(task):
     return reads(encoding) if is_all is None else writes(encoding, encodings[encoding.output], is_all)
 
 
+def natural(name):
+    """A key by which names stand in the order of the alphabet, and numbers in them by their value."""
+    return [int(part) if part.isdigit() else part for part in re.split("([0-9]+)", name.upper())]
+
+
 def lines(folder, is_all):
     """The lines that are printed. GBK reads what gb18030 does (10.1.1)."""
     readers = [name for name in standard.CODECS if name != "GBK"]
@@ -149,7 +155,7 @@ def lines(folder, is_all):
     tasks = [(folder, name, None) for name in slow_first] + [(folder, name, is_all) for name in standard.CODECS]
     with multiprocessing.Pool() as pool:
         told = dict(zip(tasks, pool.map(part, tasks, 1)))
-    for name in standard.CODECS:
+    for name in sorted(standard.CODECS, key=natural):
         reader = "gb18030" if name == "GBK" else name
         yield f"{name} reads: {told[folder, reader, None]}"
         yield f"{name} writes: {told[folder, name, is_all]}"

@@ -68,53 +68,53 @@ pub enum Encoding {
     // end
 }
 
-// Written by tools/generate_encodings.py from tools/encodings.toml; do not edit.
-// All encodings, in the order of `encoding_labels::places`.
-const ENCODINGS: [Encoding; 40] = [
-    Encoding::Big5,
-    Encoding::EucJp,
-    Encoding::EucKr,
-    Encoding::Gb18030,
-    Encoding::Gbk,
-    Encoding::Ibm866,
-    Encoding::Iso2022Jp,
-    Encoding::Iso8859_2,
-    Encoding::Iso8859_3,
-    Encoding::Iso8859_4,
-    Encoding::Iso8859_5,
-    Encoding::Iso8859_6,
-    Encoding::Iso8859_7,
-    Encoding::Iso8859_8,
-    Encoding::Iso8859_8I,
-    Encoding::Iso8859_10,
-    Encoding::Iso8859_13,
-    Encoding::Iso8859_14,
-    Encoding::Iso8859_15,
-    Encoding::Iso8859_16,
-    Encoding::Koi8R,
-    Encoding::Koi8U,
-    Encoding::Macintosh,
-    Encoding::Replacement,
-    Encoding::ShiftJis,
-    Encoding::Utf8,
-    Encoding::Utf16Be,
-    Encoding::Utf16Le,
-    Encoding::Windows874,
-    Encoding::Windows1250,
-    Encoding::Windows1251,
-    Encoding::Windows1252,
-    Encoding::Windows1253,
-    Encoding::Windows1254,
-    Encoding::Windows1255,
-    Encoding::Windows1256,
-    Encoding::Windows1257,
-    Encoding::Windows1258,
-    Encoding::XMacCyrillic,
-    Encoding::XUserDefined,
-];
-// end
-
 impl Encoding {
+    // Written by tools/generate_encodings.py from tools/encodings.toml; do not edit.
+    /// All encodings, in the order of their numbers (`encoding as usize`).
+    pub const ALL: [Encoding; 40] = [
+        Encoding::Big5,
+        Encoding::EucJp,
+        Encoding::EucKr,
+        Encoding::Gb18030,
+        Encoding::Gbk,
+        Encoding::Ibm866,
+        Encoding::Iso2022Jp,
+        Encoding::Iso8859_2,
+        Encoding::Iso8859_3,
+        Encoding::Iso8859_4,
+        Encoding::Iso8859_5,
+        Encoding::Iso8859_6,
+        Encoding::Iso8859_7,
+        Encoding::Iso8859_8,
+        Encoding::Iso8859_8I,
+        Encoding::Iso8859_10,
+        Encoding::Iso8859_13,
+        Encoding::Iso8859_14,
+        Encoding::Iso8859_15,
+        Encoding::Iso8859_16,
+        Encoding::Koi8R,
+        Encoding::Koi8U,
+        Encoding::Macintosh,
+        Encoding::Replacement,
+        Encoding::ShiftJis,
+        Encoding::Utf8,
+        Encoding::Utf16Be,
+        Encoding::Utf16Le,
+        Encoding::Windows874,
+        Encoding::Windows1250,
+        Encoding::Windows1251,
+        Encoding::Windows1252,
+        Encoding::Windows1253,
+        Encoding::Windows1254,
+        Encoding::Windows1255,
+        Encoding::Windows1256,
+        Encoding::Windows1257,
+        Encoding::Windows1258,
+        Encoding::XMacCyrillic,
+        Encoding::XUserDefined,
+    ];
+    // end
+
     /// The encoding that has this label, or `None` if no encoding has it ("get an encoding" of the
     /// Encoding Standard, section 4.2). White space at both ends (the bytes 09, 0A, 0C, 0D and 20)
     /// and the case of ASCII letters do not matter.
@@ -288,5 +288,5 @@ fn at_number(number: usize) -> Encoding
     requires { number < ENCODING_COUNT }
     ensures { number_of result ≡ number }
 {
-    ENCODINGS[number]
+    Encoding::ALL[number]
 }

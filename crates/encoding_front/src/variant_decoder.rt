@@ -7,17 +7,7 @@ ghost use Rattle.encoding_front.specs.Encodings.{IsReady, pieces_of};
 ghost use Rattle.encoding_front.specs.calls.CodecBounds.{decoded_length_of};
 ghost use Rattle.encoding_front.specs.calls.Latin1Prefix.{TellsLatin1, latin1_rule};
 ghost use Rattle.encoding_front.specs.calls.Seeking.{encoding_of_mark, pieces_after_mark};
-ghost use Rattle.encoding_front.specs.declared.variant_decoder.VariantDecoder.TheVariants.{Utf8};
-ghost use Rattle.encoding_front.specs.declared.variant_decoder.VariantDecoder.TheVariants.{SingleByte};
-ghost use Rattle.encoding_front.specs.declared.variant_decoder.VariantDecoder.TheVariants.{Big5};
-ghost use Rattle.encoding_front.specs.declared.variant_decoder.VariantDecoder.TheVariants.{EucKr};
-ghost use Rattle.encoding_front.specs.declared.variant_decoder.VariantDecoder.TheVariants.{EucJp};
-ghost use Rattle.encoding_front.specs.declared.variant_decoder.VariantDecoder.TheVariants.{ShiftJis};
-ghost use Rattle.encoding_front.specs.declared.variant_decoder.VariantDecoder.TheVariants.{Gb18030};
-ghost use Rattle.encoding_front.specs.declared.variant_decoder.VariantDecoder.TheVariants.{Iso2022Jp};
-ghost use Rattle.encoding_front.specs.declared.variant_decoder.VariantDecoder.TheVariants.{UserDefined};
-ghost use Rattle.encoding_front.specs.declared.variant_decoder.VariantDecoder.TheVariants.{Utf16};
-ghost use Rattle.encoding_front.specs.declared.variant_decoder.VariantDecoder.TheVariants.{Replacement};
+ghost use Rattle.encoding_front.specs.declared.variant_decoder.VariantDecoder.TheVariants as variant;
 
 use crate::codec_kind::CodecKind;
 use crate::encoding::Encoding;
@@ -197,17 +187,17 @@ impl<'t> VariantDecoder<'t> {
 
 impl<'t> SinkDecoder for VariantDecoder<'t> {
     ghost state = { elim [
-      | Utf8 d ↦ ⟦<Utf8Decoder as SinkDecoder>⟧.state d
-      | SingleByte d ↦ ⟦<SingleByteDecoder<'t> as SinkDecoder>⟧.state d
-      | Big5 d ↦ ⟦<Big5Decoder<'t> as SinkDecoder>⟧.state d
-      | EucKr d ↦ ⟦<EucKrDecoder<'t> as SinkDecoder>⟧.state d
-      | EucJp d ↦ ⟦<EucJpDecoder<'t> as SinkDecoder>⟧.state d
-      | ShiftJis d ↦ ⟦<ShiftJisDecoder<'t> as SinkDecoder>⟧.state d
-      | Gb18030 d ↦ ⟦<Gb18030Decoder<'t> as SinkDecoder>⟧.state d
-      | Iso2022Jp d ↦ ⟦<Iso2022JpDecoder<'t> as SinkDecoder>⟧.state d
-      | UserDefined d ↦ ⟦<UserDefinedDecoder as SinkDecoder>⟧.state d
-      | Utf16 d ↦ ⟦<Utf16Decoder as SinkDecoder>⟧.state d
-      | Replacement d ↦ ⟦<ReplacementDecoder as SinkDecoder>⟧.state d
+      | variant.Utf8 d ↦ ⟦<Utf8Decoder as SinkDecoder>⟧.state d
+      | variant.SingleByte d ↦ ⟦<SingleByteDecoder<'t> as SinkDecoder>⟧.state d
+      | variant.Big5 d ↦ ⟦<Big5Decoder<'t> as SinkDecoder>⟧.state d
+      | variant.EucKr d ↦ ⟦<EucKrDecoder<'t> as SinkDecoder>⟧.state d
+      | variant.EucJp d ↦ ⟦<EucJpDecoder<'t> as SinkDecoder>⟧.state d
+      | variant.ShiftJis d ↦ ⟦<ShiftJisDecoder<'t> as SinkDecoder>⟧.state d
+      | variant.Gb18030 d ↦ ⟦<Gb18030Decoder<'t> as SinkDecoder>⟧.state d
+      | variant.Iso2022Jp d ↦ ⟦<Iso2022JpDecoder<'t> as SinkDecoder>⟧.state d
+      | variant.UserDefined d ↦ ⟦<UserDefinedDecoder as SinkDecoder>⟧.state d
+      | variant.Utf16 d ↦ ⟦<Utf16Decoder as SinkDecoder>⟧.state d
+      | variant.Replacement d ↦ ⟦<ReplacementDecoder as SinkDecoder>⟧.state d
     ] };
 
     fn decode_into<S: Sink>(

@@ -12,15 +12,7 @@ ghost use Rattle.encoding_codecs.specs.laws.Gb18030Coding.{gb18030_laws};
 ghost use Rattle.encoding_codecs.specs.laws.Iso2022JpForms.{iso_2022_jp_laws};
 ghost use Rattle.encoding_front.specs.Encodings.{IsReady, coding_of, output_encoding_of};
 ghost use Rattle.encoding_front.specs.calls.CodecBounds.{need_of, encoded_length_of};
-ghost use Rattle.encoding_front.specs.declared.variant_encoder.VariantEncoder.TheVariants.{Utf8};
-ghost use Rattle.encoding_front.specs.declared.variant_encoder.VariantEncoder.TheVariants.{SingleByte};
-ghost use Rattle.encoding_front.specs.declared.variant_encoder.VariantEncoder.TheVariants.{Big5};
-ghost use Rattle.encoding_front.specs.declared.variant_encoder.VariantEncoder.TheVariants.{EucKr};
-ghost use Rattle.encoding_front.specs.declared.variant_encoder.VariantEncoder.TheVariants.{EucJp};
-ghost use Rattle.encoding_front.specs.declared.variant_encoder.VariantEncoder.TheVariants.{ShiftJis};
-ghost use Rattle.encoding_front.specs.declared.variant_encoder.VariantEncoder.TheVariants.{Gb18030};
-ghost use Rattle.encoding_front.specs.declared.variant_encoder.VariantEncoder.TheVariants.{Iso2022Jp};
-ghost use Rattle.encoding_front.specs.declared.variant_encoder.VariantEncoder.TheVariants.{UserDefined};
+ghost use Rattle.encoding_front.specs.declared.variant_encoder.VariantEncoder.TheVariants as variant;
 
 use crate::codec_kind::CodecKind;
 use crate::encoding::Encoding;
@@ -108,27 +100,27 @@ macro_rules! dispatch {
 
 impl<'t> SourceEncoder for VariantEncoder<'t> {
     ghost parts = { elim [
-      | Utf8 e ↦ ⟦<Utf8Encoder as SourceEncoder>⟧.parts e
-      | SingleByte e ↦ ⟦<SingleByteEncoder<'t> as SourceEncoder>⟧.parts e
-      | Big5 e ↦ ⟦<Big5Encoder<'t> as SourceEncoder>⟧.parts e
-      | EucKr e ↦ ⟦<EucKrEncoder<'t> as SourceEncoder>⟧.parts e
-      | EucJp e ↦ ⟦<EucJpEncoder<'t> as SourceEncoder>⟧.parts e
-      | ShiftJis e ↦ ⟦<ShiftJisEncoder<'t> as SourceEncoder>⟧.parts e
-      | Gb18030 e ↦ ⟦<Gb18030Encoder<'t> as SourceEncoder>⟧.parts e
-      | Iso2022Jp e ↦ ⟦<Iso2022JpEncoder<'t> as SourceEncoder>⟧.parts e
-      | UserDefined e ↦ ⟦<UserDefinedEncoder as SourceEncoder>⟧.parts e
+      | variant.Utf8 e ↦ ⟦<Utf8Encoder as SourceEncoder>⟧.parts e
+      | variant.SingleByte e ↦ ⟦<SingleByteEncoder<'t> as SourceEncoder>⟧.parts e
+      | variant.Big5 e ↦ ⟦<Big5Encoder<'t> as SourceEncoder>⟧.parts e
+      | variant.EucKr e ↦ ⟦<EucKrEncoder<'t> as SourceEncoder>⟧.parts e
+      | variant.EucJp e ↦ ⟦<EucJpEncoder<'t> as SourceEncoder>⟧.parts e
+      | variant.ShiftJis e ↦ ⟦<ShiftJisEncoder<'t> as SourceEncoder>⟧.parts e
+      | variant.Gb18030 e ↦ ⟦<Gb18030Encoder<'t> as SourceEncoder>⟧.parts e
+      | variant.Iso2022Jp e ↦ ⟦<Iso2022JpEncoder<'t> as SourceEncoder>⟧.parts e
+      | variant.UserDefined e ↦ ⟦<UserDefinedEncoder as SourceEncoder>⟧.parts e
     ] };
 
     ghost laws = { elim [
-      | Utf8 e ↦ utf8_coding_laws
-      | SingleByte e ↦ single_byte_laws e.flat
-      | Big5 e ↦ big5_laws e.flat
-      | EucKr e ↦ euc_kr_laws e.flat
-      | EucJp e ↦ euc_jp_laws e.jis0208
-      | ShiftJis e ↦ shift_jis_laws e.jis0208
-      | Gb18030 e ↦ gb18030_laws e.index e.ranges e.extended_range
-      | Iso2022Jp e ↦ iso_2022_jp_laws e.jis0208 e.katakana
-      | UserDefined e ↦ user_defined_laws
+      | variant.Utf8 e ↦ utf8_coding_laws
+      | variant.SingleByte e ↦ single_byte_laws e.flat
+      | variant.Big5 e ↦ big5_laws e.flat
+      | variant.EucKr e ↦ euc_kr_laws e.flat
+      | variant.EucJp e ↦ euc_jp_laws e.jis0208
+      | variant.ShiftJis e ↦ shift_jis_laws e.jis0208
+      | variant.Gb18030 e ↦ gb18030_laws e.index e.ranges e.extended_range
+      | variant.Iso2022Jp e ↦ iso_2022_jp_laws e.jis0208 e.katakana
+      | variant.UserDefined e ↦ user_defined_laws
     ] };
 
     fn encode_from<S: Source>(

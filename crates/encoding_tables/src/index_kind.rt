@@ -49,6 +49,46 @@ pub enum IndexKind {
 }
 
 impl IndexKind {
+    // Written by tools/generate_encodings.py from tools/encodings.toml; do not edit.
+    /// All kinds, as they are listed above.
+    pub const ALL: [IndexKind; 34] = [
+        IndexKind::Ibm866,
+        IndexKind::Iso8859_2,
+        IndexKind::Iso8859_3,
+        IndexKind::Iso8859_4,
+        IndexKind::Iso8859_5,
+        IndexKind::Iso8859_6,
+        IndexKind::Iso8859_7,
+        IndexKind::Iso8859_8,
+        IndexKind::Iso8859_10,
+        IndexKind::Iso8859_13,
+        IndexKind::Iso8859_14,
+        IndexKind::Iso8859_15,
+        IndexKind::Iso8859_16,
+        IndexKind::Koi8R,
+        IndexKind::Koi8U,
+        IndexKind::Macintosh,
+        IndexKind::Windows874,
+        IndexKind::Windows1250,
+        IndexKind::Windows1251,
+        IndexKind::Windows1252,
+        IndexKind::Windows1253,
+        IndexKind::Windows1254,
+        IndexKind::Windows1255,
+        IndexKind::Windows1256,
+        IndexKind::Windows1257,
+        IndexKind::Windows1258,
+        IndexKind::XMacCyrillic,
+        IndexKind::Big5,
+        IndexKind::EucKr,
+        IndexKind::Gb18030,
+        IndexKind::Gb18030Ranges,
+        IndexKind::Jis0208,
+        IndexKind::Jis0212,
+        IndexKind::Iso2022JpKatakana,
+    ];
+    // end
+
     /// How many entries the list of this kind has: one more than its greatest pointer can be. It is
     /// 0 for the ranges, which have rows and no list.
     pub fn size(self) -> usize

@@ -26,7 +26,7 @@ use Rattle.encoding_tables.specs.declared.index_kind.IndexKind.TheVariants.{Ibm8
 use Rattle.jillapun_c.specs.IndexFiles.{AddsIndex, HoldFiles, IsFileFault, IsLoaded, IsRefusedAt}
 use Rattle.jillapun_c.specs.declared.index_files.FileFault.{FileFault}
 use Rattle.jillapun_c.specs.declared.index_files.IndexFile.{IndexFile}
-use Rattle.jillapun_c.specs.declared.lists.TheConstants.{KINDS}
+use Rattle.encoding_tables.specs.declared.index_kind.TheConstants.IndexKind.{ALL as KINDS}
 
 again : (kind : IndexKind) → get_or KINDS (slot_of kind) Ibm866 ≡ kind
 again Ibm866 = refl

@@ -4,7 +4,6 @@ ghost use Rattle.std.specs.Prelude.{◌≡◌, ◌<◌};
 ghost use Rattle.encoding_front.specs.EncodingTable.{number_of};
 ghost use Rattle.jillapun_c.specs.EncodingNumbers.{encoding_at, mark_at};
 
-use crate::lists::ENCODINGS;
 use crate::status::{KEEP, REMOVE, SNIFF};
 use encoding_front::{Encoding, Mark};
 
@@ -12,10 +11,10 @@ use encoding_front::{Encoding, Mark};
 pub(crate) fn encoding_of(number: u8) -> Option<Encoding>
     ensures { result ≡ encoding_at number }
 {
-    if number as usize >= ENCODINGS.len() {
+    if number as usize >= Encoding::ALL.len() {
         return None;
     }
-    Some(ENCODINGS[number as usize])
+    Some(Encoding::ALL[number as usize])
 }
 
 /// The number of an encoding.

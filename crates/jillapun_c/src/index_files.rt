@@ -6,7 +6,6 @@ ghost use Rattle.encoding_tables.specs.declared.index_kind.IndexKind.{IndexKind}
 ghost use Rattle.jillapun_c.specs.IndexFiles.{AddsIndex, HoldFiles, IsFileFault};
 ghost use Rattle.jillapun_c.specs.IndexFiles.{IsRefusedAt, told_of};
 
-use crate::lists::KINDS;
 use encoding_index::{LoadFault, load};
 use encoding_tables::{IndexKind, TableFault, Tables};
 use std::alloc::Global;
@@ -38,7 +37,7 @@ fn kind_of(name: &[u8]) -> Option<IndexKind>
     ensures { MatchOption result ((kind : IndexKind) → file_name_of kind ≢ name.now)
         (λ kind. file_name_of kind ≡ name.now) }
 {
-    for kind in KINDS {
+    for kind in IndexKind::ALL {
         if kind.file_name().as_bytes() == name {
             return Some(kind);
         }

@@ -17,7 +17,6 @@ mod encoding_number;
 mod handle;
 mod in_memory;
 mod index_files;
-mod lists;
 mod loose;
 mod losses;
 mod mem;

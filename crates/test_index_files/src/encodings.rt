@@ -1,9 +1,9 @@
 //! What each of the forty encodings reads, and how it is written, with the indexes of the files.
 
 use crate::characters::{Extent, print_characters};
-use crate::lists::ENCODINGS;
 use crate::streams::print_streams;
 use anyhow::ensure;
+use encoding_front::Encoding;
 use encoding_tables::Tables;
 
 // Prints what each encoding reads and what it writes.
@@ -12,7 +12,7 @@ pub(crate) fn print_encodings(
     tables: &Tables,
     extent: Extent,
 ) -> anyhow::Result<()> {
-    for encoding in ENCODINGS {
+    for encoding in Encoding::ALL {
         ensure!(encoding.is_ready(tables), "an index is not there");
         print_streams(rt, tables, encoding)?;
         ensure!(

@@ -1,15 +1,7 @@
-//! The indexes and the encodings, and what is printed of each index.
+//! The indexes, and what is printed of each.
 
 // Written by tools/generate_encodings.py from tools/encodings.toml; do not edit.
 
-use encoding_front::{
-    BIG5, EUC_JP, EUC_KR, Encoding, GB18030, GBK, IBM866, ISO_2022_JP, ISO_8859_2, ISO_8859_3,
-    ISO_8859_4, ISO_8859_5, ISO_8859_6, ISO_8859_7, ISO_8859_8, ISO_8859_8_I, ISO_8859_10,
-    ISO_8859_13, ISO_8859_14, ISO_8859_15, ISO_8859_16, KOI8_R, KOI8_U, MACINTOSH, REPLACEMENT,
-    SHIFT_JIS, UTF_8, UTF_16BE, UTF_16LE, WINDOWS_874, WINDOWS_1250, WINDOWS_1251, WINDOWS_1252,
-    WINDOWS_1253, WINDOWS_1254, WINDOWS_1255, WINDOWS_1256, WINDOWS_1257, WINDOWS_1258,
-    X_MAC_CYRILLIC, X_USER_DEFINED,
-};
 use encoding_tables::IndexKind;
 
 // The pointers that are printed of each kind.
@@ -51,48 +43,4 @@ pub(crate) const POINTERS: [(IndexKind, &[u32]); 34] = [
     (IndexKind::Jis0208, &[0, 422, 1410, 7807, 8836, 10716]),
     (IndexKind::Jis0212, &[108, 1410, 7210]),
     (IndexKind::Iso2022JpKatakana, &[0, 16, 62]),
-];
-
-// In the order of the Encoding Standard, section 4.2.
-pub(crate) const ENCODINGS: [Encoding; 40] = [
-    UTF_8,
-    IBM866,
-    ISO_8859_2,
-    ISO_8859_3,
-    ISO_8859_4,
-    ISO_8859_5,
-    ISO_8859_6,
-    ISO_8859_7,
-    ISO_8859_8,
-    ISO_8859_8_I,
-    ISO_8859_10,
-    ISO_8859_13,
-    ISO_8859_14,
-    ISO_8859_15,
-    ISO_8859_16,
-    KOI8_R,
-    KOI8_U,
-    MACINTOSH,
-    WINDOWS_874,
-    WINDOWS_1250,
-    WINDOWS_1251,
-    WINDOWS_1252,
-    WINDOWS_1253,
-    WINDOWS_1254,
-    WINDOWS_1255,
-    WINDOWS_1256,
-    WINDOWS_1257,
-    WINDOWS_1258,
-    X_MAC_CYRILLIC,
-    GBK,
-    GB18030,
-    BIG5,
-    EUC_JP,
-    ISO_2022_JP,
-    SHIFT_JIS,
-    EUC_KR,
-    REPLACEMENT,
-    UTF_16BE,
-    UTF_16LE,
-    X_USER_DEFINED,
 ];
