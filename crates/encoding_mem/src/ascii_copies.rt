@@ -20,13 +20,7 @@ pub fn copy_ascii_to_ascii(src: &[u8], dst: &mut [u8]) -> usize
     ensures copied { take result dst.new ≡ take result src.now }
     ensures behind { drop result dst.new ≡ drop result dst.old }
 {
-    let mut at = 0;
-    'wide: while src.len() - at >= BYTE_BLOCK {
-        if !copy_block(&src[at..], &mut dst[at..]) {
-            break;
-        }
-        at += BYTE_BLOCK;
-    }
+    let mut at = copy_blocks(src, dst);
     'vectors: while is_long_run(&src[at..]) {
         dst[at..at + BYTE_LANES].copy_from_slice(&src[at..at + BYTE_LANES]);
         at += BYTE_LANES;
@@ -142,6 +136,26 @@ fn copy_block(bytes: &[u8], dst: &mut [u8]) -> bool
     true
 }
 
+// Copies the blocks at the start of `src` that are ASCII as a whole to the start of `dst`, and
+// returns how many bytes they have. Nothing after them changes.
+#[inline(always)]
+fn copy_blocks(src: &[u8], dst: &mut [u8]) -> usize
+    requires { length src.now ≤ length dst.old }
+    ensures within { result ≤ length src.now }
+    ensures low { (k : ℕ) → k < result → slice_index src.now k < 0x80 }
+    ensures copied { take result dst.new ≡ take result src.now }
+    ensures behind { drop result dst.new ≡ drop result dst.old }
+{
+    let mut at = 0;
+    'wide: while src.len() - at >= BYTE_BLOCK {
+        if !copy_block(&src[at..], &mut dst[at..]) {
+            break;
+        }
+        at += BYTE_BLOCK;
+    }
+    at
+}
+
 // Copies a vector of bytes to the start of `dst`, and returns how many at its start are ASCII: no
 // branch asks how many they are.
 #[inline(always)]
@@ -171,13 +185,7 @@ pub(crate) fn copy_ascii_run(src: &[u8], dst: &mut [u8]) -> usize
     ensures copied { take result dst.new ≡ take result src.now }
     ensures behind { drop (length src.now) dst.new ≡ drop (length src.now) dst.old }
 {
-    let mut at = 0;
-    'wide: while src.len() - at >= BYTE_BLOCK {
-        if !copy_block(&src[at..], &mut dst[at..]) {
-            break;
-        }
-        at += BYTE_BLOCK;
-    }
+    let mut at = copy_blocks(src, dst);
     'lanes: while src.len() - at >= BYTE_LANES {
         let run = copy_lanes(&src[at..], &mut dst[at..]);
         at += run;

@@ -1,12 +1,18 @@
-use Rattle.std.proofs.Common.{arith}
-use Rattle.encoding_mem.proofs.UnitCopyLemmas.{copied_over}
+use Rattle.std.proofs.Common.{length, arith}
+use Rattle.encoding_mem.proofs.UnitCopyLemmas.{copied_over, further}
 use Rattle.encoding_mem.proofs.ascii_copies.copy_ascii_run.Goals as goal
 
-pub wide-preserved : goal.wide-preserved
-wide-preserved c =
-    let e = c.copy_block.ensures in
-    copied_over c.args.src.now c.args.dst.now c.wide.at c.wide.dst c.copy_block.new.dst 64 64 c.wide.invariant c.requires (omega (arith, c.wide-test.true, c.wide.invariant.within)) (omega arith)
-    c.copy_block.auto.dst (e.low c.if-not-copy_block.false) (e.copied c.if-not-copy_block.false) e.behind
+pub lanes-init : goal.lanes-init
+lanes-init c =
+    let e = c.copy_blocks-at.ensures in
+    let blocks = c.copy_blocks-at.new.dst in
+    record {
+      within = e.within;
+      size = c.copy_blocks-at.auto.dst;
+      low = e.low;
+      copied = e.copied;
+      behind = further blocks c.args.dst.now c.copy_blocks-at.result (length c.args.src.now) e.within e.behind;
+    }
 
 pub returns-then-run-lt-BYTE_LANES-clause-low : goal.returns-then-run-lt-BYTE_LANES-clause-low
 returns-then-run-lt-BYTE_LANES-clause-low c =
