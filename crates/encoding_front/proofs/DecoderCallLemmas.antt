@@ -171,8 +171,10 @@ takes_settled P M N A B outcome src left last p q s n read W m b is h k = record
       ∙ ap (λ x. (h.taken ++ k.taken) ++ x) (ap A more ∙ sym (b (drop (n + read) src ++ r)));
 }
 
-pub ends_settled : (s t : DecoderState) (left unread : List ℕ) (last : Bool) (free room mark : ℕ) (outcome : DecoderResult) → ((x : List ℕ) → t.pieces x ≡ s.pieces x) → t.pending ≡ s.pending → left ≡ unread → EndsWith s left last free room mark outcome → EndsWith t unread last free room mark outcome
-ends_settled s t left unread last free room mark InputEmpty same e is h = (
+-- with the same room, by whatever names
+pub ends_settled : (s t : DecoderState) (left unread : List ℕ) (last : Bool) (free room room' replacement replacement' : ℕ) (outcome : DecoderResult) → ((x : List ℕ) → t.pieces x ≡ s.pieces x) → t.pending ≡ s.pending → left ≡ unread → room' ≡ room → replacement' ≡ replacement
+    → EndsWith s left last free room replacement outcome → EndsWith t unread last free room' replacement' outcome
+ends_settled s t left unread last free room room' replacement replacement' InputEmpty same e is a b h = (
   sym is ∙ h.0,
   elim h.1 [
     | inl none ↦ inl (e ∙ none.0, same [] ∙ none.1)
@@ -191,8 +193,8 @@ ends_settled s t left unread last free room mark InputEmpty same e is h = (
     )
   ],
 )
-ends_settled s t left unread last free room mark OutputFull same e is h = (h.0, (h.1.0, (λ r f. ap head_piece (same (unread ++ r)) ∙ ap (λ x. head_piece (s.pieces (x ++ r))) (sym is) ∙ h.1.1 r f), h.1.2))
-ends_settled s t left unread last free room mark (Malformed a b) same e is h = h
+ends_settled s t left unread last free room room' replacement replacement' OutputFull same e is a b h = (omega (arith, h.0, a), (h.1.0, (λ r f. ap head_piece (same (unread ++ r)) ∙ ap (λ x. head_piece (s.pieces (x ++ r))) (sym is) ∙ h.1.1 r f), h.1.2))
+ends_settled s t left unread last free room room' replacement replacement' (Malformed m n) same e is a b h = omega (arith, h, b)
 
 -- W is what is needed before the mark is looked for, and X and B are N and A by another name
 pub suffices_settled : (W X N A B : OutputUnit → ℕ → ℕ) (t last : Bool) (size left n read old new : ℕ) (outcome : DecoderResult) → ((k : OutputUnit) (m : ℕ) → X k m ≡ N k m) → ((k : OutputUnit) (m : ℕ) → B k m ≡ A k m)

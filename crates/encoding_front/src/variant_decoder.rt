@@ -1,7 +1,7 @@
 //! The decoder of any encoding, without mark handling: one of the decoders of all codecs.
 
 ghost use Rattle.std.specs.Prelude.{◌≡◌, ◌+◌, ◌<◌, ◌≤◌, length};
-ghost use Rattle.encoding_mem.specs.calls.Decoding.{StateCall};
+ghost use Rattle.encoding_mem.specs.calls.Decoding.{StateCall, sink_room};
 ghost use Rattle.encoding_front.specs.calls.BomDecoderState.{held_state};
 ghost use Rattle.encoding_front.specs.Encodings.{IsReady, pieces_of};
 ghost use Rattle.encoding_front.specs.calls.CodecBounds.{decoded_length_of};
@@ -122,8 +122,8 @@ impl<'t> VariantDecoder<'t> {
     // The call `decode_into`. The rule stays as it is.
     fn decode_on<S: Sink>(&mut self, src: &[u8], sink: &mut S, last: bool) -> (DecoderResult, usize)
         ensures call { StateCall (state_of self.old) (state_of self.new) src.now last result.1
-            (λ text. S.writes sink.old text sink.new) S.is_units (S.free sink.old) (S.free sink.new)
-            S.room (S.cost 0xFFFD) result.0 }
+            (λ text. S.writes sink.old text sink.new)
+            (sink_room S.is_units S.free sink.old sink.new) result.0 }
         ensures rule { rule_of self.new ≡ rule_of self.old }
     {
         dispatch!(self, decoder => decoder.decode_into(src, sink, last))
@@ -140,8 +140,8 @@ impl<'t> VariantDecoder<'t> {
         requires { 0 < length held.old → (state_of self.old).pending + length held.old ≤ 2 }
         ensures call { StateCall (held_state (state_of self.old) held.old)
             (held_state (state_of self.new) held.new) src.now last result.1
-            (λ text. S.writes sink.old text sink.new) S.is_units (S.free sink.old) (S.free sink.new)
-            S.room (S.cost 0xFFFD) result.0 }
+            (λ text. S.writes sink.old text sink.new)
+            (sink_room S.is_units S.free sink.old sink.new) result.0 }
         ensures rule { rule_of self.new ≡ rule_of self.old }
         ensures few { 0 < length held.new → (state_of self.new).pending + length held.new ≤ 2 }
     {

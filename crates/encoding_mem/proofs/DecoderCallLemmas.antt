@@ -2,20 +2,20 @@
 use Rattle.std.proofs.Common.{◌≡◌, ◌≢◌, ℕ, ◌+◌, ◌<◌, ◌≤◌, inl, inr, Bool, List, [], ◌++◌, length, refl, subst, sym, ◌∙◌, ap, arith, ◌-◌, true, false, IsTrue, None, Some, ◌∷◌, take, drop, get_or, append_assoc, length-append, length-drop}
 use Rattle.std.proofs.lemmas.List.{append-nil, drop-drop, drop_all, drop_more, take_rest}
 use Rattle.encoding_mem.specs.Piece.{Piece, head_piece, sizes, ArePieces, malformed, piece_len, piece_scalars, scalars, AreWellFormed}
-use Rattle.encoding_mem.specs.calls.Decoding.{DecoderState, EndsWith, Reports, StateCall, Suffices, Takes}
-use Rattle.encoding_mem.specs.calls.DecodedLength.{is_units, left_after, decoded_length}
+use Rattle.encoding_mem.specs.calls.Decoding.{DecoderState, EndsWith, Reports, Room, StateCall, Suffices, Takes}
+use Rattle.encoding_mem.specs.calls.DecodedLength.{is_units, left_after, decoded_length, replacement_len, two_in}
 use Rattle.encoding_mem.specs.declared.room.OutputUnit.{OutputUnit}
 use Rattle.encoding_mem.specs.declared.room.DecodedLength.{DecodedLength}
-use Rattle.encoding_mem.specs.calls.Driver.{DriverCall, DriverEndsWith, IsNear, Remains, buffered}
+use Rattle.encoding_mem.specs.calls.Driver.{DriverCall, DriverEndsWith, DriverState, IsNear, Remains, buffered, needs_to_come, to_come}
 use Rattle.encoding_mem.specs.declared.decoder_result.DecoderResult.{DecoderResult}
 use Rattle.encoding_mem.specs.declared.decoder_result.DecoderResult.TheVariants.{InputEmpty, OutputFull, Malformed}
 use Rattle.encoding_mem.specs.laws.Piece.{sizes-append, scalars-append, AreWellFormed-append}
 use Rattle.encoding_mem.specs.calls.DecoderRule.{IsFirstPiece, IsSoon}
 use Rattle.encoding_mem.specs.Decided.{IsUndecided}
 
-ends_with : (P : List ℕ → List Piece) (pending unread : List ℕ) (last : Bool) (free room mark : ℕ) (whole : (x : List ℕ) → sizes (P x) ≡ length x) (are_pieces : (x : List ℕ) → ArePieces (P x)) (needs : OutputUnit → ℕ → ℕ) (limits : DecodedLength) (covers : (k : OutputUnit) (n : ℕ) → needs k n ≤ decoded_length limits k n) (outcome : DecoderResult) → P [] ≡ [] → DriverEndsWith P pending unread last free room mark outcome
-    → EndsWith (buffered P whole are_pieces needs limits covers pending) unread last free room mark outcome
-ends_with P pending unread last free room mark whole are_pieces needs limits covers InputEmpty e h = (
+ends_with : (P : List ℕ → List Piece) (pending unread : List ℕ) (last : Bool) (room : Room) (whole : (x : List ℕ) → sizes (P x) ≡ length x) (are_pieces : (x : List ℕ) → ArePieces (P x)) (needs : OutputUnit → ℕ → ℕ) (limits : DecodedLength) (covers : (k : OutputUnit) (n : ℕ) → needs k n ≤ decoded_length limits k n) (outcome : DecoderResult) → P [] ≡ [] → DriverEndsWith (record { pieces = P; needs = needs; pending = pending }) unread last room outcome
+    → EndsWith (buffered P whole are_pieces needs limits covers pending) unread last room.after (two_in room.in_units) (replacement_len room.in_units) outcome
+ends_with P pending unread last room whole are_pieces needs limits covers InputEmpty e h = (
   h.0,
   elim h.1 [
     | inl none ↦ inl (ap length none, ap (λ x. P (x ++ [])) none ∙ e)
@@ -34,8 +34,8 @@ ends_with P pending unread last free room mark whole are_pieces needs limits cov
     )
   ],
 )
-ends_with P pending unread last free room mark whole are_pieces needs limits covers OutputFull e h = h
-ends_with P pending unread last free room mark whole are_pieces needs limits covers (Malformed a b) e h = h
+ends_with P pending unread last room whole are_pieces needs limits covers OutputFull e h = h
+ends_with P pending unread last room whole are_pieces needs limits covers (Malformed a b) e h = h
 
 -- enough room is not refused
 pub never_full : (before after : DecoderState) (k : OutputUnit) (last : Bool) (size unread old new : ℕ) (outcome : DecoderResult) → Suffices before.needs after.needs (is_units k) last size unread old new outcome → decoded_length before.room k (before.pending + size) ≤ old → outcome ≢ OutputFull
@@ -59,9 +59,9 @@ has_room before want n len m free last t k is fits window whole wants h =
     let there : want (is_units k) ≤ before k m = subst (λ (x : ℕ). want (is_units k) ≤ before k x) same (wants (m - n) (λ e. omega (arith, same, whole e))) in
     subst (λ (b : Bool). want b ≤ free) is (omega (arith, there, h))
 
-pub mark_first : (t : Bool) (mark more room : ℕ) → left_after t mark more ≤ room → mark ≤ room
-mark_first true mark more room h = omega (arith, h)
-mark_first false mark more room h = h
+pub replacement_first : (t : Bool) (replacement more room : ℕ) → left_after t replacement more ≤ room → replacement ≤ room
+replacement_first true replacement more room h = omega (arith, h)
+replacement_first false replacement more room h = h
 
 -- How far a call has come.
 
@@ -137,39 +137,45 @@ suffices_then OutputFull before middle after t last size left unread old mid new
 suffices_then (Malformed a b) before middle after t last size left unread old mid new h s = λ k m is none fits. s k m is none (h k m is none fits)
 
 -- a part of a call that has not ended it, and the rest of it
-pub calls_join : (P0 P1 P2 : List ℕ → List Piece) (n0 n1 n2 : OutputUnit → ℕ → ℕ) (p0 p1 p2 src part : List ℕ) (last : Bool) (r1 r2 : ℕ) (W1 W2 W : List ℕ → Type 0) (t : Bool) (old mid new room mark : ℕ) (outcome : DecoderResult)
-    → part ≡ drop r1 src → ((text more : List ℕ) → W1 text → W2 more → W (text ++ more))
-    → DriverCall P0 P1 n0 n1 p0 p1 src last r1 W1 t old mid room mark None → DriverCall P1 P2 n1 n2 [] p2 part last r2 W2 t mid new room mark (Some outcome)
-    → DriverCall P0 P2 n0 n2 p0 p2 src last (r1 + r2) W t old new room mark (Some outcome)
-calls_join P0 P1 P2 n0 n1 n2 p0 p1 p2 src part last r1 r2 W1 W2 W t old mid new room mark outcome is join f s =
-    let none : p1 ≡ [] = f.ends in
-    let before = λ (x : List ℕ). P0 (p0 ++ x) in
-    let after = λ (x : List ℕ). P2 (p2 ++ x) in
-    let size : length part ≡ length src - r1 = ap length is ∙ length-drop r1 src in
-    let unread : length part - r2 ≡ length src - (r1 + r2) = omega (arith, size) in
+pub calls_join : (first middle end : DriverState) (src part : List ℕ) (last : Bool) (read more : ℕ) (W1 W2 W : List ℕ → Type 0) (t : Bool) (old mid new : ℕ) (outcome : DecoderResult)
+    → part ≡ drop read src → ((text more : List ℕ) → W1 text → W2 more → W (text ++ more))
+    → DriverCall first middle src last read W1 (record { in_units = t; before = old; after = mid }) None
+    → DriverCall (record middle { pending = [] }) end part last more W2 (record { in_units = t; before = mid; after = new }) (Some outcome)
+    → DriverCall first end src last (read + more) W (record { in_units = t; before = old; after = new }) (Some outcome)
+calls_join first middle end src part last read more W1 W2 W t old mid new outcome is join f s =
+    let none : middle.pending ≡ [] = f.ends in
+    let size : length part ≡ length src - read = ap length is ∙ length-drop read src in
+    let unread : length part - more ≡ length src - (read + more) = omega (arith, size) in
     record {
-      law = takes_then outcome before P1 after src last (length p0) (length p2) r1 r2 W1 W2 W join
-          (subst (λ (y : List ℕ). Takes AreWellFormed before (λ x. P1 (y ++ x)) src last (length p0) (length y) r1 W1) none f.law)
-          (subst (λ (x : List ℕ). Takes (Reports outcome (length p2)) P1 after x last 0 (length p2) r2 W2) is s.law);
-      ends = subst (λ (x : List ℕ). DriverEndsWith P2 p2 x last new room mark outcome) (ap (drop r2) is ∙ drop-drop r2 r1 src) s.ends;
-      enough = subst (λ (u : ℕ). Suffices (λ k n. n0 k (length p0 + n)) (λ k n. n2 k (length p2 + n)) t last (length src) u old new outcome) unread
-          (suffices_then outcome (λ k n. n0 k (length p0 + n)) (λ k n. n1 k (length {A = ℕ} [] + n)) (λ k n. n2 k (length p2 + n)) t last (length src) (length part) (length part - r2) old mid new
-          (λ k m units stops h. (let at : length p1 + ((length src - r1) + m) ≡ length {A = ℕ} [] + (length part + m) = omega (arith, ap length none, size) in subst (λ (x : ℕ). n1 k x ≤ mid) at (f.enough k m units stops h)))
+      law = takes_then outcome (to_come first) middle.pieces (to_come end) src last (length first.pending) (length end.pending) read more W1 W2 W join
+          (subst (λ (y : List ℕ). Takes AreWellFormed (to_come first) (λ x. middle.pieces (y ++ x)) src last (length first.pending) (length y) read W1) none f.law)
+          (subst (λ (x : List ℕ). Takes (Reports outcome (length end.pending)) middle.pieces (to_come end) x last 0 (length end.pending) more W2) is s.law);
+      ends = subst (λ (x : List ℕ). DriverEndsWith end x last (record { in_units = t; before = old; after = new }) outcome) (ap (drop more) is ∙ drop-drop more read src) (ends_here outcome s.ends);
+      enough = subst (λ (u : ℕ). Suffices (needs_to_come first) (needs_to_come end) t last (length src) u old new outcome) unread
+          (suffices_then outcome (needs_to_come first) (λ k n. middle.needs k (length {A = ℕ} [] + n)) (needs_to_come end) t last (length src) (length part) (length part - more) old mid new
+          (λ k m units stops h. (let at : length middle.pending + ((length src - read) + m) ≡ length {A = ℕ} [] + (length part + m) = omega (arith, ap length none, size) in subst (λ (x : ℕ). middle.needs k x ≤ mid) at (f.enough k m units stops h)))
           s.enough);
       short = s.short;
       near = s.near;
     }
+  where
+    -- it does not matter what was free before
+    ends_here : (o : DecoderResult) → DriverEndsWith end (drop more part) last (record { in_units = t; before = mid; after = new }) o → DriverEndsWith end (drop more part) last (record { in_units = t; before = old; after = new }) o
+    ends_here InputEmpty h = h
+    ends_here OutputFull h = h
+    ends_here (Malformed a b) h = h
 
 -- A call of the driver is one of a decoder.
 pub state_call : (P P' : List ℕ → List Piece) (whole : (x : List ℕ) → sizes (P x) ≡ length x) (whole' : (x : List ℕ) → sizes (P' x) ≡ length x)
     → (pieces : (x : List ℕ) → ArePieces (P x)) (pieces' : (x : List ℕ) → ArePieces (P' x)) (need need' : OutputUnit → ℕ → ℕ) (limits limits' : DecodedLength)
     → (covers : (k : OutputUnit) (n : ℕ) → need k n ≤ decoded_length limits k n) (covers' : (k : OutputUnit) (n : ℕ) → need' k n ≤ decoded_length limits' k n)
-    → (pending pending' src : List ℕ) (last : Bool) (read : ℕ) (W : List ℕ → Type 0) (t : Bool) (old new room mark : ℕ) (outcome : DecoderResult)
-    → P' [] ≡ [] → limits' ≡ limits → DriverCall P P' need need' pending pending' src last read W t old new room mark (Some outcome)
-    → StateCall (buffered P whole pieces need limits covers pending) (buffered P' whole' pieces' need' limits' covers' pending') src last read W t old new room mark outcome
-state_call P P' whole whole' pieces pieces' need need' limits limits' covers covers' pending pending' src last read W t old new room mark outcome nil same c = record {
+    → (pending pending' src : List ℕ) (last : Bool) (read : ℕ) (W : List ℕ → Type 0) (room : Room) (outcome : DecoderResult)
+    → P' [] ≡ [] → limits' ≡ limits
+    → DriverCall (record { pieces = P; needs = need; pending = pending }) (record { pieces = P'; needs = need'; pending = pending' }) src last read W room (Some outcome)
+    → StateCall (buffered P whole pieces need limits covers pending) (buffered P' whole' pieces' need' limits' covers' pending') src last read W room outcome
+state_call P P' whole whole' pieces pieces' need need' limits limits' covers covers' pending pending' src last read W room outcome nil same c = record {
   law = c.law;
-  ends = ends_with P' pending' (drop read src) last new room mark whole' pieces' need' limits' covers' outcome nil c.ends;
+  ends = ends_with P' pending' (drop read src) last room whole' pieces' need' limits' covers' outcome nil c.ends;
   enough = c.enough;
   limits = same;
 }

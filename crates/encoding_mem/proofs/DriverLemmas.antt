@@ -7,7 +7,7 @@ use Rattle.std.specs.Char.{encode_utf8}
 use Rattle.std.specs.Str.{chars, IsUtf8}
 use Rattle.encoding_mem.specs.Piece.{Piece, head_piece, malformed, well_formed, piece_text, sizes, piece_len, scalars, piece_scalars, IsWellFormedPiece, AreWellFormed}
 use Rattle.encoding_mem.specs.calls.Decoding.{Reports, Takes}
-use Rattle.encoding_mem.specs.calls.DecodedLength.{cost_in, counts_past_malformed, is_units, left_after, replacement_len}
+use Rattle.encoding_mem.specs.calls.DecodedLength.{cost_in, counts_past_malformed, is_units, left_after, replacement_len, two_in}
 use Rattle.encoding_mem.specs.calls.Driver.{DriverCall}
 use Rattle.encoding_mem.specs.calls.DecoderRule.{IsFirstPiece, IsSoon}
 use Rattle.encoding_mem.specs.calls.TextRun.{text_pieces}
@@ -209,12 +209,12 @@ bare : (need : OutputUnit → ℕ → ℕ) (k : OutputUnit) (n room : ℕ) → n
 bare need k n room h = let same : length {A = ℕ} [] + n ≡ n = omega arith in subst (λ (m : ℕ). need k m ≤ room) same h
 
 -- How a call that has come so far ends. The next piece has no room;
-pub ends_full : (before P : List ℕ → List Piece) (needed need : OutputUnit → ℕ → ℕ) (t last : Bool) (src rest : List ℕ) (old free room mark : ℕ) (W : List ℕ → Type 0) (pending : List ℕ)
+pub ends_full : (before P : List ℕ → List Piece) (needed need : OutputUnit → ℕ → ℕ) (t last : Bool) (src rest : List ℕ) (old free : ℕ) (W : List ℕ → Type 0) (pending : List ℕ)
     → pending ≡ [] → HasCome before P needed need t last src rest old free W
-    → free < room → (p : Piece) × (then : List ℕ → List Piece) × IsFirstPiece P then rest last p × (0 < length (piece_text p))
+    → free < two_in t → (p : Piece) × (then : List ℕ → List Piece) × IsFirstPiece P then rest last p × (0 < length (piece_text p))
     → ((k : OutputUnit) (m : ℕ) → is_units k ≡ t → length rest ≤ m → (IsTrue last → m ≡ length rest) → need k m ≤ free → ⊥)
-    → DriverCall before P needed need [] pending src last (length src - length rest) W t old free room mark (Some OutputFull)
-ends_full before P needed need t last src rest old free room mark W pending none i over piece refused = rw none (record {
+    → DriverCall (record { pieces = before; needs = needed; pending = [] }) (record { pieces = P; needs = need; pending = pending }) src last (length src - length rest) W (record { in_units = t; before = old; after = free }) (Some OutputFull)
+ends_full before P needed need t last src rest old free W pending none i over piece refused = rw none (record {
   law = i.takes;
   ends = (
     over,
@@ -226,11 +226,11 @@ ends_full before P needed need t last src rest old free room mark W pending none
 })
 
 -- it is not decided, and is pending;
-pub ends_waiting : (before P : List ℕ → List Piece) (needed need : OutputUnit → ℕ → ℕ) (t last : Bool) (src rest : List ℕ) (old free room mark : ℕ) (W : List ℕ → Type 0) (pending : List ℕ)
+pub ends_waiting : (before P : List ℕ → List Piece) (needed need : OutputUnit → ℕ → ℕ) (t last : Bool) (src rest : List ℕ) (old free : ℕ) (W : List ℕ → Type 0) (pending : List ℕ)
     → pending ≡ rest → HasCome before P needed need t last src rest old free W
     → last ≡ false → length rest < 6 → IsUndecided P rest → IsSoon P rest
-    → DriverCall before P needed need [] pending src last (length src) W t old free room mark (Some InputEmpty)
-ends_waiting before P needed need t last src rest old free room mark W pending is i more short undecided soon = rw is (record {
+    → DriverCall (record { pieces = before; needs = needed; pending = [] }) (record { pieces = P; needs = need; pending = pending }) src last (length src) W (record { in_units = t; before = old; after = free }) (Some InputEmpty)
+ends_waiting before P needed need t last src rest old free W pending is i more short undecided soon = rw is (record {
   law = held_all before P src rest last 0 rest (length src - length rest) W i.behind refl i.takes;
   ends = (drop_all (length src) src (omega arith), inr (more, short, undecided, soon));
   enough = λ k m units stops h. i.enough k m units stops (bare needed k (length src + m) old h);
@@ -239,15 +239,15 @@ ends_waiting before P needed need t last src rest old free room mark W pending i
 })
 
 -- it is malformed;
-pub ends_malformed : (before P P' : List ℕ → List Piece) (needed need need' : OutputUnit → ℕ → ℕ) (t last : Bool) (src rest : List ℕ) (old free free' room mark : ℕ) (W W' : List ℕ → Type 0) (pending : List ℕ) (n : ℕ)
+pub ends_malformed : (before P P' : List ℕ → List Piece) (needed need need' : OutputUnit → ℕ → ℕ) (t last : Bool) (src rest : List ℕ) (old free free' : ℕ) (W W' : List ℕ → Type 0) (pending : List ℕ) (n : ℕ)
     → pending ≡ [] → HasCome before P needed need t last src rest old free W
-    → IsFirstPiece P P' rest last (malformed n) → n ≤ 4 → ((text : List ℕ) → W text → W' text) → mark ≤ free'
+    → IsFirstPiece P P' rest last (malformed n) → n ≤ 4 → ((text : List ℕ) → W text → W' text) → replacement_len t ≤ free'
     → ((k : OutputUnit) (m : ℕ) → is_units k ≡ t → length rest ≤ m → (IsTrue last → m ≡ length rest) → need k m ≤ free → left_after (counts_past_malformed k) (replacement_len t) (need' k (m - n)) ≤ free')
-    → DriverCall before P' needed need' [] pending src last (length src - length rest + n) W' t old free' room mark (Some (Malformed n 0))
-ends_malformed before P P' needed need need' t last src rest old free free' room mark W W' pending n none i taken few same marks room_left = rw none (record {
+    → DriverCall (record { pieces = before; needs = needed; pending = [] }) (record { pieces = P'; needs = need'; pending = pending }) src last (length src - length rest + n) W' (record { in_units = t; before = old; after = free' }) (Some (Malformed n 0))
+ends_malformed before P P' needed need need' t last src rest old free free' W W' pending n none i taken few same replaced room_left = rw none (record {
   law = took_source (Reports (Malformed n 0) 0) before P P' src rest last 0 (length src - length rest) W W' (malformed n) n refl i.behind i.takes taken
       (λ ps a. (refl, few, omega arith, omega (arith, few), (ps, a, refl))) (λ t w. rw append-nil (same t w));
-  ends = marks;
+  ends = replaced;
   enough = λ k m units stops h. (
       let left_over : (length rest + m) - n ≡ length {A = ℕ} [] + ((length src - (length src - length rest + n)) + m) = omega (arith, i.within, taken.within) in
       subst (λ (x : ℕ). left_after (counts_past_malformed k) (replacement_len t) (need' k x) ≤ free') left_over (room_left k (length rest + m) units (omega arith) (λ l. omega (arith, stops l)) (i.enough k m units stops (bare needed k (length src + m) old h))));
@@ -256,10 +256,10 @@ ends_malformed before P P' needed need need' t last src rest old free free' room
 })
 
 -- or nothing is left.
-pub ends_empty : (before P : List ℕ → List Piece) (needed need : OutputUnit → ℕ → ℕ) (t last : Bool) (src rest : List ℕ) (old free room mark : ℕ) (W : List ℕ → Type 0) (pending : List ℕ)
+pub ends_empty : (before P : List ℕ → List Piece) (needed need : OutputUnit → ℕ → ℕ) (t last : Bool) (src rest : List ℕ) (old free : ℕ) (W : List ℕ → Type 0) (pending : List ℕ)
     → pending ≡ [] → HasCome before P needed need t last src rest old free W → length rest ≡ 0
-    → DriverCall before P needed need [] pending src last (length src) W t old free room mark (Some InputEmpty)
-ends_empty before P needed need t last src rest old free room mark W pending none i size =
+    → DriverCall (record { pieces = before; needs = needed; pending = [] }) (record { pieces = P; needs = need; pending = pending }) src last (length src) W (record { in_units = t; before = old; after = free }) (Some InputEmpty)
+ends_empty before P needed need t last src rest old free W pending none i size =
     let read : length src - length rest ≡ length src = omega (arith, size) in
     rw none (record {
       law = subst (λ (n : ℕ). Takes AreWellFormed before P src last 0 0 n W) read i.takes;

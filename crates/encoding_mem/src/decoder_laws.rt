@@ -45,10 +45,10 @@ pub fn undecided_decides_nothing()
 /// law and the clause on why it ended, as those of every raw decoder do.
 pub fn pieces_are_taken_soon()
     ensures { (before after : DecoderState) (src : List ℕ) (last : Bool) (read : ℕ)
-        → (encode : List ℕ → List ℕ) (old new : List ℕ) (written free room mark : ℕ)
+        → (encode : List ℕ → List ℕ) (old new : List ℕ) (written free room replacement : ℕ)
         → (law : StateLaw before after src last read
         (λ text. Adds old 0 (encode text) new written) InputEmpty)
-        → EndsWith after (drop read src) last free room mark InputEmpty
+        → EndsWith after (drop read src) last free room replacement InputEmpty
         → TakesSoon before.pieces src last (before.pending + length src) law.taken }
 {}
 

@@ -3,9 +3,9 @@
 
 ghost use Rattle.std.specs.Prelude.{◌-◌, ◌≡◌, ◌<◌, [], None, Some, false, length};
 ghost use Rattle.encoding_mem.specs.Piece.{AreWellFormed};
-ghost use Rattle.encoding_mem.specs.calls.Decoding.{Takes};
+ghost use Rattle.encoding_mem.specs.calls.Decoding.{Takes, sink_room};
 ghost use Rattle.encoding_mem.specs.calls.Driver.{DriverCall, IsNear, IsStep, IsRoomyStep};
-ghost use Rattle.encoding_mem.specs.calls.Driver.{PartSuffices, Remains};
+ghost use Rattle.encoding_mem.specs.calls.Driver.{PartSuffices, Remains, driver_state};
 
 use crate::decoder_result::DecoderResult;
 use crate::first_piece::{DecoderRule, FirstPiece, UNIT_RUN};
@@ -81,8 +81,8 @@ fn take_piece<F: DecoderRule, S: Sink>(
 fn take_pairs<F: DecoderRule, S: Sink>(codec: &mut F, src: &[u8], sink: &mut S) -> usize
     ensures law { Takes AreWellFormed (F.pieces codec.old) (F.pieces codec.new)
         src.now false 0 0 result (λ text. S.writes sink.old text sink.new) }
-    ensures enough { PartSuffices (F.needs codec.old) (F.needs codec.new) S.is_units false
-        (length src.now) (length src.now - result) (S.free sink.old) (S.free sink.new) None }
+    ensures enough { PartSuffices (F.needs codec.old) (F.needs codec.new) false (length src.now)
+        (length src.now - result) (sink_room S.is_units S.free sink.old sink.new) None }
     ensures limits { F.limits codec.new ≡ F.limits codec.old }
 {
     if src.is_empty() || !codec.seeks_pairs(src[0]) {
@@ -130,10 +130,10 @@ pub(crate) fn finish_pending<F: DecoderRule, S: Sink>(
 ) -> (Option<DecoderResult>, usize)
     requires short { length pending.old < 7 }
     requires near { IsNear (F.pieces codec.old) pending.old }
-    ensures call { DriverCall (F.pieces codec.old) (F.pieces codec.new)
-        (F.needs codec.old) (F.needs codec.new) pending.old pending.new src.now last result.1
-        (λ text. S.writes sink.old text sink.new) S.is_units (S.free sink.old) (S.free sink.new)
-        S.room (S.cost 0xFFFD) result.0 }
+    ensures call { DriverCall (driver_state F.pieces F.needs codec.old pending.old)
+        (driver_state F.pieces F.needs codec.new pending.new) src.now last result.1
+        (λ text. S.writes sink.old text sink.new) (sink_room S.is_units S.free sink.old sink.new)
+        result.0 }
     ensures limits { F.limits codec.new ≡ F.limits codec.old }
 {
     let mut read = 0;
@@ -170,10 +170,10 @@ fn decode_pieces<F: DecoderRule, S: Sink>(
     last: bool,
 ) -> (DecoderResult, usize)
     requires { pending.old ≡ [] }
-    ensures call { DriverCall (F.pieces codec.old) (F.pieces codec.new)
-        (F.needs codec.old) (F.needs codec.new) [] pending.new src.now last result.1
-        (λ text. S.writes sink.old text sink.new) S.is_units (S.free sink.old) (S.free sink.new)
-        S.room (S.cost 0xFFFD) (Some result.0) }
+    ensures call { DriverCall (driver_state F.pieces F.needs codec.old [])
+        (driver_state F.pieces F.needs codec.new pending.new) src.now last result.1
+        (λ text. S.writes sink.old text sink.new) (sink_room S.is_units S.free sink.old sink.new)
+        (Some result.0) }
     ensures limits { F.limits codec.new ≡ F.limits codec.old }
     ensures waits { Remains (F.pieces codec.new) pending.new }
 {
@@ -214,8 +214,8 @@ fn decode_pieces<F: DecoderRule, S: Sink>(
     (DecoderResult::InputEmpty, src.len())
 }
 
-// `decode_pieces` as a call of its own. A sink that cannot be detached decodes by it: with that loop
-// twice in it, `decode_detached` would be too long to be inlined.
+// `decode_pieces` as a call of its own. A sink that cannot be detached decodes by it: with that
+// loop twice in it, `decode_detached` would be too long to be inlined.
 #[inline(never)]
 fn decode_in_place<F: DecoderRule, S: Sink>(
     codec: &mut F,
@@ -225,10 +225,10 @@ fn decode_in_place<F: DecoderRule, S: Sink>(
     last: bool,
 ) -> (DecoderResult, usize)
     requires { pending.old ≡ [] }
-    ensures call { DriverCall (F.pieces codec.old) (F.pieces codec.new)
-        (F.needs codec.old) (F.needs codec.new) [] pending.new src.now last result.1
-        (λ text. S.writes sink.old text sink.new) S.is_units (S.free sink.old) (S.free sink.new)
-        S.room (S.cost 0xFFFD) (Some result.0) }
+    ensures call { DriverCall (driver_state F.pieces F.needs codec.old [])
+        (driver_state F.pieces F.needs codec.new pending.new) src.now last result.1
+        (λ text. S.writes sink.old text sink.new) (sink_room S.is_units S.free sink.old sink.new)
+        (Some result.0) }
     ensures limits { F.limits codec.new ≡ F.limits codec.old }
     ensures waits { Remains (F.pieces codec.new) pending.new }
 {
@@ -246,10 +246,10 @@ pub(crate) fn decode_detached<F: DecoderRule, S: Sink>(
     last: bool,
 ) -> (DecoderResult, usize)
     requires { pending.old ≡ [] }
-    ensures call { DriverCall (F.pieces codec.old) (F.pieces codec.new)
-        (F.needs codec.old) (F.needs codec.new) [] pending.new src.now last result.1
-        (λ text. S.writes sink.old text sink.new) S.is_units (S.free sink.old) (S.free sink.new)
-        S.room (S.cost 0xFFFD) (Some result.0) }
+    ensures call { DriverCall (driver_state F.pieces F.needs codec.old [])
+        (driver_state F.pieces F.needs codec.new pending.new) src.now last result.1
+        (λ text. S.writes sink.old text sink.new) (sink_room S.is_units S.free sink.old sink.new)
+        (Some result.0) }
     ensures limits { F.limits codec.new ≡ F.limits codec.old }
     ensures waits { Remains (F.pieces codec.new) pending.new }
 {

@@ -1,9 +1,10 @@
 //! The decoder that callers use: its calls into bytes and units, and its queries.
 
-ghost use Rattle.std.specs.Prelude.{◌≢◌, ◌≡◌, ◌+◌, ◌-◌, ◌≤◌, true, false, length, drop};
+ghost use Rattle.std.specs.Prelude.{◌≢◌, ◌≡◌, ◌+◌, ◌-◌, ◌≤◌, length, drop};
 ghost use Rattle.std.specs.Prelude.{encode_utf8_all};
 ghost use Rattle.encoding_mem.specs.calls.Writing.{Adds, encode_utf16_all};
 ghost use Rattle.encoding_mem.specs.calls.Decoding.{DecoderState, StateCall};
+ghost use Rattle.encoding_mem.specs.calls.Decoding.{bytes_room, units_room};
 ghost use Rattle.encoding_mem.specs.calls.DecodedLength.{decoded_length, queried};
 ghost use Rattle.encoding_mem.specs.declared.room.OutputUnit.TheVariants.{Units, Bytes, Replaced};
 
@@ -32,8 +33,8 @@ pub trait RawDecoder {
         last: bool,
     ) -> (DecoderResult, usize, usize)
         ensures call { StateCall (state self.old) (state self.new) src.now last result.1
-            (λ text. Adds dst.old 0 (encode_utf8_all text) dst.new result.2) false (length dst.old)
-            (length (drop result.2 dst.new)) 4 3 result.0 }
+            (λ text. Adds dst.old 0 (encode_utf8_all text) dst.new result.2)
+            (bytes_room (length dst.old) (length (drop result.2 dst.new))) result.0 }
         ensures enough { decoded_length (state self.old).room Bytes ((state self.old).pending + length src.now) ≤ length dst.old
             → result.0 ≢ DecoderResult.OutputFull }
         ensures replaced { decoded_length (state self.old).room Replaced
@@ -52,8 +53,8 @@ pub trait RawDecoder {
         last: bool,
     ) -> (DecoderResult, usize, usize)
         ensures call { StateCall (state self.old) (state self.new) src.now last result.1
-            (λ text. Adds dst.old 0 (encode_utf16_all text) dst.new result.2) true (length dst.old)
-            (length (drop result.2 dst.new)) 2 1 result.0 }
+            (λ text. Adds dst.old 0 (encode_utf16_all text) dst.new result.2)
+            (units_room (length dst.old) (length (drop result.2 dst.new))) result.0 }
         ensures enough { decoded_length (state self.old).room Units ((state self.old).pending + length src.now) ≤ length dst.old
             → result.0 ≢ DecoderResult.OutputFull };
 

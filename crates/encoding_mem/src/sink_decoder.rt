@@ -2,7 +2,7 @@
 
 ghost use Rattle.std.specs.Prelude.{◌≡◌, ◌<◌, ◌+◌, ◌-◌, length};
 ghost use Rattle.encoding_mem.specs.calls.Decoding.{DecoderState, StateCall};
-ghost use Rattle.encoding_mem.specs.calls.Decoding.{IsFreshDecoder, ReadsByRule};
+ghost use Rattle.encoding_mem.specs.calls.Decoding.{IsFreshDecoder, ReadsByRule, sink_room};
 ghost use Rattle.encoding_mem.specs.calls.Driver.{IsNear, buffered};
 ghost use Rattle.encoding_mem.specs.calls.DecodedLength.{queried};
 
@@ -32,8 +32,8 @@ pub trait SinkDecoder {
         last: bool,
     ) -> (DecoderResult, usize)
         ensures { StateCall (state self.old) (state self.new) src.now last result.1
-            (λ text. S.writes sink.old text sink.new) S.is_units (S.free sink.old) (S.free sink.new)
-            S.room (S.cost 0xFFFD) result.0 };
+            (λ text. S.writes sink.old text sink.new)
+            (sink_room S.is_units S.free sink.old sink.new) result.0 };
 
     /// How many bytes are pending: read, but in no piece that is decided.
     fn held_len(&self) -> usize

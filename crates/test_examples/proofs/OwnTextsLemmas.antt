@@ -8,7 +8,7 @@ use Rattle.std.specs.Char.{encode_utf8, len_utf8, to_ascii_uppercase}
 use Rattle.std.specs.Str.{IsAscii}
 use Rattle.encoding_mem.specs.Piece.{AreWellFormed, malformed, text}
 use Rattle.encoding_mem.specs.Utf8.{pieces_utf8}
-use Rattle.encoding_mem.specs.calls.Decoding.{DecoderState, IsFreshDecoder, StateCall}
+use Rattle.encoding_mem.specs.calls.Decoding.{DecoderState, IsFreshDecoder, Room, StateCall}
 use Rattle.encoding_mem.specs.calls.DecodedLength.{decoded_length_utf8}
 use Rattle.encoding_mem.specs.calls.EncoderRule.{EncoderCall, EncoderParts}
 use Rattle.encoding_mem.specs.declared.decoder_result.DecoderResult.TheVariants.{InputEmpty as Decoded, Malformed}
@@ -21,10 +21,10 @@ use Rattle.encoding_mem.specs.laws.Agreement.{well_formed_parts}
 use Rattle.encoding_mem.specs.laws.Piece.{well_formed_text}
 
 -- a call that is the last and the first of its decoder
-pub whole_counted : (before after : DecoderState) (src : List ℕ) (read old new : ℕ) (free left room mark : ℕ) → IsFreshDecoder before pieces_utf8 decoded_length_utf8
-    → StateCall before after src true read (λ t. new ≡ old + length t) true free left room mark Decoded
+pub whole_counted : (before after : DecoderState) (src : List ℕ) (read old new : ℕ) (room : Room) → IsFreshDecoder before pieces_utf8 decoded_length_utf8
+    → StateCall before after src true read (λ t. new ≡ old + length t) room Decoded
     → AreWellFormed (pieces_utf8 src) × (new ≡ old + length (text (pieces_utf8 src)))
-whole_counted before after src read old new free left room mark fresh call =
+whole_counted before after src read old new room fresh call =
     let law = call.law in
     let nothing : after.pieces [] ≡ [] = elim call.ends.1 [ inl h ↦ h.1 | inr h ↦ absurd (cc h.0) ] in
     let rest : after.pieces (drop read src ++ []) ≡ [] = ap (λ l. after.pieces (l ++ [])) call.ends.0 ∙ nothing in
@@ -33,10 +33,10 @@ whole_counted before after src read old new free left room mark fresh call =
     let whole : AreWellFormed law.taken × (new ≡ old + length (text law.taken)) = (law.well_formed, rw (well_formed_text law.taken law.well_formed) law.writes) in
     rw all whole
 
-pub malformed_counted : (before after : DecoderState) (src : List ℕ) (read old new a b : ℕ) (free left room mark : ℕ) → IsFreshDecoder before pieces_utf8 decoded_length_utf8
-    → StateCall before after src true read (λ t. new ≡ old + length t) true free left room mark (Malformed a b)
+pub malformed_counted : (before after : DecoderState) (src : List ℕ) (read old new a b : ℕ) (room : Room) → IsFreshDecoder before pieces_utf8 decoded_length_utf8
+    → StateCall before after src true read (λ t. new ≡ old + length t) room (Malformed a b)
     → ¬ (AreWellFormed (pieces_utf8 src))
-malformed_counted before after src read old new a b free left room mark fresh call h =
+malformed_counted before after src read old new a b room fresh call h =
     let law = call.law in
     let told = law.well_formed.4 in
     let all : pieces_utf8 src ≡ (told.0 ++ malformed a ∷ []) ++ after.pieces (drop read src ++ []) =

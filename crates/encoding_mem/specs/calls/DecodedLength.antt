@@ -33,8 +33,8 @@ two_in is_units = if is_units then 2 else 4
 
 -- the room needed at a malformed sequence: its U+FFFD's, and what is needed after it if the count
 -- goes on
-abbrev pub left_after : (counts : Bool) (mark more : ℕ) → ℕ
-left_after counts mark more = if counts then mark + more else mark
+abbrev pub left_after : (counts : Bool) (replacement more : ℕ) → ℕ
+left_after counts replacement more = if counts then replacement + more else replacement
 
 -- the bound that a decoded length has in an output unit: units, bytes, or bytes with each U+FFFD
 abbrev pub bound_of : DecodedLength → OutputUnit → Bound

@@ -1,7 +1,7 @@
 -- What a call of a decoder does.
-use Rattle.std.specs.Prelude.{◌≡◌, ℕ, ◌+◌, ◌-◌, ◌≤◌, ◌<◌, ◌⊎◌, Bool, false, IsTrue, Some, List, [], ◌∷◌, ◌++◌, length, drop}
+use Rattle.std.specs.Prelude.{◌≡◌, ℕ, ◌+◌, ◌-◌, ◌≤◌, ◌<◌, ◌⊎◌, Bool, true, false, IsTrue, Some, List, [], ◌∷◌, ◌++◌, length, drop}
 use Rattle.encoding_mem.specs.Piece.{Piece, malformed, head_piece, piece_len, sizes, scalars, piece_text, AreWellFormed, ArePieces}
-use Rattle.encoding_mem.specs.calls.DecodedLength.{decoded_length, counts_past_malformed, is_units, left_after, replacement_len}
+use Rattle.encoding_mem.specs.calls.DecodedLength.{decoded_length, counts_past_malformed, is_units, left_after, replacement_len, two_in}
 use Rattle.encoding_mem.specs.declared.room.OutputUnit.{OutputUnit}
 use Rattle.encoding_mem.specs.declared.room.DecodedLength.{DecodedLength}
 use Rattle.encoding_mem.specs.Event.{Event, malformed_at, events, scalar_events}
@@ -21,6 +21,26 @@ pub record DecoderState : Type 0 where
   pub needs : OutputUnit → ℕ → ℕ
   pub room : DecodedLength
   pub covers : (k : OutputUnit) (n : ℕ) → needs k n ≤ decoded_length room k (pending + n)
+
+-- The room that a call of a decoder has: whether it is counted in units of UTF-16, not in bytes of
+-- UTF-8, and how many of them are free before the call, and after it.
+pub record Room : Type 0 where
+  pub in_units : Bool
+  pub before : ℕ
+  pub after : ℕ
+
+-- the room of a call that writes bytes of UTF-8: so many are free before it, and so many after it
+abbrev pub bytes_room : (before after : ℕ) → Room
+bytes_room before after = record { in_units = false; before = before; after = after }
+
+-- the room of a call that writes units of UTF-16
+abbrev pub units_room : (before after : ℕ) → Room
+units_room before after = record { in_units = true; before = before; after = after }
+
+-- the room of a call that writes into any destination, by whether its units are those of UTF-16 and
+-- by how many are free in it
+abbrev pub sink_room : {W : Type 0} (in_units : Bool) (free : W → ℕ) (old new : W) → Room
+sink_room in_units free old new = record { in_units = in_units; before = free old; after = free new }
 
 -- a decoder has nothing pending, makes given pieces of bytes, and has a given decoded length
 pub record IsFreshDecoder (d : DecoderState) (pieces_of : List ℕ → List Piece) (enough : DecodedLength) : Type 0 where
@@ -71,12 +91,13 @@ StateLaw before after src last read Writes outcome =
     Takes (Reports outcome after.pending) before.pieces after.pieces src last before.pending after.pending read Writes
 
 -- Why a decoder's call ended: all is read, and nothing is pending or it is undecided; or less than
--- `room` is free, and the next piece has text; or at a malformed sequence, with room for U+FFFD.
-abbrev pub EndsWith : (after : DecoderState) (unread : List ℕ) (last : Bool) (free room mark : ℕ) → DecoderResult → Type 0
-EndsWith after unread last free room mark InputEmpty =
+-- `room` is free, and the next piece has text; or at a malformed sequence, with room for U+FFFD,
+-- which takes `replacement`.
+abbrev pub EndsWith : (after : DecoderState) (unread : List ℕ) (last : Bool) (free room replacement : ℕ) → DecoderResult → Type 0
+EndsWith after unread last free room replacement InputEmpty =
     (unread ≡ []) × (((after.pending ≡ 0) × (after.pieces [] ≡ [])) ⊎ ((last ≡ false) × Waits after.pieces after.pending))
-EndsWith after unread last free room mark OutputFull = (free < room) × IsKnown after.pieces unread last
-EndsWith after unread last free room mark (Malformed a b) = mark ≤ free
+EndsWith after unread last free room replacement OutputFull = (free < room) × IsKnown after.pieces unread last
+EndsWith after unread last free room replacement (Malformed a b) = replacement ≤ free
 
 -- A decoder's call with room enough for its bytes and m more (0, if it is the last) does not end
 -- for lack of it, and leaves enough for the rest (in `Bytes`, if malformed, for U+FFFD).
@@ -86,12 +107,12 @@ Suffices before after units last size unread old new OutputFull = (k : OutputUni
 Suffices before after units last size unread old new (Malformed a b) = (k : OutputUnit) (m : ℕ) → is_units k ≡ units → (IsTrue last → m ≡ 0) → before k (size + m) ≤ old → left_after (counts_past_malformed k) (replacement_len units) (after k (unread + m)) ≤ new
 
 -- One call of a decoder: which pieces it took and wrote (`StateLaw`), why it ended (`EndsWith`),
--- that enough room is not refused (`Suffices`), and that its decoded length stays; with the room
--- that was free before it and is free after it, in units or in bytes.
-pub record StateCall (before after : DecoderState) (src : List ℕ) (last : Bool) (read : ℕ) (Writes : List ℕ → Type 0) (units : Bool) (old new room mark : ℕ) (outcome : DecoderResult) : Type 0 where
+-- that enough room is not refused (`Suffices`), and that its decoded length stays. How much any
+-- character takes, and U+FFFD, follows from what `room` counts (`two_in`, `replacement_len`).
+pub record StateCall (before after : DecoderState) (src : List ℕ) (last : Bool) (read : ℕ) (Writes : List ℕ → Type 0) (room : Room) (outcome : DecoderResult) : Type 0 where
   pub law : StateLaw before after src last read Writes outcome
-  pub ends : EndsWith after (drop read src) last new room mark outcome
-  pub enough : Suffices before.needs after.needs units last (length src) (length src - read) old new outcome
+  pub ends : EndsWith after (drop read src) last room.after (two_in room.in_units) (replacement_len room.in_units) outcome
+  pub enough : Suffices before.needs after.needs room.in_units last (length src) (length src - read) room.before room.after outcome
   pub limits : after.room ≡ before.room
 
 -- a call of a decoder took each piece that ends three bytes or more before the end of its `size`

@@ -1,12 +1,12 @@
 -- Worked rows of `specs/calls/Decoding.antt`.
-use Rattle.std.proofs.Common.{◌≡◌, ◌≢◌, ℕ, nat_eq, nat_lt, Bool, true, false, if◌then◌else◌, Some, ◌+◌, ◌≤◌, List, [], ◌∷◌, length, refl, sym, ap, arith}
+use Rattle.std.proofs.Common.{◌≡◌, ◌≢◌, ℕ, nat_eq, nat_lt, Bool, true, false, if◌then◌else◌, Some, ◌+◌, ◌<◌, ◌≤◌, List, [], ◌∷◌, length, refl, sym, ap, arith}
 use Rattle.std.proofs.lemmas.Bool.{lt-ltb}
 use Rattle.encoding_mem.specs.Piece.{Piece, well_formed, malformed, head_piece, piece_len, piece_text}
 use Rattle.encoding_mem.specs.Pieces.{pieces_in}
 use Rattle.encoding_mem.specs.Event.{malformed_at}
-use Rattle.encoding_mem.specs.calls.Decoding.{Waits, IsKnown, Reports, TakesSoon, reported_event}
+use Rattle.encoding_mem.specs.calls.Decoding.{DecoderState, IsKnown, Reports, StateCall, TakesSoon, Waits, bytes_room, reported_event, sink_room, units_room}
 use Rattle.encoding_mem.specs.Utf8.{pieces_utf8}
-use Rattle.encoding_mem.specs.declared.decoder_result.DecoderResult.TheVariants.{InputEmpty, Malformed}
+use Rattle.encoding_mem.specs.declared.decoder_result.DecoderResult.TheVariants.{InputEmpty, Malformed, OutputFull}
 use Rattle.encoding_mem.specs.Decided.{AreBytes, IsDecided, IsUndecided}
 
 -- a malformed sequence of two bytes is reported at the offset where it ends
@@ -148,3 +148,28 @@ same_text_len p q e = cc
 
 ignored_is_not_known : ¬ (IsKnown (λ x. well_formed 3 [] ∷ []) [] false)
 ignored_is_not_known known = absurd (omega (arith, same_text_len (well_formed 3 []) known.0 (known.1 [] (λ last. refl)), known.2))
+
+-- A call into bytes that ends for lack of room leaves fewer than four free; at a malformed sequence, three or more.
+fewer_than_four_bytes : (before after : DecoderState) (src : List ℕ) (last : Bool) (read old new : ℕ) (W : List ℕ → Type 0)
+    → StateCall before after src last read W (bytes_room old new) OutputFull → new < 4
+fewer_than_four_bytes before after src last read old new W call = call.ends.0
+
+three_bytes_of_replacement : (before after : DecoderState) (src : List ℕ) (last : Bool) (read old new a b : ℕ) (W : List ℕ → Type 0)
+    → StateCall before after src last read W (bytes_room old new) (Malformed a b) → 3 ≤ new
+three_bytes_of_replacement before after src last read old new a b W call = call.ends
+
+-- into units, fewer than two, and one or more
+fewer_than_two_units : (before after : DecoderState) (src : List ℕ) (last : Bool) (read old new : ℕ) (W : List ℕ → Type 0)
+    → StateCall before after src last read W (units_room old new) OutputFull → new < 2
+fewer_than_two_units before after src last read old new W call = call.ends.0
+
+one_unit_of_replacement : (before after : DecoderState) (src : List ℕ) (last : Bool) (read old new a b : ℕ) (W : List ℕ → Type 0)
+    → StateCall before after src last read W (units_room old new) (Malformed a b) → 1 ≤ new
+one_unit_of_replacement before after src last read old new a b W call = call.ends
+
+-- what is free in a destination is counted before the call and after it
+room_of_bytes : sink_room false (length {A = ℕ}) (0x41 ∷ 0x42 ∷ 0x43 ∷ []) (0x41 ∷ []) ≡ bytes_room 3 1
+room_of_bytes = refl
+
+room_of_units : sink_room true (length {A = ℕ}) (0x41 ∷ 0x42 ∷ 0x43 ∷ []) (0x41 ∷ []) ≡ units_room 3 1
+room_of_units = refl

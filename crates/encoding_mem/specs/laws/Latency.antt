@@ -32,10 +32,10 @@ takes_soon before after src last size pending taken counted rest ends r ps more 
         ]
 
 -- of a call up to a malformed sequence
-pub call_takes_soon : (before after : DecoderState) (src : List ℕ) (last : Bool) (read : ℕ) (W : List ℕ → Type 0) (free room mark : ℕ)
-    → (law : StateLaw before after src last read W InputEmpty) → EndsWith after (drop read src) last free room mark InputEmpty
+pub call_takes_soon : (before after : DecoderState) (src : List ℕ) (last : Bool) (read : ℕ) (W : List ℕ → Type 0) (free room replacement : ℕ)
+    → (law : StateLaw before after src last read W InputEmpty) → EndsWith after (drop read src) last free room replacement InputEmpty
     → TakesSoon before.pieces src last (before.pending + length src) law.taken
-call_takes_soon before after src last read W free room mark law ends =
+call_takes_soon before after src last read W free room replacement law ends =
     let whole : read ≡ length src = omega (arith, ap length ends.0, length-drop read src, law.within) in
     takes_soon before.pieces after.pieces src last (before.pending + length src) after.pending law.taken (omega (arith, law.counted, whole))
     (λ r stops. law.rest r stops ∙ ap (λ x. law.taken ++ after.pieces (x ++ r)) ends.0) ends.1

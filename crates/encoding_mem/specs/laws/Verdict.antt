@@ -100,9 +100,9 @@ pub part_is_decided : (pieces now : List ℕ → List Piece) (bytes left : List 
 part_is_decided pieces now bytes left taken p = λ r. (now (left ++ r), p.rest r)
 
 -- if a call returns InputEmpty, all that can be is decided
-pub part_ends : (pieces : List ℕ → List Piece) (after : DecoderState) (bytes left : List ℕ) (taken : List Piece) (free room mark : ℕ) → HasTakenPart pieces after.pieces bytes left taken
-    → EndsWith after left false free room mark InputEmpty → HasTaken pieces after.pieces bytes taken
-part_ends pieces after bytes left taken free room mark p ends = record {
+pub part_ends : (pieces : List ℕ → List Piece) (after : DecoderState) (bytes left : List ℕ) (taken : List Piece) (free room replacement : ℕ) → HasTakenPart pieces after.pieces bytes left taken
+    → EndsWith after left false free room replacement InputEmpty → HasTaken pieces after.pieces bytes taken
+part_ends pieces after bytes left taken free room replacement p ends = record {
   rest = λ r. p.rest r ∙ ap (λ l. taken ++ after.pieces (l ++ r)) ends.0;
   nothing = elim ends.1 [ inl none ↦ inl none.1 | inr waits ↦ inr waits.1.undecided ];
 }

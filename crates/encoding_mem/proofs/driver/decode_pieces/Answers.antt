@@ -1,4 +1,4 @@
-use Rattle.std.proofs.Common.{◌≡◌, ℕ, ◌*◌, ◌-◌, ◌≤◌, List, length, take, drop, false, length-take, refl, subst, ap, ◌∙◌, arith, encode_utf8_all, rules}
+use Rattle.std.proofs.Common.{◌≡◌, ℕ, ◌*◌, ◌-◌, ◌<◌, ◌≤◌, List, length, take, drop, false, length-take, refl, subst, ap, ◌∙◌, arith, encode_utf8_all, rules}
 use Rattle.std.proofs.lemmas.List.{length-take-le}
 use Rattle.encoding_mem.specs.Piece.{AreWellFormed, piece_scalars}
 use Rattle.encoding_mem.specs.calls.Decoding.{Takes}
@@ -75,7 +75,7 @@ returns-in-Broke-clause-call g c =
     let i = c.pieces.invariant in
     let F = g.F.DecoderRule in
     ends_malformed (F.pieces c.args.codec.now) (F.pieces c.pieces.codec) (F.pieces c.take_piece.new.codec) (F.needs c.args.codec.now) (F.needs c.pieces.codec) (F.needs c.take_piece.new.codec) g.S.Sink.is_units c.args.last c.args.src.now c.pieces.rest.now _
-    (g.S.Sink.free c.pieces.sink) _ _ _ (λ t. g.S.Sink.writes c.args.sink.now t c.pieces.sink) _ c.pieces.pending c.in-Broke.n i.none i.so_far s.0 s.1 (λ t w. rw s.2 w) s.3 c.in-Broke.ensures.room
+    (g.S.Sink.free c.pieces.sink) _ (λ t. g.S.Sink.writes c.args.sink.now t c.pieces.sink) _ c.pieces.pending c.in-Broke.n i.none i.so_far s.0 s.1 (λ t w. rw s.2 w) (subst (λ n. n ≤ g.S.Sink.free c.take_piece.new.sink) (g.met.S.Sink.cost_is 0xFFFD) s.3) c.in-Broke.ensures.room
 
 pub returns-in-Full-clause-call : goal.returns-in-Full-clause-call
 returns-in-Full-clause-call g c =
@@ -85,8 +85,8 @@ returns-in-Full-clause-call g c =
     let free = g.S.Sink.free in
     let room = c.in-Full.ensures.room in
     rw (s.2, s.3)
-    (ends_full (F.pieces c.args.codec.now) (F.pieces c.pieces.codec) (F.needs c.args.codec.now) (F.needs c.pieces.codec) g.S.Sink.is_units c.args.last c.args.src.now c.pieces.rest.now (free c.args.sink.now) (free c.pieces.sink) _ _
-    (λ t. g.S.Sink.writes c.args.sink.now t c.pieces.sink) c.pieces.pending i.none i.so_far (rw s.3 at s.0) s.1 room)
+    (ends_full (F.pieces c.args.codec.now) (F.pieces c.pieces.codec) (F.needs c.args.codec.now) (F.needs c.pieces.codec) g.S.Sink.is_units c.args.last c.args.src.now c.pieces.rest.now (free c.args.sink.now) (free c.pieces.sink)
+    (λ t. g.S.Sink.writes c.args.sink.now t c.pieces.sink) c.pieces.pending i.none i.so_far (subst (λ n. free c.pieces.sink < n) g.met.S.Sink.room_is (rw s.3 at s.0)) s.1 room)
 
 pub returns-in-Wait-clause-call : goal.returns-in-Wait-clause-call
 returns-in-Wait-clause-call g c =
@@ -95,11 +95,11 @@ returns-in-Wait-clause-call g c =
     let F = g.F.DecoderRule in
     let free = g.S.Sink.free in
     rw (s.4, s.5)
-    (ends_waiting (F.pieces c.args.codec.now) (F.pieces c.pieces.codec) (F.needs c.args.codec.now) (F.needs c.pieces.codec) g.S.Sink.is_units c.args.last c.args.src.now c.pieces.rest.now (free c.args.sink.now) (free c.pieces.sink) _ _
+    (ends_waiting (F.pieces c.args.codec.now) (F.pieces c.pieces.codec) (F.needs c.args.codec.now) (F.needs c.pieces.codec) g.S.Sink.is_units c.args.last c.args.src.now c.pieces.rest.now (free c.args.sink.now) (free c.pieces.sink)
     (λ t. g.S.Sink.writes c.args.sink.now t c.pieces.sink) c.fill.new.self c.fill.ensures i.so_far s.0 s.1 s.2 s.3)
 
 pub returns-clause-call : goal.returns-clause-call
 returns-clause-call g c =
     let i = c.pieces.invariant in
     let nothing : length c.pieces.rest.now ≡ 0 = search rules in
-    ends_empty _ _ _ _ _ _ _ _ _ _ _ _ _ c.pieces.pending i.none i.so_far nothing
+    ends_empty _ _ _ _ _ _ _ _ _ _ _ c.pieces.pending i.none i.so_far nothing

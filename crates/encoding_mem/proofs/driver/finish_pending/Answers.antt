@@ -1,4 +1,4 @@
-use Rattle.std.proofs.Common.{◌≡◌, ◌≤◌, IsTrue, length, length-drop, refl, sym, subst, ap, ◌∙◌, arith, rules, false, inr}
+use Rattle.std.proofs.Common.{◌≡◌, ◌<◌, ◌≤◌, IsTrue, length, length-drop, refl, sym, subst, ap, ◌∙◌, arith, rules, false, inr}
 use Rattle.std.proofs.lemmas.Bool.{eqb-true}
 use Rattle.std.proofs.lemmas.List.{append-nil, drop_all, nil_from_length}
 use Rattle.encoding_mem.specs.Piece.{malformed, AreWellFormed, piece_scalars}
@@ -32,7 +32,7 @@ returns-in-Broke-clause-call g c =
     let few : length c.remove_prefix-in-Broke.new.self ≤ 3 = left_few (g.F.DecoderRule.pieces c.pieces.codec) (g.F.DecoderRule.pieces c.take_piece.new.codec) c.as_slice.result.now c.pieces.pending _ c.if-last.take_piece (malformed c.in-Broke.n) c.in-Broke.n refl c.as_slice.ensures c.remove_prefix-in-Broke.ensures c.pieces.invariant.near s.0 in
     record {
       law = took_pending_of (λ now. Reports (Malformed c.in-Broke.n c.len-behind.result) (length now)) _ (g.F.DecoderRule.pieces c.pieces.codec) (g.F.DecoderRule.pieces c.take_piece.new.codec) c.args.src.now c.as_slice.result.now c.args.last c.if-last.take_piece _ c.pieces.pending c.remove_prefix-in-Broke.new.self c.pieces.read (λ t. g.S.Sink.writes c.args.sink.now t c.pieces.sink) (λ t. g.S.Sink.writes c.args.sink.now t c.take_piece.new.sink) (malformed c.in-Broke.n) c.in-Broke.n refl c.as_slice.ensures c.remove_prefix-in-Broke.ensures ends c.pieces.invariant.takes s.0 (λ ps a. (sym c.len-behind.ensures.exact, s.1, omega (arith, c.len-behind.ensures.exact, few), omega (arith, c.len-behind.ensures.exact, c.pieces.invariant.short, s.0.within, ap length c.as_slice.ensures, ap length c.remove_prefix-in-Broke.ensures, length-drop c.in-Broke.n c.pieces.pending), (ps, a, refl))) (λ t w. rw append-nil (rw s.2 w));
-      ends = s.3;
+      ends = subst (λ n. n ≤ g.S.Sink.free c.take_piece.new.sink) (g.met.S.Sink.cost_is 0xFFFD) s.3;
       enough = λ k m units stops h. pending_room (g.F.DecoderRule.needs c.pieces.codec) c.if-last.take_piece c.args.last g.S.Sink.is_units (length c.args.src.now) c.pieces.read (g.S.Sink.free c.pieces.sink) c.as_slice.result.now c.pieces.pending c.remove_prefix-in-Broke.new.self c.in-Broke.n
           (λ k x. left_after (counts_past_malformed k) (replacement_len g.S.Sink.is_units) (g.F.DecoderRule.needs c.take_piece.new.codec k x) ≤ g.S.Sink.free c.take_piece.new.sink) c.as_slice.ensures c.remove_prefix-in-Broke.ensures (omega (arith, s.0.within, ap length c.as_slice.ensures)) ends c.in-Broke.ensures.room k m units stops (c.pieces.invariant.enough k m units stops h);
       short = omega (arith, few);
@@ -48,7 +48,7 @@ returns-in-Full-clause-call g c =
     record {
       law = search rules;
       ends = (
-        s.0,
+        subst (λ n. g.S.Sink.free c.take_piece.new.sink < n) g.met.S.Sink.room_is s.0,
         (
           s.1.0,
           rw s.2 (known_next (P c.pieces.codec) s.1.1 c.as_slice.result.now c.pieces.pending c.args.src.now c.args.last c.if-last.take_piece c.pieces.read s.1.0 c.as_slice.ensures ends s.1.2),

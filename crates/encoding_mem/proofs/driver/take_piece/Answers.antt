@@ -1,7 +1,7 @@
 use Rattle.std.proofs.Common.{◌≤◌, false, IsTrue, [], ◌∷◌, length, refl, arith}
 use Rattle.encoding_mem.specs.Piece.{well_formed}
 use Rattle.encoding_mem.specs.calls.DecodedLength.{counts_past_malformed, cost_in, replacement_len, two_in}
-use Rattle.encoding_mem.proofs.DecoderCallLemmas.{has_room, mark_first}
+use Rattle.encoding_mem.proofs.DecoderCallLemmas.{has_room, replacement_first}
 use Rattle.encoding_mem.proofs.driver.take_piece.Goals as goal
 
 pub returns-else-not-has_room-clause-step : goal.returns-else-not-has_room-clause-step
@@ -28,5 +28,5 @@ returns-then-not-has_room-clause-room g c k m units window whole h =
 pub returns-then-not-fits-2-clause-room : goal.returns-then-not-fits-2-clause-room
 returns-then-not-fits-2-clause-room g c k m units window whole h =
     let e = c.in-Malformed.ensures in
-    let fits : replacement_len g.S.Sink.is_units ≤ g.S.Sink.free c.args.sink.now = has_room (g.F.DecoderRule.needs c.args.codec.now) replacement_len c.in-Malformed.n (length c.args.bytes.now) m (g.S.Sink.free c.args.sink.now) c.args.last g.S.Sink.is_units k units e.piece.0.within window whole (λ j l. mark_first (counts_past_malformed k) _ _ _ (e.room k j l)) h in
+    let fits : replacement_len g.S.Sink.is_units ≤ g.S.Sink.free c.args.sink.now = has_room (g.F.DecoderRule.needs c.args.codec.now) replacement_len c.in-Malformed.n (length c.args.bytes.now) m (g.S.Sink.free c.args.sink.now) c.args.last g.S.Sink.is_units k units e.piece.0.within window whole (λ j l. replacement_first (counts_past_malformed k) _ _ _ (e.room k j l)) h in
     let no : IsTrue false = c.if-not-fits-2.ensures.1 (omega (arith, g.met.S.Sink.cost_is 0xFFFD, fits)) in cc
