@@ -492,10 +492,10 @@ takes_well_formed InputEmpty p P M src last held left n W e h = h
 takes_well_formed OutputFull p P M src last held left n W e h = cc
 takes_well_formed (Malformed a b) p P M src last held left n W e h = cc
 
-pub none_left : (outcome : DecoderResult) (s : DecoderState) (unread : List ℕ) (last : Bool) (free room mark : ℕ) → outcome ≡ InputEmpty → EndsWith s unread last free room mark outcome → unread ≡ []
-none_left InputEmpty s unread last free room mark e h = h.0
-none_left OutputFull s unread last free room mark e h = cc
-none_left (Malformed a b) s unread last free room mark e h = cc
+pub none_left : (outcome : DecoderResult) (s : DecoderState) (unread : List ℕ) (last : Bool) (free room replacement : ℕ) → outcome ≡ InputEmpty → EndsWith s unread last free room replacement outcome → unread ≡ []
+none_left InputEmpty s unread last free room replacement e h = h.0
+none_left OutputFull s unread last free room replacement e h = cc
+none_left (Malformed a b) s unread last free room replacement e h = cc
 
 -- all held bytes are read by a call, and some of the source by the next
 pub takes_then : (O M A : DecoderState) (outcome : DecoderResult) (held bytes after src : List ℕ) (last : Bool) (n read : ℕ) (V W Z : List ℕ → Type 0)
@@ -524,17 +524,17 @@ takes_then O M A outcome held bytes after src last n read V W Z same is none wri
     }
 
 -- if nothing is held
-pub ends_none : (s : DecoderState) (held unread : List ℕ) (last : Bool) (free room mark : ℕ) (outcome : DecoderResult) → length held ≡ 0 → EndsWith s unread last free room mark outcome → EndsWith (held_state s held) unread last free room mark outcome
-ends_none s (b ∷ x) unread last free room mark outcome e h = absurd (omega (arith, e))
-ends_none s [] unread last free room mark InputEmpty e h = (
+pub ends_none : (s : DecoderState) (held unread : List ℕ) (last : Bool) (free room replacement : ℕ) (outcome : DecoderResult) → length held ≡ 0 → EndsWith s unread last free room replacement outcome → EndsWith (held_state s held) unread last free room replacement outcome
+ends_none s (b ∷ x) unread last free room replacement outcome e h = absurd (omega (arith, e))
+ends_none s [] unread last free room replacement InputEmpty e h = (
   h.0,
   elim h.1 [
     | inl none ↦ inl (omega (arith, none.0), none.1)
     | inr waits ↦ inr (waits.0, record { short = omega (arith, waits.1.short); undecided = waits.1.undecided; soon = λ r p f. omega (arith, waits.1.soon r p f) })
   ],
 )
-ends_none s [] unread last free room mark OutputFull e h = h
-ends_none s [] unread last free room mark (Malformed a b) e h = h
+ends_none s [] unread last free room replacement OutputFull e h = h
+ends_none s [] unread last free room replacement (Malformed a b) e h = h
 
 -- No byte is held.
 pub law_none : (s u : DecoderState) (held src : List ℕ) (last : Bool) (read : ℕ) (W : List ℕ → Type 0) (outcome : DecoderResult) → length held ≡ 0

@@ -7,12 +7,12 @@ use Rattle.encoding_mem.specs.calls.Writing.{len_utf16, Adds}
 use Rattle.encoding_mem.specs.Piece.{Piece, malformed, text, scalars, sizes, malformed_count, AreWellFormed, head_piece, ArePieces}
 use Rattle.encoding_mem.specs.laws.Piece.{sizes-append, scalars-append, text-append, malformed_count-append, well_formed_count, well_formed_text}
 use Rattle.encoding_mem.specs.calls.Decoding.{Takes, Reports, DecoderState, EndsWith, Suffices}
-use Rattle.encoding_mem.specs.calls.DecodedLength.{is_units, counts_past_malformed, replacement_len, left_after}
+use Rattle.encoding_mem.specs.calls.DecodedLength.{is_units, counts_past_malformed, replacement_len, two_in, left_after}
 use Rattle.encoding_mem.specs.declared.room.OutputUnit.{OutputUnit}
 use Rattle.encoding_mem.specs.declared.decoder_result.DecoderResult.{DecoderResult}
 use Rattle.encoding_mem.specs.declared.decoder_result.DecoderResult.TheVariants.{OutputFull, Malformed, InputEmpty}
 use Rattle.encoding_front.specs.calls.DecodedText.{TakesText, SufficesText, raw_result}
-use Rattle.encoding_front.specs.calls.DecoderCall.{DecoderCall, TextCall}
+use Rattle.encoding_front.specs.calls.DecoderCall.{DecoderCall, RoomLeft, TextCall, free_bytes}
 use Rattle.encoding_front.specs.calls.TakesMark.{LeavesRoom}
 use Rattle.encoding_front.proofs.BomLemmas.{reports_join}
 use Rattle.std.specs.Str.{IsUtf8}
@@ -82,17 +82,17 @@ reports_raw : (result : CoderResult) (b : ℕ) → Reports (raw_result result) b
 reports_raw CoderResult.InputEmpty b = refl
 reports_raw CoderResult.OutputFull b = refl
 
-pub text_ends : (was mid now : DecoderView) (outcome : DecoderResult) (result : CoderResult) (src left : List ℕ) (last : Bool) (n read free room mark : ℕ) (had : Bool) (V W Z : List ℕ → Type 0)
+pub text_ends : (was mid now : DecoderView) (outcome : DecoderResult) (result : CoderResult) (src left : List ℕ) (last : Bool) (n read : ℕ) (room : RoomLeft) (had : Bool) (V W Z : List ℕ → Type 0)
     → outcome ≡ raw_result result → left ≡ drop n src → ((t u : List ℕ) → V t → W u → Z (t ++ u))
     → TakesText was.state.pieces mid.state.pieces src last was.state.pending mid.state.pending n V had
     → ((r : List ℕ) → (IsTrue last → r ≡ []) → was.source (src ++ r) ≡ mid.source (drop n src ++ r))
-    → DecoderCall mid now left last read W free room mark outcome → TextCall was now src last (n + read) Z free room mark result had
-text_ends was mid now outcome result src left last n read free room mark had V W Z is left_is writes taken source h =
+    → DecoderCall mid now left last read W room outcome → TextCall was now src last (n + read) Z room result had
+text_ends was mid now outcome result src left last n read room had V W Z is left_is writes taken source h =
     let unread : drop read left ≡ drop (n + read) src = ap (λ x. drop read x) left_is ∙ drop-drop read n src in
     record {
       law = then_ends was.state.pieces mid.state.pieces now.state.pieces outcome src left last was.state.pending mid.state.pending now.state.pending n read now.state.pending had V W Z
           (ap (λ (o : DecoderResult). Reports o now.state.pending) is ∙ reports_raw result now.state.pending) left_is writes taken h.law;
-      ends = subst (λ (o : DecoderResult). EndsWith now.state (drop (n + read) src) last free room mark o) is (subst (λ (x : List ℕ). EndsWith now.state x last free room mark outcome) unread h.ends);
+      ends = subst (λ (o : DecoderResult). EndsWith now.state (drop (n + read) src) last room.free (two_in room.in_units) (replacement_len room.in_units) o) is (subst (λ (x : List ℕ). EndsWith now.state x last room.free (two_in room.in_units) (replacement_len room.in_units) outcome) unread h.ends);
       source = λ r e. source r e ∙ ap (λ x. mid.source (x ++ r)) (sym left_is) ∙ h.source r e ∙ ap (λ x. now.source (x ++ r)) unread;
       finished = h.finished ∙ ap (finishes last) is;
     }
@@ -133,9 +133,9 @@ mark_cost : (t : Bool) → cond t (len_utf16 0xFFFD) (len_utf8 0xFFFD) ≡ repla
 mark_cost true = refl
 mark_cost false = refl
 
-left_on : (b : Bool) (mark more free : ℕ) → b ≡ true → left_after b mark more ≤ free → mark + more ≤ free
-left_on true mark more free e h = h
-left_on false mark more free e h = cc
+left_on : (b : Bool) (replacement more free : ℕ) → b ≡ true → left_after b replacement more ≤ free → replacement + more ≤ free
+left_on true replacement more free e h = h
+left_on false replacement more free e h = cc
 
 pub suffices_malformed : (before now after : OutputUnit → ℕ → ℕ) (t last : Bool) (size left n read old mid new rest a b cost : ℕ) (outcome : DecoderResult) → outcome ≡ Malformed a b → left ≡ size - n → cost ≡ cond t (len_utf16 0xFFFD) (len_utf8 0xFFFD) → rest + cost ≡ new → n ≤ size → read ≤ left
     → SufficesText before now t last size (size - n) old mid → Suffices now after t last left (left - read) mid new outcome → SufficesText before after t last size (size - (n + read)) old rest
@@ -171,10 +171,9 @@ takes_settled P M N A B outcome src left last p q s n read W m b is h k = record
       ∙ ap (λ x. (h.taken ++ k.taken) ++ x) (ap A more ∙ sym (b (drop (n + read) src ++ r)));
 }
 
--- with the same room, by whatever names
-pub ends_settled : (s t : DecoderState) (left unread : List ℕ) (last : Bool) (free room room' replacement replacement' : ℕ) (outcome : DecoderResult) → ((x : List ℕ) → t.pieces x ≡ s.pieces x) → t.pending ≡ s.pending → left ≡ unread → room' ≡ room → replacement' ≡ replacement
-    → EndsWith s left last free room replacement outcome → EndsWith t unread last free room' replacement' outcome
-ends_settled s t left unread last free room room' replacement replacement' InputEmpty same e is a b h = (
+pub ends_settled : (s t : DecoderState) (left unread : List ℕ) (last : Bool) (free room replacement : ℕ) (outcome : DecoderResult) → ((x : List ℕ) → t.pieces x ≡ s.pieces x) → t.pending ≡ s.pending → left ≡ unread
+    → EndsWith s left last free room replacement outcome → EndsWith t unread last free room replacement outcome
+ends_settled s t left unread last free room replacement InputEmpty same e is h = (
   sym is ∙ h.0,
   elim h.1 [
     | inl none ↦ inl (e ∙ none.0, same [] ∙ none.1)
@@ -193,8 +192,8 @@ ends_settled s t left unread last free room room' replacement replacement' Input
     )
   ],
 )
-ends_settled s t left unread last free room room' replacement replacement' OutputFull same e is a b h = (omega (arith, h.0, a), (h.1.0, (λ r f. ap head_piece (same (unread ++ r)) ∙ ap (λ x. head_piece (s.pieces (x ++ r))) (sym is) ∙ h.1.1 r f), h.1.2))
-ends_settled s t left unread last free room room' replacement replacement' (Malformed m n) same e is a b h = omega (arith, h, b)
+ends_settled s t left unread last free room replacement OutputFull same e is h = (h.0, (h.1.0, (λ r f. ap head_piece (same (unread ++ r)) ∙ ap (λ x. head_piece (s.pieces (x ++ r))) (sym is) ∙ h.1.1 r f), h.1.2))
+ends_settled s t left unread last free room replacement (Malformed a b) same e is h = h
 
 -- W is what is needed before the mark is looked for, and X and B are N and A by another name
 pub suffices_settled : (W X N A B : OutputUnit → ℕ → ℕ) (t last : Bool) (size left n read old new : ℕ) (outcome : DecoderResult) → ((k : OutputUnit) (m : ℕ) → X k m ≡ N k m) → ((k : OutputUnit) (m : ℕ) → B k m ≡ A k m)
@@ -241,9 +240,9 @@ all_read CoderResult.InputEmpty never = refl
 all_read CoderResult.OutputFull never = absurd (never refl)
 
 pub whole_call : (v v' : DecoderView) (t : IndexLists) (mark : Mark) (e : Encoding) (x old new : List ℕ) (outcome : CoderResult) (read written free : ℕ) (had : Bool)
-    → IsNewDecoder v t mark e → outcome ≢ CoderResult.OutputFull → TextCall v v' x true read (λ (l : List ℕ). Adds old 0 (encode_utf8_all l) new written) free 4 3 outcome had → IsWhole t mark e x new written had
+    → IsNewDecoder v t mark e → outcome ≢ CoderResult.OutputFull → TextCall v v' x true read (λ (l : List ℕ). Adds old 0 (encode_utf8_all l) new written) (free_bytes free) outcome had → IsWhole t mark e x new written had
 whole_call v v' t mark e x old new outcome read written free had begins never call =
-    let wrote = wrote_text v v' x read (λ (l : List ℕ). Adds old 0 (encode_utf8_all l) new written) free 4 3 outcome had call (all_read outcome never) in
+    let wrote = wrote_text v v' x read (λ (l : List ℕ). Adds old 0 (encode_utf8_all l) new written) (free_bytes free) outcome had call (all_read outcome never) in
     whole_of v t mark e x old new written had begins wrote.0 wrote.1
 
 -- without replacement, if no piece is malformed
@@ -253,10 +252,10 @@ all_decoded DecoderResult.OutputFull never fine = absurd (never refl)
 all_decoded (Malformed a b) never fine = absurd (fine a b refl)
 
 pub well_formed_call : (v v' : DecoderView) (t : IndexLists) (mark : Mark) (e : Encoding) (x old new : List ℕ) (outcome : DecoderResult) (read written free : ℕ)
-    → IsNewDecoder v t mark e → outcome ≢ DecoderResult.OutputFull → ((a b : ℕ) → outcome ≢ Malformed a b) → DecoderCall v v' x true read (λ (l : List ℕ). Adds old 0 (encode_utf8_all l) new written) free 4 3 outcome
+    → IsNewDecoder v t mark e → outcome ≢ DecoderResult.OutputFull → ((a b : ℕ) → outcome ≢ Malformed a b) → DecoderCall v v' x true read (λ (l : List ℕ). Adds old 0 (encode_utf8_all l) new written) (free_bytes free) outcome
     → IsWhole t mark e x new written false
 well_formed_call v v' t mark e x old new outcome read written free begins never fine call =
-    let wrote = wrote_scalars v v' x read (λ (l : List ℕ). Adds old 0 (encode_utf8_all l) new written) free 4 3 outcome call (all_decoded outcome never fine) in
+    let wrote = wrote_scalars v v' x read (λ (l : List ℕ). Adds old 0 (encode_utf8_all l) new written) (free_bytes free) outcome call (all_decoded outcome never fine) in
     whole_of v t mark e x old new written false begins wrote.0 (λ h. absurd (cc), λ some. absurd (omega (arith, some, well_formed_count (v.state.pieces x) wrote.1)))
 
 -- and if one is

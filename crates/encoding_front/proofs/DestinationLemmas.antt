@@ -6,12 +6,13 @@ use Rattle.std.proofs.lemmas.Str.{IsUtf8-append}
 use Rattle.std.proofs.Math.Utf8.{scalar}
 use Rattle.std.specs.Str.{all_scalars, IsUtf8}
 use Rattle.encoding_mem.specs.Piece.{Piece, well_formed, malformed, text, scalars, ArePieces}
+use Rattle.encoding_mem.specs.calls.DecodedLength.{replacement_len, two_in}
 use Rattle.encoding_mem.specs.calls.Decoding.{DecoderState, EndsWith, Takes}
 use Rattle.encoding_mem.specs.declared.decoder_result.DecoderResult.{DecoderResult}
 use Rattle.encoding_mem.specs.calls.TextDestination.{cleared, Overwrites}
 use Rattle.encoding_mem.specs.calls.Writing.{Adds}
 use Rattle.encoding_front.specs.calls.DecodedText.{TakesText, raw_result}
-use Rattle.encoding_front.specs.calls.DecoderCall.{DecoderCall, TextCall}
+use Rattle.encoding_front.specs.calls.DecoderCall.{DecoderCall, TextCall, free_in_sink}
 use Rattle.encoding_front.specs.calls.Stream.{DecoderView}
 use Rattle.encoding_front.specs.declared.coder_result.CoderResult.{CoderResult}
 use borrow.Rule.Slice.PartMut.{put_mid}
@@ -43,20 +44,20 @@ pub scalars_are : (WellFormed : List Piece → Type 0) (s : DecoderState) (A : L
 scalars_are WellFormed s A src last p q n W h = are_scalars h.taken (prefix_pieces h.taken _ (subst ArePieces (h.rest [] (λ _. refl)) (s.are_pieces (src ++ []))))
 
 -- another destination, of which as much is free
-pub text_into : (v v' : DecoderView) (src : List ℕ) (last : Bool) (n : ℕ) (V Z : List ℕ → Type 0) (free free' room mark : ℕ) (outcome : CoderResult) (had : Bool)
-    → ((t : List ℕ) → V t → Z t) → free ≡ free' → TextCall v v' src last n V free room mark outcome had → TextCall v v' src last n Z free' room mark outcome had
-text_into v v' src last n V Z free free' room mark outcome had f e h = record {
+pub text_into : (v v' : DecoderView) (src : List ℕ) (last : Bool) (n : ℕ) (V Z : List ℕ → Type 0) (in_units : Bool) (free free' : ℕ) (outcome : CoderResult) (had : Bool)
+    → ((t : List ℕ) → V t → Z t) → free ≡ free' → TextCall v v' src last n V (free_in_sink in_units free) outcome had → TextCall v v' src last n Z (free_in_sink in_units free') outcome had
+text_into v v' src last n V Z in_units free free' outcome had f e h = record {
   law = record { taken = h.law.taken; had = h.law.had; within = h.law.within; counted = h.law.counted; writes = f (text h.law.taken) h.law.writes; rest = h.law.rest };
-  ends = subst (λ (k : ℕ). EndsWith v'.state (drop n src) last k room mark (raw_result outcome)) e h.ends;
+  ends = subst (λ (k : ℕ). EndsWith v'.state (drop n src) last k (two_in in_units) (replacement_len in_units) (raw_result outcome)) e h.ends;
   source = h.source;
   finished = h.finished;
 }
 
-pub scalars_into : (v v' : DecoderView) (src : List ℕ) (last : Bool) (n : ℕ) (V Z : List ℕ → Type 0) (free free' room mark : ℕ) (outcome : DecoderResult)
-    → ((t : List ℕ) → V t → Z t) → free ≡ free' → DecoderCall v v' src last n V free room mark outcome → DecoderCall v v' src last n Z free' room mark outcome
-scalars_into v v' src last n V Z free free' room mark outcome f e h = record {
+pub scalars_into : (v v' : DecoderView) (src : List ℕ) (last : Bool) (n : ℕ) (V Z : List ℕ → Type 0) (in_units : Bool) (free free' : ℕ) (outcome : DecoderResult)
+    → ((t : List ℕ) → V t → Z t) → free ≡ free' → DecoderCall v v' src last n V (free_in_sink in_units free) outcome → DecoderCall v v' src last n Z (free_in_sink in_units free') outcome
+scalars_into v v' src last n V Z in_units free free' outcome f e h = record {
   law = record { taken = h.law.taken; well_formed = h.law.well_formed; within = h.law.within; counted = h.law.counted; writes = f (scalars h.law.taken) h.law.writes; rest = h.law.rest };
-  ends = subst (λ (k : ℕ). EndsWith v'.state (drop n src) last k room mark outcome) e h.ends;
+  ends = subst (λ (k : ℕ). EndsWith v'.state (drop n src) last k (two_in in_units) (replacement_len in_units) outcome) e h.ends;
   source = h.source;
   finished = h.finished;
 }

@@ -13,6 +13,7 @@ ghost use Rattle.encoding_mem.specs.declared.room.OutputUnit.TheVariants.{Units,
 ghost use Rattle.encoding_front.specs.calls.BomDecoderState.{bom_decoder_state};
 ghost use Rattle.encoding_front.specs.calls.DecodedText.{NeverFull};
 ghost use Rattle.encoding_front.specs.calls.DecoderCall.{DecoderCall, IfRoomAsked, TextCall};
+ghost use Rattle.encoding_front.specs.calls.DecoderCall.{free_bytes, free_in_sink, free_units};
 ghost use Rattle.encoding_front.specs.Encodings.{IsReady};
 ghost use Rattle.encoding_front.specs.calls.CodecBounds.{decoded_length_of};
 ghost use Rattle.encoding_front.specs.calls.Latin1Prefix.{latin1_rule};
@@ -72,7 +73,7 @@ pub trait StreamDecoder {
         requires { (view self.old).finished ≡ false }
         ensures call { DecoderCall (view self.old) (view self.new) src.now last result.1
             (λ text. S.writes sink.old text sink.new)
-            (S.free sink.new) S.room (S.cost 0xFFFD) result.0 }
+            (free_in_sink S.is_units (S.free sink.new)) result.0 }
         ensures enough { Suffices (view self.old).state.needs (view self.new).state.needs
             S.is_units last (length src.now) (length src.now - result.1)
             (S.free sink.old) (S.free sink.new) result.0 };
@@ -305,7 +306,7 @@ impl<'t> Decoder<'t> {
         requires { (decoder_view self.old).finished ≡ false }
         ensures call { DecoderCall (decoder_view self.old) (decoder_view self.new) src.now last
             result.1 (λ text. Adds dst.old 0 (encode_utf8_all text) dst.new result.2)
-            (length (drop result.2 dst.new)) 4 3 result.0 }
+            (free_bytes (length (drop result.2 dst.new))) result.0 }
         ensures enough { IfRoomAsked (decoder_view self.old) Bytes (length src.now)
             (length dst.old) (result.0 ≢ DecoderResult.OutputFull) }
     {
@@ -338,7 +339,7 @@ impl<'t> Decoder<'t> {
         requires { (decoder_view self.old).finished ≡ false }
         ensures call { DecoderCall (decoder_view self.old) (decoder_view self.new) src.now last
             result.1 (λ text. Adds dst.old 0 (encode_utf16_all text) dst.new result.2)
-            (length (drop result.2 dst.new)) 2 1 result.0 }
+            (free_units (length (drop result.2 dst.new))) result.0 }
         ensures enough { IfRoomAsked (decoder_view self.old) Units (length src.now)
             (length dst.old) (result.0 ≢ DecoderResult.OutputFull) }
     {
@@ -438,7 +439,7 @@ impl<'t> Decoder<'t> {
         requires { (decoder_view self.old).finished ≡ false }
         ensures call { TextCall (decoder_view self.old) (decoder_view self.new) src.now last
             result.1 (λ text. S.writes sink.old text sink.new)
-            (S.free sink.new) S.room (S.cost 0xFFFD) result.0 result.2 }
+            (free_in_sink S.is_units (S.free sink.new)) result.0 result.2 }
         ensures enough { NeverFull (decoder_view self.old).state.needs S.is_units last
             (length src.now) (S.free sink.old) result.0 }
     {
@@ -479,7 +480,7 @@ impl<'t> Decoder<'t> {
         requires { (decoder_view self.old).finished ≡ false }
         ensures call { TextCall (decoder_view self.old) (decoder_view self.new) src.now last
             result.1 (λ text. Adds dst.old 0 (encode_utf8_all text) dst.new result.2)
-            (length (drop result.2 dst.new)) 4 3 result.0 result.3 }
+            (free_bytes (length (drop result.2 dst.new))) result.0 result.3 }
         ensures enough { IfRoomAsked (decoder_view self.old) Replaced (length src.now)
             (length dst.old) (result.0 ≢ CoderResult.OutputFull) }
     {
@@ -510,7 +511,7 @@ impl<'t> Decoder<'t> {
         requires { (decoder_view self.old).finished ≡ false }
         ensures call { TextCall (decoder_view self.old) (decoder_view self.new) src.now last
             result.1 (λ text. Adds dst.old 0 (encode_utf16_all text) dst.new result.2)
-            (length (drop result.2 dst.new)) 2 1 result.0 result.3 }
+            (free_units (length (drop result.2 dst.new))) result.0 result.3 }
         ensures enough { IfRoomAsked (decoder_view self.old) Units (length src.now)
             (length dst.old) (result.0 ≢ CoderResult.OutputFull) }
     {
@@ -537,7 +538,7 @@ impl<'t> Decoder<'t> {
         requires utf8 { IsUtf8 dst.old }
         ensures call { TextCall (decoder_view self.old) (decoder_view self.new) src.now last
             result.1 (λ text. Overwrites dst.old (encode_utf8_all text) dst.new result.2)
-            (length (drop result.2 dst.new)) 4 3 result.0 result.3 }
+            (free_bytes (length (drop result.2 dst.new))) result.0 result.3 }
         ensures enough { IfRoomAsked (decoder_view self.old) Replaced (length src.now)
             (length dst.old) (result.0 ≢ CoderResult.OutputFull) }
         ensures utf8 { IsUtf8 dst.new }
@@ -564,7 +565,7 @@ impl<'t> Decoder<'t> {
         requires utf8 { IsUtf8 dst.old }
         ensures call { DecoderCall (decoder_view self.old) (decoder_view self.new) src.now last
             result.1 (λ text. Overwrites dst.old (encode_utf8_all text) dst.new result.2)
-            (length (drop result.2 dst.new)) 4 3 result.0 }
+            (free_bytes (length (drop result.2 dst.new))) result.0 }
         ensures enough { IfRoomAsked (decoder_view self.old) Bytes (length src.now)
             (length dst.old) (result.0 ≢ DecoderResult.OutputFull) }
         ensures utf8 { IsUtf8 dst.new }
@@ -591,7 +592,7 @@ impl<'t> Decoder<'t> {
         ensures capacity { string_capacity dst.new ≡ string_capacity dst.old }
         ensures call { TextCall (decoder_view self.old) (decoder_view self.new) src.now last
             result.1 (λ text. string_bytes dst.new ≡ string_bytes dst.old ++ encode_utf8_all text)
-            (string_capacity dst.new - string_len dst.new) 4 3 result.0 result.2 }
+            (free_bytes (string_capacity dst.new - string_len dst.new)) result.0 result.2 }
         ensures enough { IfRoomAsked (decoder_view self.old) Replaced (length src.now)
             (string_capacity dst.old - string_len dst.old) (result.0 ≢ CoderResult.OutputFull) }
     {
@@ -621,7 +622,7 @@ impl<'t> Decoder<'t> {
         ensures capacity { string_capacity dst.new ≡ string_capacity dst.old }
         ensures call { DecoderCall (decoder_view self.old) (decoder_view self.new) src.now last
             result.1 (λ text. string_bytes dst.new ≡ string_bytes dst.old ++ encode_utf8_all text)
-            (string_capacity dst.new - string_len dst.new) 4 3 result.0 }
+            (free_bytes (string_capacity dst.new - string_len dst.new)) result.0 }
         ensures enough { IfRoomAsked (decoder_view self.old) Bytes (length src.now)
             (string_capacity dst.old - string_len dst.old) (result.0 ≢ DecoderResult.OutputFull) }
     {

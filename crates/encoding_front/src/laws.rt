@@ -23,7 +23,7 @@ ghost use Rattle.encoding_mem.specs.declared.form.EscapeState.TheVariants.{Ascii
 ghost use Rattle.encoding_tables.specs.IndexLists.{AreAcceptedTables, IndexLists};
 ghost use Rattle.encoding_front.specs.calls.ReportedCharacter.{ReportsItself};
 ghost use Rattle.encoding_front.specs.calls.DecoderCall.{DecoderCall, Destination, HasText};
-ghost use Rattle.encoding_front.specs.calls.DecoderCall.{TextCall};
+ghost use Rattle.encoding_front.specs.calls.DecoderCall.{RoomLeft, TextCall};
 ghost use Rattle.encoding_front.specs.calls.Encoder.{Encoded, EncoderState, Replaces, coding_in};
 ghost use Rattle.encoding_front.specs.EncodingTable.{encoding_name};
 ghost use Rattle.encoding_front.specs.Encodings.{HasLabel, KeepsCharacters, coding_of};
@@ -158,13 +158,12 @@ pub fn input_is_its_pieces()
 /// writes U+FFFD for it.
 pub fn pieces_are_passed_soon()
     ensures reported { (v v' : DecoderView) (src : List ℕ) (last : Bool) (read : ℕ)
-        → (there : Destination) (free room mark : ℕ)
-        → (call : DecoderCall v v' src last read (HasText there) free room mark
-        DecoderResult.InputEmpty)
+        → (there : Destination) (left : RoomLeft)
+        → (call : DecoderCall v v' src last read (HasText there) left DecoderResult.InputEmpty)
         → TakesSoon v.state.pieces src last (v.state.pending + length src) call.law.taken }
     ensures replaced { (v v' : DecoderView) (src : List ℕ) (last : Bool) (read : ℕ)
-        → (there : Destination) (free room mark : ℕ) (had_errors : Bool)
-        → (call : TextCall v v' src last read (HasText there) free room mark
+        → (there : Destination) (left : RoomLeft) (had_errors : Bool)
+        → (call : TextCall v v' src last read (HasText there) left
         CoderResult.InputEmpty had_errors)
         → TakesSoon v.state.pieces src last (v.state.pending + length src) call.law.taken }
 {}
@@ -174,22 +173,20 @@ pub fn pieces_are_passed_soon()
 /// malformed; if it stops at these, none is.
 pub fn last_calls_write_all_text()
     ensures replaced { (v v' : DecoderView) (src : List ℕ) (read : ℕ)
-        → (there : Destination) (free room mark : ℕ) (had_errors : Bool)
-        → TextCall v v' src true read (HasText there) free room mark
-        CoderResult.InputEmpty had_errors
+        → (there : Destination) (left : RoomLeft) (had_errors : Bool)
+        → TextCall v v' src true read (HasText there) left CoderResult.InputEmpty had_errors
         → HasText there (text (v.state.pieces src)) }
     ensures errors { (v v' : DecoderView) (src : List ℕ) (read : ℕ)
-        → (there : Destination) (free room mark : ℕ) (had_errors : Bool)
-        → TextCall v v' src true read (HasText there) free room mark
-        CoderResult.InputEmpty had_errors
+        → (there : Destination) (left : RoomLeft) (had_errors : Bool)
+        → TextCall v v' src true read (HasText there) left CoderResult.InputEmpty had_errors
         → IsTrue had_errors ↔ (0 < malformed_count (v.state.pieces src)) }
     ensures reported { (v v' : DecoderView) (src : List ℕ) (read : ℕ)
-        → (there : Destination) (free room mark : ℕ)
-        → DecoderCall v v' src true read (HasText there) free room mark DecoderResult.InputEmpty
+        → (there : Destination) (left : RoomLeft)
+        → DecoderCall v v' src true read (HasText there) left DecoderResult.InputEmpty
         → HasText there (text (v.state.pieces src)) }
     ensures well_formed { (v v' : DecoderView) (src : List ℕ) (read : ℕ)
-        → (there : Destination) (free room mark : ℕ)
-        → DecoderCall v v' src true read (HasText there) free room mark DecoderResult.InputEmpty
+        → (there : Destination) (left : RoomLeft)
+        → DecoderCall v v' src true read (HasText there) left DecoderResult.InputEmpty
         → AreWellFormed (v.state.pieces src) }
 {}
 

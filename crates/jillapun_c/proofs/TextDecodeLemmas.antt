@@ -5,12 +5,13 @@ use Rattle.std.proofs.lemmas.List.{drop_at, take_at}
 use Rattle.std.proofs.Math.Utf8.{scalar}
 use Rattle.std.specs.Str.{all_scalars}
 use Rattle.encoding_mem.specs.Piece.{Piece, well_formed, malformed, text, scalars, ArePieces}
+use Rattle.encoding_mem.specs.calls.DecodedLength.{replacement_len, two_in}
 use Rattle.encoding_mem.specs.calls.Decoding.{DecoderState, EndsWith, Takes}
 use Rattle.encoding_mem.specs.calls.Writing.{Adds}
 use Rattle.encoding_mem.specs.declared.decoder_result.DecoderResult.{DecoderResult}
 use Rattle.encoding_mem.specs.declared.room.OutputUnit.{OutputUnit}
 use Rattle.encoding_front.specs.calls.DecodedText.{raw_result}
-use Rattle.encoding_front.specs.calls.DecoderCall.{DecoderCall, TextCall}
+use Rattle.encoding_front.specs.calls.DecoderCall.{DecoderCall, TextCall, free_bytes}
 use Rattle.encoding_front.specs.calls.DecoderViews.{decoder_view}
 use Rattle.encoding_front.specs.calls.Stream.{DecoderView}
 use Rattle.encoding_front.specs.declared.coder_result.CoderResult.{CoderResult}
@@ -48,10 +49,10 @@ put_over : (old mid new : List ℕ) (w : ℕ) → PutsOver mid new w → (t : Li
 put_over old mid new w puts t are h = puts t old are (ap (take w) h.list ∙ take_at (encode_utf8_all t) (drop w old) w (omega (arith, h.counted)))
     (ap (drop w) h.list ∙ drop_at (encode_utf8_all t) (drop w old) w (omega (arith, h.counted)))
 
-text_over : (v v' : DecoderView) (src : List ℕ) (last : Bool) (n : ℕ) (old mid new : List ℕ) (w free room mark : ℕ) (outcome : CoderResult) (had : Bool) → PutsOver mid new w
-    → length (drop w mid) ≡ free → TextCall v v' src last n (λ t. Adds old 0 (encode_utf8_all t) mid w) (length (drop w mid)) room mark outcome had
-    → TextCall v v' src last n (λ t. TextIsPut old (encode_utf8_all t) new w) free room mark outcome had
-text_over v v' src last n old mid new w free room mark outcome had puts size h = record {
+text_over : (v v' : DecoderView) (src : List ℕ) (last : Bool) (n : ℕ) (old mid new : List ℕ) (w free : ℕ) (outcome : CoderResult) (had : Bool) → PutsOver mid new w
+    → length (drop w mid) ≡ free → TextCall v v' src last n (λ t. Adds old 0 (encode_utf8_all t) mid w) (free_bytes (length (drop w mid))) outcome had
+    → TextCall v v' src last n (λ t. TextIsPut old (encode_utf8_all t) new w) (free_bytes free) outcome had
+text_over v v' src last n old mid new w free outcome had puts size h = record {
   law = record {
     taken = h.law.taken;
     had = h.law.had;
@@ -60,15 +61,15 @@ text_over v v' src last n old mid new w free room mark outcome had puts size h =
     writes = put_over old mid new w puts (text h.law.taken) (text_scalars h.law.taken (prefix_pieces h.law.taken _ (subst ArePieces (h.law.rest [] (λ _. refl)) (v.state.are_pieces (src ++ []))))) h.law.writes;
     rest = h.law.rest;
   };
-  ends = subst (λ (k : ℕ). EndsWith v'.state (drop n src) last k room mark (raw_result outcome)) size h.ends;
+  ends = subst (λ (k : ℕ). EndsWith v'.state (drop n src) last k (two_in false) (replacement_len false) (raw_result outcome)) size h.ends;
   source = h.source;
   finished = h.finished;
 }
 
-scalars_over : (v v' : DecoderView) (src : List ℕ) (last : Bool) (n : ℕ) (old mid new : List ℕ) (w free room mark : ℕ) (outcome : DecoderResult) → PutsOver mid new w
-    → length (drop w mid) ≡ free → DecoderCall v v' src last n (λ t. Adds old 0 (encode_utf8_all t) mid w) (length (drop w mid)) room mark outcome
-    → DecoderCall v v' src last n (λ t. TextIsPut old (encode_utf8_all t) new w) free room mark outcome
-scalars_over v v' src last n old mid new w free room mark outcome puts size h = record {
+scalars_over : (v v' : DecoderView) (src : List ℕ) (last : Bool) (n : ℕ) (old mid new : List ℕ) (w free : ℕ) (outcome : DecoderResult) → PutsOver mid new w
+    → length (drop w mid) ≡ free → DecoderCall v v' src last n (λ t. Adds old 0 (encode_utf8_all t) mid w) (free_bytes (length (drop w mid))) outcome
+    → DecoderCall v v' src last n (λ t. TextIsPut old (encode_utf8_all t) new w) (free_bytes free) outcome
+scalars_over v v' src last n old mid new w free outcome puts size h = record {
   law = record {
     taken = h.law.taken;
     well_formed = h.law.well_formed;
@@ -77,7 +78,7 @@ scalars_over v v' src last n old mid new w free room mark outcome puts size h = 
     writes = put_over old mid new w puts (scalars h.law.taken) (are_scalars h.law.taken (prefix_pieces h.law.taken _ (subst ArePieces (h.law.rest [] (λ _. refl)) (v.state.are_pieces (src ++ []))))) h.law.writes;
     rest = h.law.rest;
   };
-  ends = subst (λ (k : ℕ). EndsWith v'.state (drop n src) last k room mark outcome) size h.ends;
+  ends = subst (λ (k : ℕ). EndsWith v'.state (drop n src) last k (two_in false) (replacement_len false) outcome) size h.ends;
   source = h.source;
   finished = h.finished;
 }
@@ -102,11 +103,11 @@ pub not_done : (held : Option Coder) (status : ℕ) (Then Other : Decoder → Ty
 not_done held status Then Other h other = record { closed = h.closed; finished = h.finished; done = λ d is live. absurd (other (h.done d is live).0) }
 
 -- with U+FFFD for each malformed sequence
-pub decodes_over : (held after : Option Coder) (unit : OutputUnit) (src : List ℕ) (last : Bool) (old mid new : List ℕ) (size free room mark status : ℕ) (p : Progress) → PutsOver mid new p.written
+pub decodes_over : (held after : Option Coder) (unit : OutputUnit) (src : List ℕ) (last : Bool) (old mid new : List ℕ) (size free status : ℕ) (p : Progress) → PutsOver mid new p.written
     → length (drop p.written mid) ≡ free
-    → AnswersDecoder held status (λ d. Decodes unit d after src last (λ t. Adds old 0 (encode_utf8_all t) mid p.written) size (length (drop p.written mid)) room mark p)
-    → AnswersDecoder held status (λ d. Decodes unit d after src last (λ t. TextIsPut old (encode_utf8_all t) new p.written) size free room mark p)
-decodes_over held after k src last old mid new size free room mark status p puts same h = record {
+    → AnswersDecoder held status (λ d. Decodes unit d after src last (λ t. Adds old 0 (encode_utf8_all t) mid p.written) size (free_bytes (length (drop p.written mid))) p)
+    → AnswersDecoder held status (λ d. Decodes unit d after src last (λ t. TextIsPut old (encode_utf8_all t) new p.written) size (free_bytes free) p)
+decodes_over held after k src last old mid new size free status p puts same h = record {
   closed = h.closed;
   finished = h.finished;
   done = λ d is live.
@@ -118,18 +119,18 @@ decodes_over held after k src last old mid new size free room mark status p puts
           outcome = did.outcome;
           told = did.told;
           no_length = did.no_length;
-          call = text_over (decoder_view d) (decoder_view did.decoder) src last p.read old mid new p.written free room mark did.outcome p.had_errors puts same did.call;
+          call = text_over (decoder_view d) (decoder_view did.decoder) src last p.read old mid new p.written free did.outcome p.had_errors puts same did.call;
           enough = did.enough;
         },
       );
 }
 
 -- up to the first malformed sequence
-pub decodes_part_over : (held after : Option Coder) (k : OutputUnit) (src : List ℕ) (last : Bool) (old mid new : List ℕ) (size free room mark status : ℕ) (p : Progress) → PutsOver mid new p.written
+pub decodes_part_over : (held after : Option Coder) (k : OutputUnit) (src : List ℕ) (last : Bool) (old mid new : List ℕ) (size free status : ℕ) (p : Progress) → PutsOver mid new p.written
     → length (drop p.written mid) ≡ free
-    → AnswersDecoder held status (λ d. DecodesUpToFault k d after src last (λ t. Adds old 0 (encode_utf8_all t) mid p.written) size (length (drop p.written mid)) room mark p)
-    → AnswersDecoder held status (λ d. DecodesUpToFault k d after src last (λ t. TextIsPut old (encode_utf8_all t) new p.written) size free room mark p)
-decodes_part_over held after k src last old mid new size free room mark status p puts same h = record {
+    → AnswersDecoder held status (λ d. DecodesUpToFault k d after src last (λ t. Adds old 0 (encode_utf8_all t) mid p.written) size (free_bytes (length (drop p.written mid))) p)
+    → AnswersDecoder held status (λ d. DecodesUpToFault k d after src last (λ t. TextIsPut old (encode_utf8_all t) new p.written) size (free_bytes free) p)
+decodes_part_over held after k src last old mid new size free status p puts same h = record {
   closed = h.closed;
   finished = h.finished;
   done = λ d is live.
@@ -141,7 +142,7 @@ decodes_part_over held after k src last old mid new size free room mark status p
           outcome = did.outcome;
           told = did.told;
           none_replaced = did.none_replaced;
-          call = scalars_over (decoder_view d) (decoder_view did.decoder) src last p.read old mid new p.written free room mark did.outcome puts same did.call;
+          call = scalars_over (decoder_view d) (decoder_view did.decoder) src last p.read old mid new p.written free did.outcome puts same did.call;
           enough = did.enough;
         },
       );

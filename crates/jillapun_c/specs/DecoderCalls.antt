@@ -4,7 +4,7 @@ use Rattle.encoding_mem.specs.declared.decoder_result.DecoderResult.{DecoderResu
 use Rattle.encoding_mem.specs.declared.decoder_result.DecoderResult.TheVariants as raw_
 use Rattle.encoding_mem.specs.declared.room.OutputUnit.{OutputUnit}
 use Rattle.encoding_tables.specs.IndexLists.{IndexLists}
-use Rattle.encoding_front.specs.calls.DecoderCall.{DecoderCall, IfRoomAsked, TextCall}
+use Rattle.encoding_front.specs.calls.DecoderCall.{DecoderCall, IfRoomAsked, RoomLeft, TextCall}
 use Rattle.encoding_front.specs.calls.DecoderViews.{decoder_view}
 use Rattle.encoding_front.specs.calls.Stream.{IsNewDecoder, TellsLatin1Prefix, room_asked}
 use Rattle.encoding_front.specs.declared.coder_result.CoderResult.{CoderResult}
@@ -41,24 +41,24 @@ IsOutcome raw_.OutputFull number length after = (number ≡ OUTPUT_FULL) × (len
 IsOutcome (raw_.Malformed n k) number length after = (number ≡ MALFORMED) × (length ≡ n) × (after ≡ k)
 
 -- What a call did that writes U+FFFD for each malformed sequence, and why it ended. Writes says which text stands in the
--- room, free how much is left of it, room and mark how much is enough to go on and for U+FFFD.
-pub record Decodes (unit : OutputUnit) (before : Decoder) (after : Option Coder) (src : List ℕ) (last : Bool) (Writes : List ℕ → Type 0) (size free room mark : ℕ) (progress : Progress) : Type 0 where
+-- room, size how long that is, left what is left of it.
+pub record Decodes (unit : OutputUnit) (before : Decoder) (after : Option Coder) (src : List ℕ) (last : Bool) (Writes : List ℕ → Type 0) (size : ℕ) (left : RoomLeft) (progress : Progress) : Type 0 where
   pub decoder : Decoder
   pub held : decoder_in after ≡ Some decoder
   pub outcome : CoderResult
   pub told : progress.outcome ≡ text_outcome outcome
   pub no_length : (progress.malformed_length ≡ 0) × (progress.malformed_after ≡ 0)
-  pub call : TextCall (decoder_view before) (decoder_view decoder) src last progress.read Writes free room mark outcome progress.had_errors
+  pub call : TextCall (decoder_view before) (decoder_view decoder) src last progress.read Writes left outcome progress.had_errors
   pub enough : IfRoomAsked (decoder_view before) unit (length src) size (outcome ≢ text_.OutputFull)
 
 -- The same of a call that ends at each malformed sequence.
-pub record DecodesUpToFault (unit : OutputUnit) (before : Decoder) (after : Option Coder) (src : List ℕ) (last : Bool) (Writes : List ℕ → Type 0) (size free room mark : ℕ) (progress : Progress) : Type 0 where
+pub record DecodesUpToFault (unit : OutputUnit) (before : Decoder) (after : Option Coder) (src : List ℕ) (last : Bool) (Writes : List ℕ → Type 0) (size : ℕ) (left : RoomLeft) (progress : Progress) : Type 0 where
   pub decoder : Decoder
   pub held : decoder_in after ≡ Some decoder
   pub outcome : DecoderResult
   pub told : IsOutcome outcome progress.outcome progress.malformed_length progress.malformed_after
   pub none_replaced : progress.had_errors ≡ false
-  pub call : DecoderCall (decoder_view before) (decoder_view decoder) src last progress.read Writes free room mark outcome
+  pub call : DecoderCall (decoder_view before) (decoder_view decoder) src last progress.read Writes left outcome
   pub enough : IfRoomAsked (decoder_view before) unit (length src) size (outcome ≢ raw_.OutputFull)
 
 -- What the status of a query says: there is no decoder, its stream has ended, or this is told of it.

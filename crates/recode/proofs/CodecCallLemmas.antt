@@ -60,11 +60,11 @@ written_to before after src last read W V outcome k f =
     record { taken = k.taken; well_formed = k.well_formed; within = k.within; counted = k.counted; writes = f (scalars k.taken) k.writes; rest = k.rest }
 
 -- and how it ended, if the pivot has room
-pub ends_of : (after : DecoderState) (unread : List ℕ) (last : Bool) (new : List ℕ) (written room mark : ℕ) (outcome : DecoderResult)
-    → EndsWith after unread last (length (drop written new)) room mark outcome → room ≤ length new → DecodeCallEndsWith after unread last written outcome
-ends_of after unread last new written room mark InputEmpty e h = e
-ends_of after unread last new written room mark OutputFull e h = omega (arith, e.0, length-drop written new)
-ends_of after unread last new written room mark (Malformed a b) e h = tt
+pub ends_of : (after : DecoderState) (unread : List ℕ) (last : Bool) (new : List ℕ) (written room replacement : ℕ) (outcome : DecoderResult)
+    → EndsWith after unread last (length (drop written new)) room replacement outcome → room ≤ length new → DecodeCallEndsWith after unread last written outcome
+ends_of after unread last new written room replacement InputEmpty e h = e
+ends_of after unread last new written room replacement OutputFull e h = omega (arith, e.0, length-drop written new)
+ends_of after unread last new written room replacement (Malformed a b) e h = tt
 
 -- some elements are of some text
 pub holds_some : (p : Pivot) (n : ℕ) (t : List ℕ) → Holds p n t → 0 < n → 0 < length t

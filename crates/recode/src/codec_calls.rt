@@ -7,7 +7,7 @@ ghost use Rattle.std.specs.Str.{all_scalars, chars};
 ghost use Rattle.encoding_mem.specs.calls.Decoding.{StateLaw};
 ghost use Rattle.encoding_mem.specs.calls.EncoderRule.{EncoderCall, WritesBytes};
 ghost use Rattle.encoding_mem.specs.calls.Writing.{Adds, encode_utf16_all};
-ghost use Rattle.encoding_front.specs.calls.DecoderCall.{DecoderCall};
+ghost use Rattle.encoding_front.specs.calls.DecoderCall.{DecoderCall, free_bytes, free_units};
 ghost use Rattle.encoding_front.specs.calls.Stream.{finishes};
 ghost use Rattle.recode.specs.calls.Buffers.{HoldsAnyCharacter, KeepsRoom, is_wide};
 ghost use Rattle.recode.specs.calls.Character.{begins_character};
@@ -173,7 +173,7 @@ fn decode_to_bytes<D: StreamDecoder>(
     requires { (D.view decoder.old).finished ≡ false }
     ensures call { DecoderCall (D.view decoder.old) (D.view decoder.new) src.now last result.1
         (λ text. Adds dst.old 0 (encode_utf8_all text) dst.new result.2)
-        (length (drop result.2 dst.new)) 4 3 result.0 }
+        (free_bytes (length (drop result.2 dst.new))) result.0 }
 {
     let mut sink = Utf8Sink::new(dst);
     let (answer, read) = decoder.decode_into(src, &mut sink, last);
@@ -190,7 +190,7 @@ fn decode_to_units<D: StreamDecoder>(
     requires { (D.view decoder.old).finished ≡ false }
     ensures call { DecoderCall (D.view decoder.old) (D.view decoder.new) src.now last result.1
         (λ text. Adds dst.old 0 (encode_utf16_all text) dst.new result.2)
-        (length (drop result.2 dst.new)) 2 1 result.0 }
+        (free_units (length (drop result.2 dst.new))) result.0 }
 {
     let mut sink = Utf16Sink::new(dst);
     let (answer, read) = decoder.decode_into(src, &mut sink, last);

@@ -1,5 +1,6 @@
 -- What a call of a decoder of a stream does.
-use Rattle.std.specs.Prelude.{◌≡◌, ℕ, ◌≤◌, Bool, IsTrue, Some, List, [], ◌++◌, drop, encode_utf8_all}
+use Rattle.std.specs.Prelude.{◌≡◌, ℕ, ◌≤◌, Bool, true, false, IsTrue, Some, List, [], ◌++◌, drop, encode_utf8_all}
+use Rattle.encoding_mem.specs.calls.DecodedLength.{replacement_len, two_in}
 use Rattle.encoding_mem.specs.calls.Decoding.{StateLaw, EndsWith}
 use Rattle.encoding_mem.specs.calls.TextDestination.{Overwrites}
 use Rattle.encoding_mem.specs.calls.Writing.{Adds}
@@ -9,19 +10,37 @@ use Rattle.encoding_front.specs.calls.DecodedText.{TakesText, raw_result}
 use Rattle.encoding_front.specs.calls.Stream.{DecoderView, finishes, room_asked}
 use Rattle.encoding_front.specs.declared.coder_result.CoderResult.{CoderResult}
 
--- Up to a malformed sequence: which pieces it took, whose scalars Writes says were written, and why it ended, where
--- free is the room after them, room what has to be free, and mark what U+FFFD needs. The encoding that the input turns
--- out to be in does not depend on how it is cut.
-pub record DecoderCall (before after : DecoderView) (src : List ℕ) (last : Bool) (read : ℕ) (Writes : List ℕ → Type 0) (free room mark : ℕ) (outcome : DecoderResult) : Type 0 where
+-- The room that is left after what a call wrote: whether it is counted in units of UTF-16, not in bytes of UTF-8, and
+-- how many of them are free.
+pub record RoomLeft : Type 0 where
+  pub in_units : Bool
+  pub free : ℕ
+
+-- so many bytes of UTF-8 are left
+abbrev pub free_bytes : (free : ℕ) → RoomLeft
+free_bytes free = record { in_units = false; free = free }
+
+-- so many units of UTF-16 are left
+abbrev pub free_units : (free : ℕ) → RoomLeft
+free_units free = record { in_units = true; free = free }
+
+-- what is left in any destination, by whether its units are those of UTF-16
+abbrev pub free_in_sink : (in_units : Bool) (free : ℕ) → RoomLeft
+free_in_sink in_units free = record { in_units = in_units; free = free }
+
+-- Up to a malformed sequence: which pieces it took, whose scalars Writes says were written, and why it ended. How much
+-- has to be free for any character, and what U+FFFD takes, follows from what `left` counts (`two_in`,
+-- `replacement_len`). The encoding that the input turns out to be in does not depend on how it is cut.
+pub record DecoderCall (before after : DecoderView) (src : List ℕ) (last : Bool) (read : ℕ) (Writes : List ℕ → Type 0) (left : RoomLeft) (outcome : DecoderResult) : Type 0 where
   pub law : StateLaw before.state after.state src last read Writes outcome
-  pub ends : EndsWith after.state (drop read src) last free room mark outcome
+  pub ends : EndsWith after.state (drop read src) last left.free (two_in left.in_units) (replacement_len left.in_units) outcome
   pub source : (r : List ℕ) → (IsTrue last → r ≡ []) → before.source (src ++ r) ≡ after.source (drop read src ++ r)
   pub finished : after.finished ≡ finishes last outcome
 
 -- What a call that writes U+FFFD for each malformed sequence does, and why it ended.
-pub record TextCall (before after : DecoderView) (src : List ℕ) (last : Bool) (read : ℕ) (Writes : List ℕ → Type 0) (free room mark : ℕ) (outcome : CoderResult) (had_errors : Bool) : Type 0 where
+pub record TextCall (before after : DecoderView) (src : List ℕ) (last : Bool) (read : ℕ) (Writes : List ℕ → Type 0) (left : RoomLeft) (outcome : CoderResult) (had_errors : Bool) : Type 0 where
   pub law : TakesText before.state.pieces after.state.pieces src last before.state.pending after.state.pending read Writes had_errors
-  pub ends : EndsWith after.state (drop read src) last free room mark (raw_result outcome)
+  pub ends : EndsWith after.state (drop read src) last left.free (two_in left.in_units) (replacement_len left.in_units) (raw_result outcome)
   pub source : (r : List ℕ) → (IsTrue last → r ≡ []) → before.source (src ++ r) ≡ after.source (drop read src ++ r)
   pub finished : after.finished ≡ finishes last (raw_result outcome)
 

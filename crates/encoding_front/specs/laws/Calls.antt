@@ -7,6 +7,7 @@ use Rattle.encoding_mem.specs.laws.Losses.{lost_count-append}
 use Rattle.encoding_mem.specs.laws.Piece.{well_formed_text}
 use Rattle.encoding_mem.specs.laws.ReadBack.{none_lost}
 use Rattle.encoding_mem.specs.Coding.{AllMapped, Coding, lost_count, unmapped_count, whole_from}
+use Rattle.encoding_mem.specs.calls.DecodedLength.{replacement_len, two_in}
 use Rattle.encoding_mem.specs.calls.Decoding.{DecoderState, EndsWith, Reports, Takes}
 use Rattle.encoding_mem.specs.calls.EncoderCalls.{Encodes}
 use Rattle.encoding_mem.specs.calls.ReadCalls.{IsNotUnmappable}
@@ -17,18 +18,18 @@ use Rattle.encoding_mem.specs.declared.decoder_result.DecoderResult.{DecoderResu
 use Rattle.encoding_mem.specs.declared.decoder_result.DecoderResult.TheVariants.{InputEmpty, OutputFull, Malformed}
 use Rattle.encoding_mem.specs.declared.encoder_result.EncoderResult.{EncoderResult}
 use Rattle.encoding_front.specs.calls.DecodedText.{raw_result}
-use Rattle.encoding_front.specs.calls.DecoderCall.{DecoderCall, TextCall}
+use Rattle.encoding_front.specs.calls.DecoderCall.{DecoderCall, RoomLeft, TextCall}
 use Rattle.encoding_front.specs.calls.Encoder.{Encoded, EncoderState, Replaces, coding_in}
 use Rattle.encoding_front.specs.calls.Stream.{DecoderView}
 use Rattle.encoding_front.specs.laws.Encoder.{coding_laws}
 use Rattle.encoding_front.specs.declared.coder_result.CoderResult.{CoderResult}
 
 -- it leaves nothing unread, and nothing is to come
-nothing_left : (after : DecoderState) (unread : List ℕ) (free room mark : ℕ) (outcome : DecoderResult) → outcome ≡ InputEmpty → EndsWith after unread true free room mark outcome → (unread ≡ []) × (after.pieces [] ≡ [])
-nothing_left after unread free room mark InputEmpty is (read, inl none) = (read, none.1)
-nothing_left after unread free room mark InputEmpty is (read, inr waits) = absurd (cc waits.0)
-nothing_left after unread free room mark OutputFull is ends = absurd (cc)
-nothing_left after unread free room mark (Malformed a b) is ends = absurd (cc)
+nothing_left : (after : DecoderState) (unread : List ℕ) (free room replacement : ℕ) (outcome : DecoderResult) → outcome ≡ InputEmpty → EndsWith after unread true free room replacement outcome → (unread ≡ []) × (after.pieces [] ≡ [])
+nothing_left after unread free room replacement InputEmpty is (read, inl none) = (read, none.1)
+nothing_left after unread free room replacement InputEmpty is (read, inr waits) = absurd (cc waits.0)
+nothing_left after unread free room replacement OutputFull is ends = absurd (cc)
+nothing_left after unread free room replacement (Malformed a b) is ends = absurd (cc)
 
 -- so it took all pieces that were to come
 took_all : (before after : List ℕ → List Piece) (src : List ℕ) (taken : List Piece) (read : ℕ) → ((r : List ℕ) → (true ≡ true → r ≡ []) → before (src ++ r) ≡ taken ++ after (drop read src ++ r))
@@ -41,22 +42,22 @@ took_all before after src taken read rest left =
 
 -- A last call that read all, with U+FFFD for each malformed sequence, wrote the text of all pieces that were to come, and
 -- returned whether one of them is malformed.
-pub wrote_text : (v v' : DecoderView) (src : List ℕ) (read : ℕ) (W : List ℕ → Type 0) (free room mark : ℕ) (outcome : CoderResult) (had_errors : Bool)
-    → TextCall v v' src true read W free room mark outcome had_errors → outcome ≡ CoderResult.InputEmpty → W (text (v.state.pieces src)) × (IsTrue had_errors ↔ (0 < malformed_count (v.state.pieces src)))
-wrote_text v v' src read W free room mark outcome had_errors call is =
-    let left = nothing_left v'.state (drop read src) free room mark (raw_result outcome) (ap raw_result is) call.ends in
-    let all : call.law.taken ≡ v.state.pieces src = took_all v.state.pieces v'.state.pieces src call.law.taken read call.law.rest left in
+pub wrote_text : (v v' : DecoderView) (src : List ℕ) (read : ℕ) (W : List ℕ → Type 0) (left : RoomLeft) (outcome : CoderResult) (had_errors : Bool)
+    → TextCall v v' src true read W left outcome had_errors → outcome ≡ CoderResult.InputEmpty → W (text (v.state.pieces src)) × (IsTrue had_errors ↔ (0 < malformed_count (v.state.pieces src)))
+wrote_text v v' src read W left outcome had_errors call is =
+    let none = nothing_left v'.state (drop read src) left.free (two_in left.in_units) (replacement_len left.in_units) (raw_result outcome) (ap raw_result is) call.ends in
+    let all : call.law.taken ≡ v.state.pieces src = took_all v.state.pieces v'.state.pieces src call.law.taken read call.law.rest none in
     (subst (λ (ps : List Piece). W (text ps)) all call.law.writes, subst (λ (ps : List Piece). IsTrue had_errors ↔ (0 < malformed_count ps)) all call.law.had)
 
 -- A last call that read all, and stops at malformed sequences, wrote the text of all pieces that were to come, none of
 -- which is malformed.
-pub wrote_scalars : (v v' : DecoderView) (src : List ℕ) (read : ℕ) (W : List ℕ → Type 0) (free room mark : ℕ) (outcome : DecoderResult)
-    → DecoderCall v v' src true read W free room mark outcome → outcome ≡ InputEmpty → W (text (v.state.pieces src)) × AreWellFormed (v.state.pieces src)
-wrote_scalars v v' src read W free room mark outcome call is =
-    let left = nothing_left v'.state (drop read src) free room mark outcome is call.ends in
+pub wrote_scalars : (v v' : DecoderView) (src : List ℕ) (read : ℕ) (W : List ℕ → Type 0) (left : RoomLeft) (outcome : DecoderResult)
+    → DecoderCall v v' src true read W left outcome → outcome ≡ InputEmpty → W (text (v.state.pieces src)) × AreWellFormed (v.state.pieces src)
+wrote_scalars v v' src read W left outcome call is =
+    let none = nothing_left v'.state (drop read src) left.free (two_in left.in_units) (replacement_len left.in_units) outcome is call.ends in
     let law : Takes (Reports InputEmpty v'.state.pending) v.state.pieces v'.state.pieces src true v.state.pending v'.state.pending read W =
     subst (λ (o : DecoderResult). Takes (Reports o v'.state.pending) v.state.pieces v'.state.pieces src true v.state.pending v'.state.pending read W) is call.law in
-    let all : law.taken ≡ v.state.pieces src = took_all v.state.pieces v'.state.pieces src law.taken read law.rest left in
+    let all : law.taken ≡ v.state.pieces src = took_all v.state.pieces v'.state.pieces src law.taken read law.rest none in
     let wrote : W (text law.taken) = subst W (sym (well_formed_text law.taken law.well_formed)) law.writes in
     (subst (λ (ps : List Piece). W (text ps)) all wrote, subst AreWellFormed all law.well_formed)
 

@@ -2,6 +2,7 @@
 
 ghost use Rattle.std.specs.Prelude.{◌≡◌, ◌≢◌, drop, length, encode_utf8_all};
 ghost use Rattle.encoding_mem.specs.declared.room.OutputUnit.TheVariants.{Bytes, Replaced};
+ghost use Rattle.encoding_front.specs.calls.DecoderCall.{free_bytes};
 ghost use Rattle.jillapun_c.specs.DecoderCalls.{AnswersDecoder, Decodes, DecodesUpToFault};
 ghost use Rattle.jillapun_c.specs.Room.{TextIsPut};
 ghost use Rattle.jillapun_c.specs.declared.progress.TheConstants.Progress.{NONE};
@@ -34,7 +35,7 @@ pub extern "C" fn jillapun_decoder_decode_to_str(
     ensures decodes { AnswersDecoder decoder.old.coder.coder result
         (λ d. Decodes Replaced d decoder.new.coder.coder src.now last
         (λ text. TextIsPut dst.old (encode_utf8_all text) dst.new progress.new.written)
-        (length dst.old) (length (drop progress.new.written dst.new)) 4 3 progress.new) }
+        (length dst.old) (free_bytes (length (drop progress.new.written dst.new))) progress.new) }
     ensures unchanged { result ≢ OK
         → (dst.new ≡ dst.old) × (decoder.new.coder.coder ≡ decoder.old.coder.coder) }
     ensures nothing { result ≢ OK → progress.new ≡ NONE }
@@ -63,7 +64,7 @@ pub extern "C" fn jillapun_decoder_decode_to_str_without_replacement(
     ensures decodes { AnswersDecoder decoder.old.coder.coder result
         (λ d. DecodesUpToFault Bytes d decoder.new.coder.coder src.now last
         (λ text. TextIsPut dst.old (encode_utf8_all text) dst.new progress.new.written)
-        (length dst.old) (length (drop progress.new.written dst.new)) 4 3 progress.new) }
+        (length dst.old) (free_bytes (length (drop progress.new.written dst.new))) progress.new) }
     ensures unchanged { result ≢ OK
         → (dst.new ≡ dst.old) × (decoder.new.coder.coder ≡ decoder.old.coder.coder) }
     ensures nothing { result ≢ OK → progress.new ≡ NONE }

@@ -3,6 +3,7 @@
 ghost use Rattle.std.specs.Prelude.{◌≡◌, ◌≢◌, Some, drop, length};
 ghost use Rattle.encoding_mem.specs.calls.Writing.{Adds, encode_utf16_all};
 ghost use Rattle.encoding_mem.specs.declared.room.OutputUnit.TheVariants.{Units};
+ghost use Rattle.encoding_front.specs.calls.DecoderCall.{free_units};
 ghost use Rattle.jillapun_c.specs.DecoderCalls.{AnswersDecoder, Decodes, DecodesUpToFault};
 ghost use Rattle.jillapun_c.specs.declared.progress.TheConstants.Progress.{NONE};
 ghost use Rattle.jillapun_c.specs.declared.status.TheConstants.{OK};
@@ -36,7 +37,7 @@ pub extern "C" fn jillapun_decoder_decode_to_utf16(
     ensures decodes { AnswersDecoder decoder.old.coder.coder result
         (λ d. Decodes Units d decoder.new.coder.coder src.now last
         (λ text. Adds dst.old 0 (encode_utf16_all text) dst.new progress.new.written)
-        (length dst.old) (length (drop progress.new.written dst.new)) 2 1 progress.new) }
+        (length dst.old) (free_units (length (drop progress.new.written dst.new))) progress.new) }
     ensures unchanged { result ≢ OK
         → (dst.new ≡ dst.old) × (decoder.new.coder.coder ≡ decoder.old.coder.coder) }
     ensures nothing { result ≢ OK → progress.new ≡ NONE }
@@ -61,7 +62,7 @@ fn to_utf16(
     ensures decodes { AnswersDecoder (Some coder.old) result
         (λ d. Decodes Units d (Some coder.new) src.now last
         (λ text. Adds dst.old 0 (encode_utf16_all text) dst.new progress.new.written)
-        (length dst.old) (length (drop progress.new.written dst.new)) 2 1 progress.new) }
+        (length dst.old) (free_units (length (drop progress.new.written dst.new))) progress.new) }
     ensures unchanged { result ≢ OK → (dst.new ≡ dst.old) × (coder.new ≡ coder.old) }
     ensures untold { result ≢ OK → progress.new ≡ progress.old }
 {
@@ -109,7 +110,7 @@ pub extern "C" fn jillapun_decoder_decode_to_utf16_without_replacement(
     ensures decodes { AnswersDecoder decoder.old.coder.coder result
         (λ d. DecodesUpToFault Units d decoder.new.coder.coder src.now last
         (λ text. Adds dst.old 0 (encode_utf16_all text) dst.new progress.new.written)
-        (length dst.old) (length (drop progress.new.written dst.new)) 2 1 progress.new) }
+        (length dst.old) (free_units (length (drop progress.new.written dst.new))) progress.new) }
     ensures unchanged { result ≢ OK
         → (dst.new ≡ dst.old) × (decoder.new.coder.coder ≡ decoder.old.coder.coder) }
     ensures nothing { result ≢ OK → progress.new ≡ NONE }
@@ -134,7 +135,7 @@ fn to_utf16_part(
     ensures decodes { AnswersDecoder (Some coder.old) result
         (λ d. DecodesUpToFault Units d (Some coder.new) src.now last
         (λ text. Adds dst.old 0 (encode_utf16_all text) dst.new progress.new.written)
-        (length dst.old) (length (drop progress.new.written dst.new)) 2 1 progress.new) }
+        (length dst.old) (free_units (length (drop progress.new.written dst.new))) progress.new) }
     ensures unchanged { result ≢ OK → (dst.new ≡ dst.old) × (coder.new ≡ coder.old) }
     ensures untold { result ≢ OK → progress.new ≡ progress.old }
 {

@@ -4,6 +4,7 @@ ghost use Rattle.std.specs.Prelude.{◌≡◌, ◌≢◌, Some};
 ghost use Rattle.std.specs.Prelude.{drop, length, encode_utf8_all};
 ghost use Rattle.encoding_mem.specs.calls.Writing.{Adds};
 ghost use Rattle.encoding_mem.specs.declared.room.OutputUnit.TheVariants.{Bytes, Replaced};
+ghost use Rattle.encoding_front.specs.calls.DecoderCall.{free_bytes};
 ghost use Rattle.jillapun_c.specs.DecoderCalls.{AnswersDecoder, Decodes, DecodesUpToFault};
 ghost use Rattle.jillapun_c.specs.declared.progress.TheConstants.Progress.{NONE};
 ghost use Rattle.jillapun_c.specs.declared.status.TheConstants.{OK};
@@ -37,7 +38,7 @@ pub extern "C" fn jillapun_decoder_decode_to_utf8(
     ensures decodes { AnswersDecoder decoder.old.coder.coder result
         (λ d. Decodes Replaced d decoder.new.coder.coder src.now last
         (λ text. Adds dst.old 0 (encode_utf8_all text) dst.new progress.new.written)
-        (length dst.old) (length (drop progress.new.written dst.new)) 4 3 progress.new) }
+        (length dst.old) (free_bytes (length (drop progress.new.written dst.new))) progress.new) }
     ensures unchanged { result ≢ OK
         → (dst.new ≡ dst.old) × (decoder.new.coder.coder ≡ decoder.old.coder.coder) }
     ensures nothing { result ≢ OK → progress.new ≡ NONE }
@@ -56,7 +57,7 @@ fn to_utf8(coder: &mut Coder, src: &[u8], dst: &mut [u8], last: bool, progress: 
     ensures decodes { AnswersDecoder (Some coder.old) result
         (λ d. Decodes Replaced d (Some coder.new) src.now last
         (λ text. Adds dst.old 0 (encode_utf8_all text) dst.new progress.new.written)
-        (length dst.old) (length (drop progress.new.written dst.new)) 4 3 progress.new) }
+        (length dst.old) (free_bytes (length (drop progress.new.written dst.new))) progress.new) }
     ensures unchanged { result ≢ OK → (dst.new ≡ dst.old) × (coder.new ≡ coder.old) }
     ensures untold { result ≢ OK → progress.new ≡ progress.old }
 {
@@ -104,7 +105,7 @@ pub extern "C" fn jillapun_decoder_decode_to_utf8_without_replacement(
     ensures decodes { AnswersDecoder decoder.old.coder.coder result
         (λ d. DecodesUpToFault Bytes d decoder.new.coder.coder src.now last
         (λ text. Adds dst.old 0 (encode_utf8_all text) dst.new progress.new.written)
-        (length dst.old) (length (drop progress.new.written dst.new)) 4 3 progress.new) }
+        (length dst.old) (free_bytes (length (drop progress.new.written dst.new))) progress.new) }
     ensures unchanged { result ≢ OK
         → (dst.new ≡ dst.old) × (decoder.new.coder.coder ≡ decoder.old.coder.coder) }
     ensures nothing { result ≢ OK → progress.new ≡ NONE }
@@ -129,7 +130,7 @@ fn to_utf8_part(
     ensures decodes { AnswersDecoder (Some coder.old) result
         (λ d. DecodesUpToFault Bytes d (Some coder.new) src.now last
         (λ text. Adds dst.old 0 (encode_utf8_all text) dst.new progress.new.written)
-        (length dst.old) (length (drop progress.new.written dst.new)) 4 3 progress.new) }
+        (length dst.old) (free_bytes (length (drop progress.new.written dst.new))) progress.new) }
     ensures unchanged { result ≢ OK → (dst.new ≡ dst.old) × (coder.new ≡ coder.old) }
     ensures untold { result ≢ OK → progress.new ≡ progress.old }
 {

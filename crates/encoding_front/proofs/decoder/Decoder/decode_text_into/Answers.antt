@@ -18,13 +18,13 @@ pieces-init g c = record {
 pub returns-in-InputEmpty-clause-call : goal.returns-in-InputEmpty-clause-call
 returns-in-InputEmpty-clause-call g c =
     let call = c.decode_into-outcome in
-    text_ends (decoder_view c.args.self.now) (decoder_view c.pieces.self) (decoder_view call.new.self) call.result.0 InputEmpty c.args.src.now _ c.args.last c.pieces.read call.result.1 _ _ _ c.pieces.had_errors (λ t. g.S.Sink.writes c.args.sink.now t c.pieces.sink) (λ t. g.S.Sink.writes c.pieces.sink t call.new.sink) (λ t. g.S.Sink.writes c.args.sink.now t call.new.sink)
+    text_ends (decoder_view c.args.self.now) (decoder_view c.pieces.self) (decoder_view call.new.self) call.result.0 InputEmpty c.args.src.now _ c.args.last c.pieces.read call.result.1 _ c.pieces.had_errors (λ t. g.S.Sink.writes c.args.sink.now t c.pieces.sink) (λ t. g.S.Sink.writes c.pieces.sink t call.new.sink) (λ t. g.S.Sink.writes c.args.sink.now t call.new.sink)
     c.in-InputEmpty.is (take_rest c.args.src.now c.pieces.read) (λ t u v w. g.met.S.Sink.writes_more _ _ _ t u v w) c.pieces.invariant.law c.pieces.invariant.source call.ensures.call
 
 pub returns-in-OutputFull-clause-call : goal.returns-in-OutputFull-clause-call
 returns-in-OutputFull-clause-call g c =
     let call = c.decode_into-outcome in
-    text_ends (decoder_view c.args.self.now) (decoder_view c.pieces.self) (decoder_view call.new.self) call.result.0 OutputFull c.args.src.now _ c.args.last c.pieces.read call.result.1 _ _ _ c.pieces.had_errors (λ t. g.S.Sink.writes c.args.sink.now t c.pieces.sink) (λ t. g.S.Sink.writes c.pieces.sink t call.new.sink) (λ t. g.S.Sink.writes c.args.sink.now t call.new.sink)
+    text_ends (decoder_view c.args.self.now) (decoder_view c.pieces.self) (decoder_view call.new.self) call.result.0 OutputFull c.args.src.now _ c.args.last c.pieces.read call.result.1 _ c.pieces.had_errors (λ t. g.S.Sink.writes c.args.sink.now t c.pieces.sink) (λ t. g.S.Sink.writes c.pieces.sink t call.new.sink) (λ t. g.S.Sink.writes c.args.sink.now t call.new.sink)
     c.in-OutputFull.is (take_rest c.args.src.now c.pieces.read) (λ t u v w. g.met.S.Sink.writes_more _ _ _ t u v w) c.pieces.invariant.law c.pieces.invariant.source call.ensures.call
 
 pub pieces-smaller : goal.pieces-smaller

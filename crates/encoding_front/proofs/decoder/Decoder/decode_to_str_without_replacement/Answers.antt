@@ -11,7 +11,7 @@ pub returns-clause-call : goal.returns-clause-call
 returns-clause-call c =
     let call = c.decode_to_utf8_without_replacement-outcome in
     let w = call.result.2 in
-    scalars_into _ _ _ _ _ _ _ _ _ _ _ _ (λ t h. overwrites c.args.dst.now (encode_utf8_all t) call.new.dst c.clear_behind.new.dst _ c.clear_behind.ensures.prefix c.clear_behind.ensures.behind h)
+    scalars_into _ _ _ _ _ _ _ _ _ _ _ (λ t h. overwrites c.args.dst.now (encode_utf8_all t) call.new.dst c.clear_behind.new.dst _ c.clear_behind.ensures.prefix c.clear_behind.ensures.behind h)
     (length-drop w call.new.dst ∙ ap (λ n. n - w) (sym c.clear_behind.auto.dst) ∙ sym (length-drop w c.clear_behind.new.dst)) call.ensures.call
 
 pub returns-clause-utf8 : goal.returns-clause-utf8

@@ -26,7 +26,7 @@ returns-clause-call c =
     let f = c.fill_spare-len.ensures in
     let within : c.fill_spare-len.result ≤ length xs = omega (arith, f.within, ap length c.deref_mut.ensures.value) in
     let room = spare _ ys _ _ within call.auto.dst (ap length c.deref_mut.ensures.value ∙ f.full) in
-    scalars_into _ _ _ _ _ _ _ _ _ _ _ _ (λ t h. c.put_bytes.ensures.bytes
+    scalars_into _ _ _ _ _ _ _ _ _ _ _ (λ t h. c.put_bytes.ensures.bytes
     ∙ vec_written old xs ys _ c.fill_spare-len.result call.result.2 _ within (omega (arith, h.within, call.auto.dst)) call.auto.dst (sym c.deref_mut.ensures.len) (ap (take c.fill_spare-len.result) c.deref_mut.ensures.value ∙ f.items)
     ∙ ap (λ l. old ++ l) (added _ _ _ _ h) ∙ ap (λ l. l ++ encode_utf8_all t) c.take_bytes-bytes.ensures.bytes)
     (omega (arith, length-drop call.result.2 ys, room, c.put_bytes.ensures.len, c.put_bytes.ensures.capacity, c.take_bytes-bytes.ensures.capacity, f.capacity)) call.ensures.call

@@ -24,7 +24,7 @@ returns-in-Some-clause-call g c =
       law = takes_settled was.state.pieces (decoder_view mid).state.pieces (λ x. (state_of mid.inner).pieces (mid.held ++ x)) (λ x. own.pieces (held.new.held ++ x)) (λ x. sought_pieces mid.sought own.pieces (held.new.held ++ x))
           held.result.0 c.args.src.now _ c.args.last _ _ (own.pending + length held.new.held) c.in-Some.taken held.result.1 (λ t. g.S.Sink.writes c.args.sink.now t held.new.sink)
           (λ x. unmarked mid.sought (state_of mid.inner).pieces (mid.held ++ x) settled) (λ x. unmarked mid.sought own.pieces (held.new.held ++ x) settled) rest looked.1 held.ensures.call.law;
-      ends = ends_settled (held_state own held.new.held) (bom_decoder_state mid.sought own held.new.held (λ t. cc) (widest_by own.room (encoding_after mid.encoding mid.taken) (held.ensures.call.limits ∙ mid.room))) _ _ c.args.last _ _ _ _ _ held.result.0 (λ x. unmarked mid.sought own.pieces (held.new.held ++ x) settled) refl unread g.met.S.Sink.room_is (g.met.S.Sink.cost_is 0xFFFD) held.ensures.call.ends;
+      ends = ends_settled (held_state own held.new.held) (bom_decoder_state mid.sought own held.new.held (λ t. cc) (widest_by own.room (encoding_after mid.encoding mid.taken) (held.ensures.call.limits ∙ mid.room))) _ _ c.args.last _ _ _ held.result.0 (λ x. unmarked mid.sought own.pieces (held.new.held ++ x) settled) refl unread held.ensures.call.ends;
       source = λ r e. c.in-Some.ensures.source r e ∙ ap (encoding_after mid.encoding) (untaken mid.sought mid.taken (mid.held ++ r) settled ∙ sym (untaken mid.sought mid.taken (held.new.held ++ (drop (c.in-Some.taken + held.result.1) c.args.src.now ++ r)) settled));
       finished = c.finishes-self.ensures;
     }

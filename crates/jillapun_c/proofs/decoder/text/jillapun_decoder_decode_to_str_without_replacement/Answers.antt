@@ -13,5 +13,5 @@ clear_rest-requires c =
 pub returns-clause-decodes : goal.returns-clause-decodes
 returns-clause-decodes c =
     let w = c.jillapun_decoder_decode_to_utf8_without_replacement-status.new.progress.written in
-    decodes_part_over _ _ _ _ _ c.args.dst.now c.jillapun_decoder_decode_to_utf8_without_replacement-status.new.dst c.clear_rest.new.dst _ _ _ _ _ c.jillapun_decoder_decode_to_utf8_without_replacement-status.new.progress c.clear_rest.ensures.put
+    decodes_part_over _ _ _ _ _ c.args.dst.now c.jillapun_decoder_decode_to_utf8_without_replacement-status.new.dst c.clear_rest.new.dst _ _ _ c.jillapun_decoder_decode_to_utf8_without_replacement-status.new.progress c.clear_rest.ensures.put
     (length-drop w c.jillapun_decoder_decode_to_utf8_without_replacement-status.new.dst ∙ ap (λ n. n - w) (sym c.clear_rest.auto.dst) ∙ sym (length-drop w c.clear_rest.new.dst)) c.jillapun_decoder_decode_to_utf8_without_replacement-status.ensures.decodes
