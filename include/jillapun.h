@@ -891,10 +891,20 @@ uint8_t jillapun_encoder_encode_from_utf8_without_replacement(jillapun_encoder *
  * room for `written` bytes. Else nothing is done, and `written` is 0: `JILLAPUN_CLOSED`, there
  * are no tables; `JILLAPUN_UNKNOWN`, no encoding or no handling of marks has the number;
  * `JILLAPUN_NOT_READY`, the tables lack an index of the encoding; `JILLAPUN_NO_MEMORY`, memory
- * was refused.
+ * was refused, which is not asked for if `dst` is as long as `jillapun_decoder_max_utf8_length`
+ * tells of a new decoder.
  */
 uint8_t jillapun_decode(jillapun_tables tables, uint8_t encoding, uint8_t mark, const uint8_t *src,
     size_t src_len, uint8_t *dst, size_t dst_len, size_t *written);
+
+/**
+ * Decodes a whole input to UTF-8 at the start of a text, with U+FFFD for each malformed
+ * sequence. What it does and returns is as of `jillapun_decode`, but for this: if a character
+ * of `dst` is overwritten in part, its other bytes become 00, so what was UTF-8 is UTF-8 after
+ * the call, as with `jillapun_decoder_decode_to_str`.
+ */
+uint8_t jillapun_decode_to_str(jillapun_tables tables, uint8_t encoding, uint8_t mark,
+    const uint8_t *src, size_t src_len, uint8_t *dst, size_t dst_len, size_t *written);
 
 /**
  * Encodes a whole text, which is UTF-8, into the output encoding of the one with this number

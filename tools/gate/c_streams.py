@@ -224,7 +224,7 @@ class Streams:
         return text + b"." * (size - len(text))
 
     def decoders(self, job, data, parts):
-        """The six calls of a decoder, and the call for a whole input."""
+        """The six calls of a decoder, and the two for a whole input."""
         pieces = plain_recode.pieces(self.encodings, job, data)[1]
         text = text_of(point for _, _, points in pieces for point in ((0xFFFD,) if points is None else points))
         faults = [(start, end - start) for start, end, points in pieces if points is None]
@@ -234,7 +234,9 @@ class Streams:
             call += "_without_replacement"
             self.same(call, (job, data, parts), self.decoded(call, job, parts, to_units)[:2], (text, faults))
         words = self.numbers[job.source], MARKS[job.mark]
-        self.in_one_call("jillapun_decode", words, data, text.encode(), bool(faults))
+        for call in ("jillapun_decode", "jillapun_decode_to_str"):
+            self.in_one_call(call, words, data, text.encode(), bool(faults))
+        self.over_a_text(words, data, text.encode())
         self.queried(job, data, text)
         if not faults:
             self.queried_without_faults(job, data, text)
@@ -279,8 +281,9 @@ class Streams:
         self.library.jillapun_decoder_free(handle)
 
     def in_one_call(self, call, words, given, output, had):
-        """A whole input or text at once: in room that is enough, which stays as it was after the output, and in too little."""
-        written, filled = ctypes.c_size_t(), b"\x5a" * self.random.randint(0, 5)
+        """A whole input or text at once: in room that is enough, perhaps surely so, which stays as it was after the output, and
+        in too little."""
+        written, filled = ctypes.c_size_t(), b"\x5a" * self.random.choice((0, 1, 5, 4 * len(given) + 12))
         room = bytearray(b"\x5a" * len(output) + filled)
         status = getattr(self.library, call)(self.tables, *words, given, room, written)
         got = status, bytes(room), written.value
@@ -291,6 +294,13 @@ class Streams:
             got = status, set(room) <= {0}, written.value
             self.same("too small a room", (call, words, given), got, (NUMBERS["ROOM"], True, len(output)))
 
+    def over_a_text(self, words, data, output):
+        """A whole input at once over a text, which is one after the call."""
+        room, written = bytearray(self.some_text(len(output) + self.random.choice((0, 3, 3 * len(data) + 3)))), ctypes.c_size_t()
+        self.library.jillapun_decode_to_str(self.tables, *words, data, room, written)
+        got = bytes(room[: written.value]), self.valid_len(room)
+        self.same("jillapun_decode_to_str", (words, data), got, (output, len(room)))
+
     def refused(self):
         """Whole inputs and texts that are not taken: nothing is written."""
         closed, ready, utf8 = self.library.struct("TablesHandle")(), self.tables, self.numbers["UTF-8"]
@@ -298,6 +308,8 @@ class Streams:
             ("jillapun_decode", closed, (utf8, MARKS["keep"]), b"a", "CLOSED"),
             ("jillapun_decode", ready, (len(self.numbers), MARKS["keep"]), b"a", "UNKNOWN"),
             ("jillapun_decode", ready, (utf8, len(MARKS)), b"a", "UNKNOWN"),
+            ("jillapun_decode_to_str", closed, (utf8, MARKS["keep"]), b"a", "CLOSED"),
+            ("jillapun_decode_to_str", ready, (utf8, len(MARKS)), b"a", "UNKNOWN"),
             ("jillapun_encode", closed, (utf8,), b"a", "CLOSED"),
             ("jillapun_encode", ready, (len(self.numbers),), b"a", "UNKNOWN"),
             ("jillapun_encode", ready, (utf8,), b"a\xff", "NOT_UTF8"),

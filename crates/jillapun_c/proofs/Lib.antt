@@ -18,4 +18,5 @@ mod TextPartLemmas
 mod TextRoomLemmas
 mod UnitRoomLemmas
 mod Walks
+mod WholeLemmas
 mod Words

@@ -1,23 +1,29 @@
 -- What a call makes of a whole input, or of a whole text.
-use Rattle.std.specs.Prelude.{◌≡◌, ◌↔◌, ◌⊎◌, ℕ, ◌<◌, Bool, IsTrue, if◌then◌else◌, List, length, MatchOption}
-use Rattle.std.specs.Str.{chars}
+use Rattle.std.specs.Prelude.{◌≡◌, ◌≢◌, ◌↔◌, ◌⊎◌, ℕ, ◌<◌, ◌≤◌, Bool, IsTrue, if◌then◌else◌, List, length, take, Option, Some, MatchOption}
+use Rattle.std.specs.Str.{IsUtf8, chars}
 use Rattle.encoding_mem.specs.Coding.{lost_count, output}
 use Rattle.encoding_mem.specs.declared.reference.Reference.TheVariants.{Decimal}
+use Rattle.encoding_mem.specs.declared.room.OutputUnit.TheVariants.{Replaced}
 use Rattle.encoding_tables.specs.IndexLists.{IndexLists}
 use Rattle.encoding_front.specs.Encodings.{coding_of, output_encoding_of}
-use Rattle.encoding_front.specs.calls.OneShot.{IsDecoded}
+use Rattle.encoding_front.specs.calls.OneShot.{IsDecoded, room_at_start}
 use Rattle.encoding_front.specs.declared.encoding.Encoding.{Encoding}
 use Rattle.encoding_front.specs.declared.mark.Mark.{Mark}
-use Rattle.jillapun_c.specs.EncodingNumbers.{mark_at}
+use Rattle.jillapun_c.specs.EncodingNumbers.{encoding_at, mark_at}
 use Rattle.jillapun_c.specs.Openings.{IfReady}
 use Rattle.jillapun_c.specs.Room.{IsPut}
 use Rattle.jillapun_c.specs.declared.status.TheConstants.{OK, LOSSY, UNKNOWN, NO_MEMORY, ROOM}
 
--- the room begins with the output, and the status tells whether something was lost
-pub record FitsInto (output old new : List ℕ) (is_lossy : Bool) (written status : ℕ) : Type 0 where
-  pub put : IsPut old output new written
+-- the status of a call that made all of its output
+abbrev pub verdict_of : (is_lossy : Bool) → ℕ
+verdict_of is_lossy = if is_lossy then LOSSY else OK
+
+-- The room begins with the output, and the status tells whether something was lost. Puts says what becomes of the rest of
+-- the room: it stays, or is a text again.
+pub record FitsInto (Puts : (old output new : List ℕ) (written : ℕ) → Type 0) (output old new : List ℕ) (is_lossy : Bool) (written status : ℕ) : Type 0 where
+  pub put : Puts old output new written
   pub length_is : written ≡ length output
-  pub told : status ≡ (if is_lossy then LOSSY else OK)
+  pub told : status ≡ verdict_of is_lossy
 
 -- the room is shorter than the output, and as it was
 pub record IsTooLong (output old new : List ℕ) (written status : ℕ) : Type 0 where
@@ -27,37 +33,52 @@ pub record IsTooLong (output old new : List ℕ) (written status : ℕ) : Type 0
   pub told : status ≡ ROOM
 
 -- the output is put into the room, or is too long for it
-abbrev pub PutsIfRoom : (output old new : List ℕ) (is_lossy : Bool) (written status : ℕ) → Type 0
-PutsIfRoom output old new is_lossy written status = FitsInto output old new is_lossy written status ⊎ IsTooLong output old new written status
+abbrev pub PutsIfRoom : (Puts : (old output new : List ℕ) (written : ℕ) → Type 0) (output old new : List ℕ) (is_lossy : Bool) (written status : ℕ) → Type 0
+PutsIfRoom Puts output old new is_lossy written status = FitsInto Puts output old new is_lossy written status ⊎ IsTooLong output old new written status
 
 -- the text of the input is put into the room
-pub record DecodesWhole (tables : IndexLists) (e : Encoding) (mark : Mark) (src old new : List ℕ) (written status : ℕ) : Type 0 where
+pub record DecodesWhole (Puts : (old output new : List ℕ) (written : ℕ) → Type 0) (tables : IndexLists) (e : Encoding) (mark : Mark) (src old new : List ℕ) (written status : ℕ) : Type 0 where
   pub text : List ℕ
   pub had_errors : Bool
   pub decoded : IsDecoded tables mark e src text had_errors
-  pub put : PutsIfRoom text old new had_errors written status
+  pub put : PutsIfRoom Puts text old new had_errors written status
 
 -- the output is put into the room, or memory was refused and the room is as it was
 abbrev pub OrNoMemory : (Put : Type 0) (old new : List ℕ) (status : ℕ) → Type 0
 OrNoMemory Put old new status = Put ⊎ ((status ≡ NO_MEMORY) × (new ≡ old))
 
 -- the text is decoded, or memory was refused
-abbrev pub MayDecode : IndexLists → Encoding → Mark → (src old new : List ℕ) → (written status : ℕ) → Type 0
-MayDecode tables e mark src old new written status = OrNoMemory (DecodesWhole tables e mark src old new written status) old new status
+abbrev pub MayDecode : (Puts : (old output new : List ℕ) (written : ℕ) → Type 0) → IndexLists → Encoding → Mark → (src old new : List ℕ) → (written status : ℕ) → Type 0
+MayDecode Puts tables e mark src old new written status = OrNoMemory (DecodesWhole Puts tables e mark src old new written status) old new status
 
 -- an input is decoded, if the number says what becomes of marks, and the tables are ready
-abbrev pub DecodesIfReady : (mark : ℕ) (src old new : List ℕ) (written status : ℕ) → IndexLists → Encoding → Type 0
-DecodesIfReady mark src old new written status t e = MatchOption (mark_at mark) (status ≡ UNKNOWN) (λ m. IfReady t e (MayDecode t e m src old new written status) status)
+abbrev pub DecodesIfReady : (Puts : (old output new : List ℕ) (written : ℕ) → Type 0) (mark : ℕ) (src old new : List ℕ) (written status : ℕ) → IndexLists → Encoding → Type 0
+DecodesIfReady Puts mark src old new written status t e =
+    MatchOption (mark_at mark) (status ≡ UNKNOWN) (λ m. IfReady t e (MayDecode Puts t e m src old new written status) status)
+
+-- bytes begin with a text of so many
+pub record BeginsWithText (bytes : List ℕ) (size : ℕ) : Type 0 where
+  pub within : size ≤ length bytes
+  pub utf8 : IsUtf8 (take size bytes)
 
 -- the bytes of the text, with the decimal reference of each character without bytes, are put into the room
 pub record EncodesWhole (tables : IndexLists) (e : Encoding) (text old new : List ℕ) (written status : ℕ) : Type 0 where
   pub had_unmappable : Bool
   pub lost : IsTrue had_unmappable ↔ (0 < lost_count (coding_of tables e) (chars text))
-  pub put : PutsIfRoom (output Decimal (coding_of tables e) (chars text)) old new had_unmappable written status
+  pub put : PutsIfRoom IsPut (output Decimal (coding_of tables e) (chars text)) old new had_unmappable written status
 
 -- the text is encoded, or memory was refused
 abbrev pub MayEncode : IndexLists → Encoding → (text old new : List ℕ) → (written status : ℕ) → Type 0
 MayEncode tables e text old new written status = OrNoMemory (EncodesWhole tables e text old new written status) old new status
+
+-- the room is as much as is asked for
+abbrev pub HasRoomAsked : (asked : Option ℕ) (room : ℕ) → Type 0
+HasRoomAsked asked room = (n : ℕ) × (asked ≡ Some n) × (n ≤ room)
+
+-- memory is not refused, since none is asked for, if the room is as much as the length query of a new decoder tells
+abbrev pub TakesNoMemory : (encoding mark size room status : ℕ) → Type 0
+TakesNoMemory encoding mark size room status =
+    (e : Encoding) (m : Mark) → encoding_at encoding ≡ Some e → mark_at mark ≡ Some m → HasRoomAsked (room_at_start m e Replaced size) room → status ≢ NO_MEMORY
 
 -- a text is encoded, if the tables are ready for the output encoding
 abbrev pub EncodesIfReady : (text old new : List ℕ) (written status : ℕ) → IndexLists → Encoding → Type 0

@@ -1,19 +1,34 @@
 //! The exports that decode a whole input, and encode a whole text, at once.
 
-ghost use Rattle.std.specs.Prelude.{◌≡◌, ◌≢◌, IfOk, string_bytes};
-ghost use Rattle.std.specs.Str.{IsUtf8};
-ghost use Rattle.encoding_front.specs.Encodings.{IsReady, output_encoding_of};
-ghost use Rattle.encoding_front.specs.calls.OneShot.{IsDecoded};
+ghost use Rattle.std.specs.Prelude.{◌≡◌, ◌≢◌, ◌↔◌, ◌<◌, ◌≤◌, IfOk, IfSome, IsTrue, false};
+ghost use Rattle.std.specs.Prelude.{length, string_bytes, take};
+ghost use Rattle.std.specs.Str.{IsUtf8, chars};
+ghost use Rattle.encoding_mem.specs.Coding.{lost_count, output};
+ghost use Rattle.encoding_mem.specs.declared.reference.Reference.TheVariants.{Decimal};
+ghost use Rattle.encoding_mem.specs.declared.room.OutputUnit.TheVariants.{Replaced};
+ghost use Rattle.encoding_tables.specs.IndexLists.{IndexLists};
+ghost use Rattle.encoding_front.specs.Encodings.{IsReady, coding_of, output_encoding_of};
+ghost use Rattle.encoding_front.specs.calls.DecoderViews.{decoder_view};
+ghost use Rattle.encoding_front.specs.calls.OneShot.{IsDecoded, room_at_start};
+ghost use Rattle.encoding_front.specs.calls.Stream.{IsNewDecoder, room_asked};
+ghost use Rattle.encoding_front.specs.declared.encoding.Encoding.{Encoding};
+ghost use Rattle.encoding_front.specs.declared.mark.Mark.{Mark};
+ghost use Rattle.jillapun_c.specs.Conversions.{IsVerdict};
 ghost use Rattle.jillapun_c.specs.Openings.{IfFound};
-ghost use Rattle.jillapun_c.specs.Whole.{DecodesIfReady, EncodesIfReady};
-ghost use Rattle.jillapun_c.specs.Whole.{MayDecode, MayEncode, PutsIfRoom};
-ghost use Rattle.jillapun_c.specs.declared.status.TheConstants.{LOSSY, NOT_UTF8, OK, ROOM};
+ghost use Rattle.jillapun_c.specs.Room.{IsPut, TextIsPut};
+ghost use Rattle.jillapun_c.specs.Whole.{BeginsWithText, DecodesIfReady, DecodesWhole};
+ghost use Rattle.jillapun_c.specs.Whole.{EncodesIfReady, HasRoomAsked, MayDecode, MayEncode};
+ghost use Rattle.jillapun_c.specs.Whole.{PutsIfRoom};
+ghost use Rattle.jillapun_c.specs.Whole.{TakesNoMemory, verdict_of};
+ghost use Rattle.jillapun_c.specs.declared.status.TheConstants.{LOSSY, NO_MEMORY, NOT_UTF8};
+ghost use Rattle.jillapun_c.specs.declared.status.TheConstants.{OK, ROOM};
 
 use crate::encoding_number::{encoding_of, mark_of};
+use crate::mem::text_room::clear_rest;
 use crate::mem::utf8::is_text;
 use crate::status::{CLOSED, LOSSY, NO_MEMORY, NOT_READY, NOT_UTF8, OK, ROOM, UNKNOWN};
 use crate::tables_handle::TablesHandle;
-use encoding_front::{Encoding, Mark, OneShotFault};
+use encoding_front::{CoderResult, Decoder, Encoding, Mark, OneShotFault};
 use encoding_tables::Tables;
 use std::alloc::Global;
 use std::str;
@@ -26,7 +41,8 @@ use std::str;
 /// `dst` is shorter than the text: call again with room for `written` bytes. Else nothing is done,
 /// and `written` is 0: `CLOSED`, there are no tables; `UNKNOWN`, no encoding or no handling of
 /// marks has the number; `NOT_READY`, the tables lack an index of the encoding; `NO_MEMORY`, memory
-/// was refused.
+/// was refused, which is not asked for if `dst` is as long as `jillapun_decoder_max_utf8_length`
+/// tells of a new decoder.
 #[unsafe(no_mangle)]
 pub extern "C" fn jillapun_decode(
     alloc: Global,
@@ -38,9 +54,11 @@ pub extern "C" fn jillapun_decode(
     written: &mut usize,
 ) -> u8
     ensures decodes { IfFound tables.tables encoding
-        (DecodesIfReady mark src.now dst.old dst.new written.new result) result }
+        (DecodesIfReady IsPut mark src.now dst.old dst.new written.new result) result }
+    ensures text { IsVerdict result → BeginsWithText dst.new written.new }
     ensures kept { result ≢ OK → result ≢ LOSSY → dst.new ≡ dst.old }
     ensures nothing { result ≢ OK → result ≢ LOSSY → result ≢ ROOM → written.new ≡ 0 }
+    ensures memory { TakesNoMemory encoding mark (length src.now) (length dst.old) result }
 {
     *written = 0;
     let Some(tables) = tables.get() else {
@@ -58,7 +76,42 @@ pub extern "C" fn jillapun_decode(
     decode_into(alloc, tables, encoding, mark, src, dst, written)
 }
 
-// Decodes a whole input into the room.
+/// Decodes a whole input to UTF-8 at the start of a text, with U+FFFD for each malformed sequence.
+/// What it does and returns is as of `jillapun_decode`, but for this: if a character of `dst` is
+/// overwritten in part, its other bytes become 00, so what was UTF-8 is UTF-8 after the call, as
+/// with `jillapun_decoder_decode_to_str`.
+#[unsafe(no_mangle)]
+pub extern "C" fn jillapun_decode_to_str(
+    alloc: Global,
+    tables: TablesHandle,
+    encoding: u8,
+    mark: u8,
+    src: &[u8],
+    dst: &mut [u8],
+    written: &mut usize,
+) -> u8
+    ensures decodes { IfFound tables.tables encoding
+        (DecodesIfReady TextIsPut mark src.now dst.old dst.new written.new result) result }
+    ensures kept { result ≢ OK → result ≢ LOSSY → dst.new ≡ dst.old }
+    ensures nothing { result ≢ OK → result ≢ LOSSY → result ≢ ROOM → written.new ≡ 0 }
+    ensures memory { TakesNoMemory encoding mark (length src.now) (length dst.old) result }
+{
+    let status = jillapun_decode(alloc, tables, encoding, mark, src, dst, written);
+    if !is_verdict(status) {
+        return status;
+    }
+    clear_rest(dst, *written);
+    status
+}
+
+// Whether all was converted.
+fn is_verdict(status: u8) -> bool
+    ensures { IsTrue result ↔ IsVerdict status }
+{
+    status == OK || status == LOSSY
+}
+
+// Decodes a whole input into the room: straight into it, if it is surely enough.
 fn decode_into(
     alloc: Global,
     tables: &Tables,
@@ -69,8 +122,63 @@ fn decode_into(
     written: &mut usize,
 ) -> u8
     requires { IsReady tables.now encoding }
-    ensures decodes { MayDecode tables.now encoding mark src.now dst.old dst.new written.new
-        result }
+    ensures decodes { MayDecode IsPut tables.now encoding mark src.now dst.old dst.new
+        written.new result }
+    ensures text { IsVerdict result → BeginsWithText dst.new written.new }
+    ensures kept { result ≢ OK → result ≢ LOSSY → dst.new ≡ dst.old }
+    ensures nothing { result ≢ OK → result ≢ LOSSY → result ≢ ROOM → written.new ≡ 0 }
+    ensures memory { HasRoomAsked (room_at_start mark encoding Replaced (length src.now))
+        (length dst.old) → result ≢ NO_MEMORY }
+{
+    tables.accepted();
+    let mut decoder = Decoder::new(encoding, mark, tables);
+    if is_enough(&decoder, src.len(), dst.len()) {
+        return decode_straight(&mut decoder, src, dst, written);
+    }
+    decode_by_copy(alloc, tables, encoding, mark, src, dst, written)
+}
+
+// Whether so much room is surely enough for the text of so many bytes.
+fn is_enough(decoder: &Decoder<'_>, size: usize, room: usize) -> bool
+    requires { (decoder_view decoder.now).finished ≡ false }
+    ensures { IsTrue result
+        ↔ HasRoomAsked (room_asked (decoder_view decoder.now).opening Replaced size) room }
+{
+    match decoder.max_utf8_buffer_length(size) {
+        Some(asked) => asked <= room,
+        None => false,
+    }
+}
+
+// Decodes a whole input by a new decoder straight into the room, which is surely enough.
+fn decode_straight(decoder: &mut Decoder<'_>, src: &[u8], dst: &mut [u8], written: &mut usize) -> u8
+    requires open { (decoder_view decoder.old).finished ≡ false }
+    requires room { HasRoomAsked
+        (room_asked (decoder_view decoder.old).opening Replaced (length src.now))
+        (length dst.old) }
+    ensures decodes { (tables : IndexLists) (e : Encoding) (mark : Mark)
+        → IsNewDecoder (decoder_view decoder.old) tables mark e
+        → DecodesWhole IsPut tables e mark src.now dst.old dst.new written.new result }
+    ensures done { IsVerdict result }
+{
+    let (_, _, length, had_errors) = decoder.decode_to_utf8(src, dst, true);
+    *written = length;
+    verdict_of(had_errors)
+}
+
+// Decodes a whole input into memory of ours, and puts its text into the room, if it fits.
+fn decode_by_copy(
+    alloc: Global,
+    tables: &Tables,
+    encoding: Encoding,
+    mark: Mark,
+    src: &[u8],
+    dst: &mut [u8],
+    written: &mut usize,
+) -> u8
+    requires { IsReady tables.now encoding }
+    ensures decodes { MayDecode IsPut tables.now encoding mark src.now dst.old dst.new
+        written.new result }
     ensures kept { result ≢ OK → result ≢ LOSSY → dst.new ≡ dst.old }
     ensures nothing { result ≢ OK → result ≢ LOSSY → result ≢ ROOM → written.new ≡ 0 }
 {
@@ -146,8 +254,62 @@ pub extern "C" fn jillapun_encode(
     encode_into(alloc, tables, encoding, text, dst, written)
 }
 
-// Encodes a whole text into the room.
+// How long an output may be to be made on the stack, in bytes.
+const SHORT: usize = 512;
+
+// Encodes a whole text into the room. An output in UTF-8 is the text; of others a short one is made
+// on the stack, so that no memory is asked for.
 fn encode_into(
+    alloc: Global,
+    tables: &Tables,
+    encoding: Encoding,
+    text: &str,
+    dst: &mut [u8],
+    written: &mut usize,
+) -> u8
+    requires { IsReady tables.now (output_encoding_of encoding) }
+    ensures encodes { MayEncode tables.now encoding text.now dst.old dst.new written.new result }
+    ensures kept { result ≢ OK → result ≢ LOSSY → dst.new ≡ dst.old }
+    ensures nothing { result ≢ OK → result ≢ LOSSY → result ≢ ROOM → written.new ≡ 0 }
+{
+    if encoding.can_encode_everything() {
+        return put(text.as_bytes(), false, dst, written);
+    }
+    let mut short = [0; SHORT];
+    match encoded(tables, encoding, text, &mut short) {
+        Some((length, had_unmappable)) => put(&short[..length], had_unmappable, dst, written),
+        None => encode_by_copy(alloc, tables, encoding, text, dst, written),
+    }
+}
+
+// Encodes a whole text at the start of a room. Returns the length of the output, and whether a
+// reference was written; or nothing, if the room is not enough, or is shorter than the text.
+fn encoded(
+    tables: &Tables,
+    encoding: Encoding,
+    text: &str,
+    room: &mut [u8],
+) -> Option<(usize, bool)>
+    requires { IsReady tables.now (output_encoding_of encoding) }
+    ensures bytes { IfSome result (λ r. take r.0 room.new
+        ≡ output Decimal (coding_of tables.now encoding) (chars text.now)) }
+    ensures lost { IfSome result (λ r. IsTrue r.1
+        ↔ (0 < lost_count (coding_of tables.now encoding) (chars text.now))) }
+    ensures within { IfSome result (λ r. r.0 ≤ length room.new) }
+{
+    if room.len() < text.len() {
+        return None;
+    }
+    let mut encoder = encoding.new_encoder(tables);
+    let (outcome, _, length, had_unmappable) = encoder.encode_from_utf8(text, room, true);
+    match outcome {
+        CoderResult::InputEmpty => Some((length, had_unmappable)),
+        CoderResult::OutputFull => None,
+    }
+}
+
+// Encodes a whole text into memory of ours, and puts its bytes into the room, if they fit.
+fn encode_by_copy(
     alloc: Global,
     tables: &Tables,
     encoding: Encoding,
@@ -171,7 +333,7 @@ fn encode_into(
 
 // Writes an output at the start of the room, if it fits, and tells its length.
 fn put(output: &[u8], is_lossy: bool, room: &mut [u8], written: &mut usize) -> u8
-    ensures puts { PutsIfRoom output.now room.old room.new is_lossy written.new result }
+    ensures puts { PutsIfRoom IsPut output.now room.old room.new is_lossy written.new result }
     ensures kept { result ≢ OK → result ≢ LOSSY → room.new ≡ room.old }
     ensures nothing { result ≢ OK → result ≢ LOSSY → result ≢ ROOM → written.new ≡ 0 }
 {
@@ -180,5 +342,13 @@ fn put(output: &[u8], is_lossy: bool, room: &mut [u8], written: &mut usize) -> u
         return ROOM;
     }
     room[..output.len()].copy_from_slice(output);
+    verdict_of(is_lossy)
+}
+
+// The status of a call that made all of its output.
+fn verdict_of(is_lossy: bool) -> u8
+    ensures status { result ≡ verdict_of is_lossy }
+    ensures verdict { IsVerdict result }
+{
     if is_lossy { LOSSY } else { OK }
 }

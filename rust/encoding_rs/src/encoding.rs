@@ -11,6 +11,10 @@ use std::ptr;
 /// Why a call panics that is handed an input of nearly 2^64 bytes.
 const TOO_LONG: &str = "the room for this input passes a usize";
 
+/// How long a text may be, in bytes, that is encoded in one call: the library makes its bytes beside the caller's room, and
+/// copies them.
+const SHORT: usize = 256;
+
 /// How an encoding writes ASCII.
 #[derive(Clone, Copy, PartialEq, Eq)]
 pub(crate) enum Family {
@@ -147,7 +151,7 @@ impl Encoding {
     ///
     /// If the room that the text may need passes a `usize`, or memory is refused.
     ///
-    /// Proved: `jillapun_for_bom`, `jillapun_decoder_decode_to_utf8`, `jillapun_utf8_valid_up_to` and its kin.
+    /// Proved: `jillapun_for_bom`, `jillapun_decode`, `jillapun_utf8_valid_up_to` and its kin.
     pub fn decode<'a>(&'static self, bytes: &'a [u8]) -> (Cow<'a, str>, &'static Encoding, bool) {
         let (encoding, length) = Encoding::for_bom(bytes).unwrap_or((self, 0));
         let (text, had_errors) = encoding.decode_without_bom_handling(&bytes[length..]);
@@ -174,22 +178,13 @@ impl Encoding {
     /// What is returned, what is borrowed and what panics is as of [`decode`](Self::decode). Of a part of an input,
     /// use [`new_decoder_without_bom_handling`](Self::new_decoder_without_bom_handling).
     pub fn decode_without_bom_handling<'a>(&'static self, bytes: &'a [u8]) -> (Cow<'a, str>, bool) {
-        let (start, mut rest) = match self.borrowed(bytes) {
+        let (start, rest) = match self.borrowed(bytes) {
             Ok(text) => return (Cow::Borrowed(text), false),
             Err(parts) => parts,
         };
-        let mut decoder = self.new_decoder_without_bom_handling();
-        let mut text = begun(start, decoder.max_utf8_buffer_length_without_replacement(rest.len()));
-        let mut had_errors = false;
-        loop {
-            let (result, read, errors) = decoder.decode_to_string(rest, &mut text, true);
-            rest = &rest[read..];
-            had_errors |= errors;
-            if result == CoderResult::InputEmpty {
-                return (Cow::Owned(text), had_errors);
-            }
-            text.reserve(decoder.max_utf8_buffer_length(rest.len()).expect(TOO_LONG));
-        }
+        let mut text = begun(start, self.text_room(rest.len()));
+        let had_errors = sys::decode_to_string((self.tables)(), self.number, rest, &mut text);
+        (Cow::Owned(text), had_errors)
     }
 
     /// Decodes a whole input in this encoding, if nothing is malformed: else returns `None`. A byte order mark is
@@ -234,7 +229,7 @@ impl Encoding {
     ///
     /// If the room that the bytes may need passes a `usize`, or memory is refused.
     ///
-    /// Proved: `jillapun_encoder_encode_from_utf8`, `jillapun_ascii_valid_up_to` and its kin.
+    /// Proved: `jillapun_encode`, `jillapun_encoder_encode_from_utf8`, `jillapun_ascii_valid_up_to` and its kin.
     pub fn encode<'a>(&'static self, string: &'a str) -> (Cow<'a, [u8]>, &'static Encoding, bool) {
         let output = self.output_encoding();
         if output == UTF_8 {
@@ -244,8 +239,29 @@ impl Encoding {
             Ok(text) => return (Cow::Borrowed(text.as_bytes()), output, false),
             Err((start, _)) => start,
         };
-        let mut rest = &string[start.len()..];
-        let mut encoder = output.new_encoder();
+        let rest = &string[start.len()..];
+        let (bytes, had_unmappable) = match rest.len() {
+            0..=SHORT => output.encode_short(start, rest),
+            _ => output.encode_long(start, rest),
+        };
+        (Cow::Owned(bytes), output, had_unmappable)
+    }
+
+    /// The bytes of a start, which are its own, and of a short text behind it; and whether a reference was written.
+    fn encode_short(&self, start: &str, rest: &str) -> (Vec<u8>, bool) {
+        let mut bytes = Vec::with_capacity(start.len() + 2 * rest.len());
+        bytes.extend_from_slice(start.as_bytes());
+        loop {
+            match sys::encode_to_vec((self.tables)(), self.number, rest, &mut bytes) {
+                Ok(had_unmappable) => return (bytes, had_unmappable),
+                Err(wanted) => bytes.reserve(wanted),
+            }
+        }
+    }
+
+    /// The same of any text.
+    fn encode_long(&'static self, start: &str, mut rest: &str) -> (Vec<u8>, bool) {
+        let mut encoder = self.new_encoder();
         let mut bytes = Vec::with_capacity(capacity(start, room(&encoder, rest)));
         bytes.extend_from_slice(start.as_bytes());
         let mut had_unmappable = false;
@@ -254,7 +270,7 @@ impl Encoding {
             rest = &rest[read..];
             had_unmappable |= unmappable;
             if result == CoderResult::InputEmpty {
-                return (Cow::Owned(bytes), output, had_unmappable);
+                return (bytes, had_unmappable);
             }
             bytes.reserve(room(&encoder, rest).expect(TOO_LONG));
         }
@@ -327,6 +343,16 @@ impl Encoding {
     /// Proved: `jillapun_iso_2022_jp_ascii_valid_up_to`.
     pub fn iso_2022_jp_ascii_valid_up_to(bytes: &[u8]) -> usize {
         sys::mem::iso_2022_jp_ascii_valid_up_to(bytes)
+    }
+
+    /// How many bytes are room enough for the text of so many, with U+FFFD for each malformed sequence: at least what
+    /// a new decoder tells, three for each byte or each pair of bytes, and three at most beside.
+    fn text_room(&self, length: usize) -> Option<usize> {
+        let most = match self.family {
+            Family::Wide => length / 2 + 1,
+            _ => length,
+        };
+        most.checked_add(1)?.checked_mul(3)
     }
 
     /// The bytes as their own text, if all of them are; else the start that is, and the rest.

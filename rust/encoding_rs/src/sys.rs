@@ -7,6 +7,7 @@ mod labels;
 pub(crate) mod mem;
 mod raw;
 mod tables;
+mod whole;
 
 pub(crate) use decoder::{Decoder, Mark, OnMalformed};
 pub(crate) use encoder::{Encoder, OnUnmappable};
@@ -15,6 +16,7 @@ pub(crate) use labels::{
     output_encoding,
 };
 pub(crate) use tables::Tables;
+pub(crate) use whole::{decode_to_string, encode_to_vec};
 
 /// A length that the library tells, if it tells one.
 fn length(told: usize) -> Option<usize> {

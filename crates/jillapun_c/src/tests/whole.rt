@@ -3,7 +3,7 @@
 use crate::status::{CLOSED, KEEP, LOSSY, NOT_READY, NOT_UTF8, OK, REMOVE, ROOM, SNIFF, UNKNOWN};
 use crate::tables_handle::TablesHandle;
 use crate::tests::euro;
-use crate::whole::{jillapun_decode, jillapun_encode};
+use crate::whole::{jillapun_decode, jillapun_decode_to_str, jillapun_encode};
 use std::alloc::Global;
 
 const WINDOWS_1252: u8 = 31;
@@ -68,6 +68,42 @@ fn input_is_decoded(rt: HostRuntime) {
     assert_eq!(rt; left, (OK, *b"\xEF\xBB\xBFa........", 4));
 }
 
+// Room for 12 bytes is surely enough for three of input, and not for four.
+#[test]
+fn room_that_is_surely_enough_changes_nothing(rt: HostRuntime) {
+    let alloc = rt.alloc();
+    let left = decoded(alloc, UTF_8, SNIFF, &[0xFF, 0xFE, 0x61], 12);
+    assert_eq!(rt; left, (LOSSY, *b"\xEF\xBF\xBD.........", 3));
+    let left = decoded(alloc, UTF_8, SNIFF, &[0xFF, 0xFE, 0x61, 0], 12);
+    assert_eq!(rt; left, (OK, *b"a...........", 1));
+    let left = decoded(alloc, WINDOWS_1252, KEEP, &[0x80, 0x80, 0x80, 0x80], 12);
+    let euros = *b"\xE2\x82\xAC\xE2\x82\xAC\xE2\x82\xAC\xE2\x82\xAC";
+    assert_eq!(rt; left, (OK, euros, 12));
+    let left = decoded(alloc, WINDOWS_1252, KEEP, &[0x80, 0x80, 0x80, 0x80], 11);
+    assert_eq!(rt; left, (ROOM, *b"............", 12));
+}
+
+fn put_over(alloc: Global, encoding: u8, src: &[u8], room: usize) -> (u8, [u8; 8], usize) {
+    let mut text = *b"\xC3\xA9\xE2\x82\xAC\xE2\x82\xAC";
+    let mut written = 9;
+    let tables = euro(alloc);
+    let dst = &mut text[..room.min(8)];
+    let status = jillapun_decode_to_str(alloc, tables, encoding, KEEP, src, dst, &mut written);
+    (status, text, written)
+}
+
+#[test]
+fn text_stays_text(rt: HostRuntime) {
+    let alloc = rt.alloc();
+    let same = *b"\xC3\xA9\xE2\x82\xAC\xE2\x82\xAC";
+    let left = put_over(alloc, WINDOWS_1252, &[0x61, 0x81], 8);
+    assert_eq!(rt; left, (LOSSY, *b"a\xEF\xBF\xBD\x00\xE2\x82\xAC", 4));
+    let left = put_over(alloc, UTF_8, b"abc", 8);
+    assert_eq!(rt; left, (OK, *b"abc\x00\x00\xE2\x82\xAC", 3));
+    assert_eq!(rt; put_over(alloc, UTF_8, b"abc", 2), (ROOM, same, 3));
+    assert_eq!(rt; put_over(alloc, 40, b"abc", 8), (UNKNOWN, same, 0));
+}
+
 #[test]
 fn others_are_not_decoded(rt: HostRuntime) {
     let alloc = rt.alloc();
@@ -92,6 +128,23 @@ fn text_is_encoded(rt: HostRuntime) {
     assert_eq!(rt; left, (ROOM, *b"............", 10));
     let left = encoded(alloc, UTF_16LE, "€".as_bytes(), 12);
     assert_eq!(rt; left, (OK, *b"\xE2\x82\xAC.........", 3));
+    let left = encoded(alloc, UTF_16LE, "€".as_bytes(), 2);
+    assert_eq!(rt; left, (ROOM, *b"............", 3));
+}
+
+#[test]
+fn long_text_is_encoded(rt: HostRuntime) {
+    let alloc = rt.alloc();
+    let left = encoded(alloc, WINDOWS_1252, &[0x61; 600], 12);
+    assert_eq!(rt; left, (ROOM, *b"............", 600));
+    let mut dst = [0x2E; 602];
+    let mut written = 9;
+    let tables = euro(alloc);
+    let text = [0x61; 600];
+    let status = jillapun_encode(alloc, tables, WINDOWS_1252, &text, &mut dst, &mut written);
+    assert_eq!(rt; (status, written), (OK, 600));
+    assert_eq!(rt; &dst[..600], text.as_slice());
+    assert_eq!(rt; &dst[600..], b"..".as_slice());
 }
 
 #[test]

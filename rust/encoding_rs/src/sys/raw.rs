@@ -4,9 +4,11 @@ use std::ffi::c_void;
 use std::ptr;
 
 pub(super) const OK: u8 = 0;
+pub(super) const LOSSY: u8 = 1;
 pub(super) const BAD_INDEX: u8 = 4;
 pub(super) const NO_MEMORY: u8 = 5;
 pub(super) const FINISHED: u8 = 8;
+pub(super) const ROOM: u8 = 10;
 
 pub(super) const INPUT_EMPTY: u8 = 0;
 pub(super) const OUTPUT_FULL: u8 = 1;
@@ -203,6 +205,15 @@ extern "C" {
     pub(super) fn jillapun_encoder_encode_from_utf16_without_replacement(
         encoder: *mut Encoder, text: *const u16, text_len: usize, dst: *mut u8, dst_len: usize, last: bool,
         progress: *mut EncoderProgress,
+    ) -> u8;
+
+    pub(super) fn jillapun_decode(
+        tables: Tables, encoding: u8, mark: u8, src: *const u8, src_len: usize, dst: *mut u8, dst_len: usize,
+        written: *mut usize,
+    ) -> u8;
+    pub(super) fn jillapun_encode(
+        tables: Tables, encoding: u8, text: *const u8, text_len: usize, dst: *mut u8, dst_len: usize,
+        written: *mut usize,
     ) -> u8;
 
     pub(super) fn jillapun_utf8_valid_up_to(buffer: *const u8, buffer_len: usize) -> usize;

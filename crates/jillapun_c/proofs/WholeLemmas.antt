@@ -1,0 +1,180 @@
+-- A whole input through one last call of a new decoder, and its text put over another. A whole text through one last call of
+-- a new encoder.
+use Rattle.std.proofs.Common.{◌≡◌, ◌≢◌, ◌<◌, ◌↔◌, ℕ, Bool, true, false, inl, inr, IsTrue, Option, None, Some, List, length, take, drop, refl, sym, ◌∙◌, ap, subst, arith, encode_utf8_all}
+use Rattle.std.specs.Prelude.{MatchOption}
+use Rattle.std.specs.Str.{IsUtf8, chars}
+use Rattle.std.proofs.lemmas.List.{drop_at, take_at}
+use Rattle.std.proofs.lemmas.Str.{encodes-chars}
+use Rattle.encoding_mem.specs.Coding.{Coding, lost_count, output, whole_from}
+use Rattle.encoding_mem.specs.Piece.{Piece, malformed_count, text}
+use Rattle.encoding_mem.specs.Utf8Coding.{utf8_coding}
+use Rattle.encoding_mem.specs.calls.Writing.{Adds}
+use Rattle.encoding_mem.specs.declared.form.EscapeState.TheVariants.{Ascii}
+use Rattle.encoding_mem.specs.declared.reference.Reference.TheVariants.{Decimal}
+use Rattle.encoding_mem.specs.laws.EncoderCalls.{utf8_lost_count, utf8_output}
+use Rattle.encoding_tables.specs.IndexLists.{AreAcceptedTables, IndexLists}
+use Rattle.encoding_front.specs.Codecs.{codec_of}
+use Rattle.encoding_front.specs.EncodingTable.{codec_kind_of}
+use Rattle.encoding_front.specs.Encodings.{IsUtf8Encoding, coding_of, output_encoding_of}
+use Rattle.encoding_front.specs.Marks.{marked_text}
+use Rattle.encoding_front.specs.calls.DecoderCall.{TextCall}
+use Rattle.encoding_front.specs.calls.Encoder.{EncoderState, Replaces, coding_in, new_state}
+use Rattle.encoding_front.specs.calls.Stream.{DecoderView, IsNewDecoder}
+use Rattle.encoding_front.specs.declared.coder_result.CoderResult.{CoderResult}
+use Rattle.encoding_front.specs.declared.encoding.Encoding.{Encoding}
+use Rattle.encoding_front.specs.declared.mark.Mark.{Mark}
+use Rattle.encoding_front.specs.laws.Calls.{wrote_replaced, wrote_text}
+use Rattle.encoding_front.specs.laws.Encoder.{output_twice}
+use Rattle.encoding_front.specs.laws.Encodings.{coding_of_utf8}
+use Rattle.encoding_front.specs.laws.Input.{marked_scalars}
+use Rattle.jillapun_c.specs.Conversions.{IsVerdict}
+use Rattle.jillapun_c.specs.EncodingNumbers.{encoding_at, mark_at}
+use Rattle.jillapun_c.specs.Openings.{IfFound, IfReady}
+use Rattle.jillapun_c.specs.Room.{IsPut, TextIsPut}
+use Rattle.jillapun_c.specs.Whole.{BeginsWithText, DecodesIfReady, DecodesWhole, EncodesWhole, MayDecode, PutsIfRoom, verdict_of}
+use Rattle.jillapun_c.specs.declared.status.TheConstants.{LOSSY, NO_MEMORY, OK}
+use Rattle.jillapun_c.proofs.TextDecodeLemmas.{PutsOver}
+
+-- ---- an input is decoded
+
+all_read : (outcome : CoderResult) → outcome ≢ CoderResult.OutputFull → outcome ≡ CoderResult.InputEmpty
+all_read CoderResult.InputEmpty never = refl
+all_read CoderResult.OutputFull never = absurd (never refl)
+
+-- a call that does not end for lack of room writes the text at the start of it
+pub decodes_straight : (v v' : DecoderView) (t : IndexLists) (mark : Mark) (e : Encoding) (src old new : List ℕ) (outcome : CoderResult) (read w free room least : ℕ) (had : Bool) (status : ℕ)
+    → IsNewDecoder v t mark e → outcome ≢ CoderResult.OutputFull → TextCall v v' src true read (λ (l : List ℕ). Adds old 0 (encode_utf8_all l) new w) free room least outcome had
+    → length new ≡ length old → status ≡ verdict_of had → DecodesWhole IsPut t e mark src old new w status
+decodes_straight v v' t mark e src old new outcome read w free room least had status begins never call same told =
+    let wrote = wrote_text v v' src read (λ (l : List ℕ). Adds old 0 (encode_utf8_all l) new w) free room least outcome had call (all_read outcome never) in
+    let made : List ℕ = encode_utf8_all (text (v.state.pieces src)) in
+    let adds : Adds old 0 made new w = wrote.0 in
+    record {
+      text = made;
+      had_errors = had;
+      decoded = record {
+        bytes = ap (λ (ps : List Piece). encode_utf8_all (text ps)) (begins.pieces src);
+        malformed_ = subst (λ (ps : List Piece). IsTrue had ↔ (0 < malformed_count ps)) (begins.pieces src) wrote.1;
+      };
+      put = inl (record {
+        put = record {
+          fits = omega (arith, adds.within, same);
+          is = ap (take w) adds.list ∙ take_at made (drop w old) w (omega (arith, adds.counted));
+          behind = ap (drop w) adds.list ∙ drop_at made (drop w old) w (omega (arith, adds.counted));
+        };
+        length_is = omega (arith, adds.counted);
+        told = told;
+      });
+    }
+
+-- ---- by its status
+
+-- what is said of another status
+pub if_other : {X : Type 0} (status : ℕ) → IsVerdict status → status ≢ OK → status ≢ LOSSY → X
+if_other status (inl ok) not_ok not_lossy = absurd (not_ok ok)
+if_other status (inr lossy) not_ok not_lossy = absurd (not_lossy lossy)
+
+pub is_memory : {X : Type 0} (status : ℕ) → IsVerdict status → status ≡ NO_MEMORY → X
+is_memory status (inl ok) none = absurd (cc)
+is_memory status (inr lossy) none = absurd (cc)
+
+told_verdict : (had : Bool) (status : ℕ) → status ≡ verdict_of had → IsVerdict status
+told_verdict true status told = inr told
+told_verdict false status told = inl told
+
+-- ---- its text is put over another
+
+-- what was put begins with a text
+pub begins_with_text : (t : IndexLists) (e : Encoding) (mark : Mark) (src old new : List ℕ) (w status : ℕ) → AreAcceptedTables t → MayDecode IsPut t e mark src old new w status
+    → IsVerdict status → BeginsWithText new w
+begins_with_text t e mark src old new w status taken (inr none) verdict = is_memory status verdict none.0
+begins_with_text t e mark src old new w status taken (inl d) verdict = by_room d.put
+  where
+    by_room : PutsIfRoom IsPut d.text old new d.had_errors w status → BeginsWithText new w
+    by_room (inl fits) = record {
+      within = fits.put.fits;
+      utf8 = subst IsUtf8 (sym (fits.put.is ∙ d.decoded.bytes)) (marked_text t mark e src, (marked_scalars t mark e src taken, refl));
+    }
+    by_room (inr long) = elim verdict [ inl ok ↦ absurd (cc (long.told)) | inr lossy ↦ absurd (cc (long.told)) ]
+
+by_option : {X : Type 0} (o : Option X) (A : Type 0) (F G : X → Type 0) → ((x : X) → F x → G x) → MatchOption o A F → MatchOption o A G
+by_option None A F G f h = h
+by_option (Some x) A F G f h = f x h
+
+-- what is put may be put otherwise
+decodes_as : (P Q : (old output new : List ℕ) (written : ℕ) → Type 0) (tables : Option IndexLists) (encoding mark : ℕ) (src old mid new : List ℕ) (w status : ℕ)
+    → ((made : List ℕ) (had : Bool) → PutsIfRoom P made old mid had w status → PutsIfRoom Q made old new had w status) → (status ≡ NO_MEMORY → mid ≡ old → new ≡ old)
+    → IfFound tables encoding (DecodesIfReady P mark src old mid w status) status → IfFound tables encoding (DecodesIfReady Q mark src old new w status) status
+decodes_as P Q tables encoding mark src old mid new w status puts kept h =
+    by_option tables _ (λ t. MatchOption (encoding_at encoding) _ (λ e. DecodesIfReady P mark src old mid w status t e)) (λ t. MatchOption (encoding_at encoding) _ (λ e. DecodesIfReady Q mark src old new w status t e))
+    (λ t. by_option (encoding_at encoding) _ (λ e. DecodesIfReady P mark src old mid w status t e) (λ e. DecodesIfReady Q mark src old new w status t e)
+    (λ e. by_option (mark_at mark) _ (λ m. IfReady t e (MayDecode P t e m src old mid w status) status) (λ m. IfReady t e (MayDecode Q t e m src old new w status) status) (ready t e))) h
+  where
+    made : (t : IndexLists) (e : Encoding) (m : Mark) → MayDecode P t e m src old mid w status → MayDecode Q t e m src old new w status
+    made t e m (inl d) = inl (record { text = d.text; had_errors = d.had_errors; decoded = d.decoded; put = puts d.text d.had_errors d.put })
+    made t e m (inr none) = inr (none.0, kept none.0 none.1)
+
+    ready : (t : IndexLists) (e : Encoding) (m : Mark) → IfReady t e (MayDecode P t e m src old mid w status) status → IfReady t e (MayDecode Q t e m src old new w status) status
+    ready t e m (inl (is, d)) = inl (is, made t e m d)
+    ready t e m (inr other) = inr other
+
+-- nothing is, if the status is no verdict
+pub not_put : (P Q : (old output new : List ℕ) (written : ℕ) → Type 0) (tables : Option IndexLists) (encoding mark : ℕ) (src old new : List ℕ) (w status : ℕ) → ¬ (IsVerdict status)
+    → IfFound tables encoding (DecodesIfReady P mark src old new w status) status → IfFound tables encoding (DecodesIfReady Q mark src old new w status) status
+not_put P Q tables encoding mark src old new w status other = decodes_as P Q tables encoding mark src old new new w status (λ made had. too_long made had) (λ _ same. same)
+  where
+    too_long : (made : List ℕ) (had : Bool) → PutsIfRoom P made old new had w status → PutsIfRoom Q made old new had w status
+    too_long made had (inl fits) = absurd (other (told_verdict had status fits.told))
+    too_long made had (inr long) = inr long
+
+-- a text is, whatever is behind it
+pub put_over_text : (tables : Option IndexLists) (encoding mark : ℕ) (src old mid new : List ℕ) (w status : ℕ) → IsVerdict status → IsUtf8 (take w mid) → PutsOver mid new w
+    → IfFound tables encoding (DecodesIfReady IsPut mark src old mid w status) status → IfFound tables encoding (DecodesIfReady TextIsPut mark src old new w status) status
+put_over_text tables encoding mark src old mid new w status verdict is over =
+    decodes_as IsPut TextIsPut tables encoding mark src old mid new w status (λ made had. puts made had) (λ none same. is_memory status verdict none)
+  where
+    puts : (made : List ℕ) (had : Bool) → PutsIfRoom IsPut made old mid had w status → PutsIfRoom TextIsPut made old new had w status
+    puts made had (inl fits) = inl (record {
+      put = subst (λ l. TextIsPut old l new w) (is.1.1 ∙ fits.put.is) (over is.0 old is.1.0 (sym is.1.1) fits.put.behind);
+      length_is = fits.length_is;
+      told = fits.told;
+    })
+    puts made had (inr long) = elim verdict [ inl ok ↦ absurd (cc (long.told)) | inr lossy ↦ absurd (cc (long.told)) ]
+
+-- ---- a text is encoded
+
+-- a call that reads all writes the output for the text
+pub encodes_all : (t : IndexLists) (e : Encoding) (x x' : EncoderState) (cs written rest : List ℕ) (lost : Bool) (size : ℕ) (outcome : CoderResult)
+    → x ≡ new_state t e → Replaces x true outcome cs written x' rest lost size → outcome ≡ CoderResult.InputEmpty
+    → (written ≡ output Decimal (coding_of t e) cs) × (IsTrue lost ↔ (0 < lost_count (coding_of t e) cs))
+encodes_all t e x x' cs written rest lost size outcome new call is =
+    let wrote = wrote_replaced x x' cs written rest lost size outcome call is in
+    let count : lost_count (coding_in x) cs ≡ lost_count (coding_of t e) cs =
+    ap (λ (y : EncoderState). lost_count (coding_in y) cs) new ∙ ap (λ (d : Encoding). lost_count (codec_of t (codec_kind_of d)).coding cs) (output_twice e) in (
+      wrote.0 ∙ ap (λ (y : EncoderState). whole_from Decimal (coding_in y) y.set cs) new
+          ∙ ap (λ (d : Encoding). whole_from Decimal (codec_of t (codec_kind_of d)).coding Ascii cs) (output_twice e),
+      subst (λ (n : ℕ). IsTrue lost ↔ (0 < n)) count wrote.1,
+    )
+
+-- an output in UTF-8 is the text, and nothing is lost
+pub encodes_utf8 : (t : IndexLists) (e : Encoding) (bytes old new : List ℕ) (w status : ℕ) → IsUtf8Encoding (output_encoding_of e) → IsUtf8 bytes
+    → PutsIfRoom IsPut bytes old new false w status → EncodesWhole t e bytes old new w status
+encodes_utf8 t e bytes old new w status out is put =
+    let coding : coding_of t e ≡ utf8_coding = sym (ap (λ (d : Encoding). (codec_of t (codec_kind_of d)).coding) (output_twice e)) ∙ coding_of_utf8 t (output_encoding_of e) out in
+    let count : lost_count (coding_of t e) (chars bytes) ≡ 0 = ap (λ (k : Coding). lost_count k (chars bytes)) coding ∙ utf8_lost_count (chars bytes) in
+    let same : output Decimal (coding_of t e) (chars bytes) ≡ bytes =
+    ap (λ (k : Coding). output Decimal k (chars bytes)) coding ∙ utf8_output Decimal (chars bytes) ∙ encodes-chars bytes is in
+    record {
+      had_unmappable = false;
+      lost = (λ h. absurd (cc), λ some. absurd (omega (arith, some, count)));
+      put = subst (λ l. PutsIfRoom IsPut l old new false w status) (sym same) put;
+    }
+
+-- one that was made elsewhere
+pub encodes_put : (t : IndexLists) (e : Encoding) (bytes made old new : List ℕ) (lost : Bool) (w status : ℕ) → made ≡ output Decimal (coding_of t e) (chars bytes)
+    → (IsTrue lost ↔ (0 < lost_count (coding_of t e) (chars bytes))) → PutsIfRoom IsPut made old new lost w status → EncodesWhole t e bytes old new w status
+encodes_put t e bytes made old new lost w status is told put = record {
+  had_unmappable = lost;
+  lost = told;
+  put = subst (λ l. PutsIfRoom IsPut l old new lost w status) is put;
+}
