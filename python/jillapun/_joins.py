@@ -1,5 +1,5 @@
-"""What is told of the parts of an input, joined to what is told of the whole, by the library: its sums are proved to be
-those of the whole (docs/PROOFS.md, *Parts are the whole*)."""
+"""What is told of the parts of an input, joined to what is told of the whole. The library adds, and its sums are proved;
+that they are of the whole is the law of parts (docs/PROOFS.md, *Parts are the whole*)."""
 
 import ctypes
 from typing import Iterable, List
