@@ -15,7 +15,8 @@ is done by a library that is proved, `libjillapun.so`; this package needs nothin
 - `register`: codecs for Python's own `open`, `bytes.decode` and all else that is handed a name of an encoding.
 - `which`: how each encoding reads an input, without a guess.
 - `Indexes`: the indexes of encodings, from another folder than that of the installation. `name`, `output_name`: labels.
-- `part_encoding`: whether an input can be converted in parts, and as what.
+- `part_encoding`: whether an input can be converted in parts, and as what. `join_losses`, `join_reports`: what is told
+  of the parts, as what is told of the whole.
 
 A label that no encoding has raises `UnknownLabel`, which is a `LookupError`. Calls from several threads at once are
 made at once: Python's lock is let go while the library works, unless it decodes or encodes at most 1 KiB.
@@ -23,6 +24,7 @@ made at once: Python's lock is let go while the library works, unless it decodes
 
 from ._files import convert_file
 from ._indexes import Indexes, default_folder, name, output_name, part_encoding
+from ._joins import join_losses, join_reports
 from ._results import (
     Bad,
     Converted,
@@ -78,6 +80,8 @@ __all__ = [
     "decode",
     "default_folder",
     "encode",
+    "join_losses",
+    "join_reports",
     "name",
     "open",
     "output_name",

@@ -123,13 +123,15 @@ _declare("jillapun_convert", Byte, Tables, Byte, Byte, Byte, Byte, Long, *_LENT,
 
 @lru_cache(maxsize=None)
 def streams() -> ctypes.CDLL:
-    """The library, with the calls of conversions by steps declared, and the one that finds a mark."""
+    """The library, with the calls of conversions by steps declared, those of parts, and the one that finds a mark."""
     told = (ctypes.POINTER(ConverterProgress), _REPORT)
     _declare("jillapun_converter_new", Byte, Tables, Byte, Byte, Byte, Byte, Long, _HANDLE)
     _declare("jillapun_converter_step", Byte, _HANDLE, *_ROOM, ctypes.c_bool, *_ROOM, *_ROOM, *told)
     _declare("jillapun_converter_free", None, _HANDLE)
     _declare("jillapun_for_bom", Byte, *_LENT, ctypes.POINTER(Size))
     _declare("jillapun_part_encoding", Byte, Byte, Byte, Byte, *_LENT)
+    _declare("jillapun_join_loss", ctypes.c_bool, _REPORT, ctypes.POINTER(Loss))
+    _declare("jillapun_join_reports", ctypes.c_bool, _REPORT, _REPORT)
     return library
 
 

@@ -13,6 +13,7 @@ from concurrent.futures import Future, ThreadPoolExecutor
 from typing import BinaryIO, Callable, Deque, Iterator, List, NamedTuple, Optional, Tuple, cast
 
 from ._indexes import Indexes, part_encoding
+from ._joins import join_reports
 from ._results import Losses, Report, Stopped
 from ._steps import Conversion
 
@@ -84,7 +85,7 @@ class _Parts:
     def __init__(self, first: Job, later: Job, given: io.BufferedReader):
         self._first, self._later, self._given = first, later, given
         # What is told of the parts that were joined to their ends.
-        self.report = Report(0, 0, 0, True, 0)
+        self.report = Report()
 
     def blocks(self) -> Iterator[_Block]:
         """The blocks of the file. A part ends behind the first byte after a block that can be cut behind, if it is
@@ -118,13 +119,7 @@ class _Parts:
             raise fault
         made.writelines(block.output)
         if block.is_last:
-            self._end(cast(Report, part.conversion.report))
-
-    def _end(self, told: Report) -> None:
-        read, bad, lost, faithful, characters = self.report
-        self.report = Report(
-            read + told.read, bad + told.bad, lost + told.lost, faithful and told.faithful, characters + told.characters
-        )
+            self.report = join_reports(self.report, cast(Report, part.conversion.report))
 
 
 def _ahead(blocks: Iterator[_Block], pool: ThreadPoolExecutor, count: int) -> Iterator[_Block]:

@@ -75,18 +75,18 @@ class ConvertedPart(NamedTuple):
 
 
 class Report(NamedTuple):
-    """What is told of a stream that was converted to its end."""
+    """What is told of a stream that was converted to its end. `Report()` tells of no bytes."""
 
-    read: int
+    read: int = 0
     """How many bytes were read."""
-    bad: int
+    bad: int = 0
     """How many sequences of the input were malformed."""
-    lost: int
+    lost: int = 0
     """How many characters have no bytes in the output encoding."""
-    faithful: bool
+    faithful: bool = True
     """Whether nothing was malformed, and the output, read again, is the text of the input. It can be false where both
     counts are 0: some encodings write a character as bytes that read back as another."""
-    characters: int
+    characters: int = 0
     """How many characters the text has, with U+FFFD for each malformed sequence, and without a mark that was taken."""
 
     @property

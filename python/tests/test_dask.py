@@ -33,7 +33,7 @@ FAULTY = "é 日 🙂\n".encode() + b"\xff\n"
 def whole(data: bytes, source: str, target: str) -> Tuple[bytes, List[str], int]:
     """Output, lines of losses and status of one conversion."""
     done = jillapun.convert(data, source, target)
-    return done.output, [str(fault) for fault in done.losses], int(not done.faithful)
+    return done.output, [str(loss) for loss in done.losses], int(not done.faithful)
 
 
 class OnDask(Folder):

@@ -141,7 +141,7 @@ class Parts(Folder):
         self.assertEqual(self.agree(data, "utf-8", "windows-1252", part=1000)[0].lost, 50_018)
 
     def test_lost_characters_that_come_late(self) -> None:
-        """Then the characters of all parts before are counted; after that each part's own."""
+        """Their indexes count the characters of all parts before."""
         text = "é日 " * 300 + "\ud7ff " + "é日 " * 300 + "\ud7ff 🙂 " * 300
         for source in ("utf-8", "gb18030"):
             for target in ("shift_jis", "euc-jp"):
@@ -271,6 +271,64 @@ class Parts(Folder):
             tracemalloc.stop()
             self.assertEqual(done.lost, 600_000)
             self.assertLess(peak, 3 << 20)
+
+
+class Joins(unittest.TestCase):
+    """Losses and reports of parts that the caller converts, joined, beside one conversion of the whole."""
+
+    def made(self, parts: List[bytes], source: str, later: str, target: str, **words: Any) -> Tuple[Any, ...]:
+        """What conversions of the parts of an input give together."""
+        told, output = jillapun.Report(), b""
+        losses: List[jillapun._results.Loss] = []
+        for number, data in enumerate(parts):
+            first = {"source": source} if not number else {"source": later, "mark": "keep"}
+            converter = jillapun.Converter(target=target, **first, **words)
+            try:
+                done = converter.convert(data, last=True)
+            except jillapun.Stopped as stop:
+                losses += jillapun.join_losses(told, stop.losses)
+                return output + stop.output, losses, jillapun.join_losses(told, [stop.lost])[0]
+            output += done.output
+            losses += jillapun.join_losses(told, done.losses)
+            told = jillapun.join_reports(told, converter.report)
+        return output, losses, told
+
+    def test_random_inputs(self) -> None:
+        chance = random.Random(21)
+        seen = set()
+        for _ in range(150):
+            source, target = chance.choice(SOURCES), chance.choice(SOURCES + ["utf-16le"])
+            data = input_of(chance, source)
+            later = jillapun.part_encoding(data, source, target)
+            if not later:
+                continue
+            cuts = [cut + 1 for cut, byte in enumerate(data[:-1]) if byte < 0x30 and chance.random() < 0.5]
+            parts = [data[start:end] for start, end in zip([0, *cuts], [*cuts, None])]
+            words = {"unmappable": chance.choice(["decimal", "hexadecimal", "stop"])}
+            whole = self.made([data], source, later, target, **words)
+            self.assertEqual(self.made(parts, source, later, target, **words), whole, (parts, source, target, words))
+            seen.add((type(whole[2]), len(parts) > 1))
+        self.assertEqual(seen, {(kind, many) for kind in (jillapun.Report, jillapun.Lost) for many in (False, True)})
+
+    def test_numbers_by_hand(self) -> None:
+        """A part behind ten bytes, which are seven characters."""
+        before = jillapun.Report(read=10, bad=1, lost=0, faithful=False, characters=7)
+        losses = jillapun.join_losses(before, [jillapun.Bad(3, 2), jillapun.Lost(2, "日")])
+        self.assertEqual(losses, [jillapun.Bad(13, 2), jillapun.Lost(9, "日")])
+        part = jillapun.Report(read=5, bad=0, lost=1, faithful=True, characters=4)
+        self.assertEqual(jillapun.join_reports(before, part), (15, 1, 1, False, 11))
+        self.assertEqual(jillapun.join_reports(jillapun.Report(), part), part)
+
+    def test_numbers_of_no_conversion(self) -> None:
+        one, most = jillapun.Report(read=1, characters=1), 2**64 - 1
+        self.assertEqual(jillapun.join_losses(one, [jillapun.Bad(most - 1, 1)]), [jillapun.Bad(most, 1)])
+        for number in (most, most + 1, -1):
+            for loss in (jillapun.Bad(number, 1), jillapun.Lost(number, "日")):
+                self.assertRaises(OverflowError, jillapun.join_losses, one, [loss])
+            for name in ("read", "characters"):
+                told = one._replace(**{name: number})
+                self.assertRaises(OverflowError, jillapun.join_reports, told, one)
+                self.assertRaises(OverflowError, jillapun.join_reports, one, told)
 
 
 class Words(Programs):

@@ -3,14 +3,14 @@
 leaves out, or with `--gate` those of `must-fail/`, which `rt ci` tries: one of each library, since each costs a check of
 its whole crate.
 
-    python3 tools/edits/edits.py [--gate] [--anew] [--jobs N] [CRATE[/NAME]..]
+    python3 tools/edits/edits.py [--gate] [--anew | --new] [--jobs N] [CRATE[/NAME]..]
     python3 tools/edits/edits.py --readable | --runs [--jobs N] [CRATE[/NAME]..]
 
 With a name, those of the crate whose names begin with it. An edit that was refused on the code as it is, by the record of
-edit_record.py, is not tried again, unless `--anew` says so. What came of an edit is recorded as soon as it is known,
-so a run that was cut off goes on with the edits that are left; docs/STATUS.md is written from the record. `--jobs` checks or
-runs are made at a time, by default two, in at most as many copies of a crate. All crates take about 6 hours of processor
-time from nothing.
+edit_record.py, is not tried again, unless `--anew` says so. With `--new` none is that was tried, on whatever code. What came
+of an edit is recorded as soon as it is known, so a run that was cut off goes on with the edits that are left; docs/STATUS.md
+is written from the record. `--jobs` checks or runs are made at a time, by default two, in at most as many copies of a crate.
+All crates take about 6 hours of processor time from nothing.
 
 In copies of the repository, with what checks have kept in `out/`, edits are made in rounds: of each function at most one
 edit in a round. First a pass over the sources finds edits that cannot be compiled. A check then says of each function
@@ -488,10 +488,12 @@ def chosen(given):
 
 
 def is_left(crate, edit, given):
-    """Whether an edit is to be tried: it was not refused on the code as it is. For runs alone: it is recorded as showing
-    nothing, or it is new and has a call or is named."""
+    """Whether an edit is to be tried: it was not refused on the code as it is, or, with `--new`, it is new. For runs alone:
+    it is recorded as showing nothing, or it is new and has a call or is named."""
     line = edit_record.lines_of(crate).get(edit.name)
     line = line if line and line.edit == edit.checksum else None
+    if given.new:
+        return not line
     if given.runs:
         return line.kind == STALE if line else bool(edit.call or given.names)
     return not line or line.code != edit_record.checksum_of_code(crate) or line.kind not in (REFUSED, RUN)
@@ -562,7 +564,7 @@ def try_crate(top, crate, edits, given, *how):
 
 def main():
     parser = argparse.ArgumentParser(description=__doc__, formatter_class=argparse.RawDescriptionHelpFormatter)
-    for name in ("gate", "anew", "readable", "runs"):
+    for name in ("gate", "anew", "new", "readable", "runs"):
         parser.add_argument("--" + name, action="store_true")
     parser.add_argument("--jobs", type=int, default=2)
     parser.add_argument("names", nargs="*")

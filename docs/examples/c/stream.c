@@ -1,4 +1,4 @@
-/* Decodes a stream in Shift_JIS chunk by chunk, and writes each fault with its offset. */
+/* Decodes a stream in Shift_JIS chunk by chunk, and writes each malformed sequence with its offset. */
 #include <jillapun.h>
 #include <stdio.h>
 #include <string.h>

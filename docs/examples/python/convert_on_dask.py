@@ -41,14 +41,13 @@ def main(source: str, target: str, path: str, folder: str, *address: str) -> int
     made = [os.path.join(folder, "%08d" % number) for number in range(len(parts[0]))]
     work = [dask.delayed(converted)(block, *rest) for block, *rest in zip(parts[0], made, [first] + [later] * len(made))]
     with Client(*address) as client:
-        offset = index = status = 0
+        whole = jillapun.Report()
         for future in client.compute(work):
             losses, report = future.result()
-            for loss in losses:
-                before = offset if isinstance(loss, jillapun.Bad) else index
-                print(loss._replace(**{loss._fields[0]: before + loss[0]}))
-            offset, index, status = offset + report.read, index + report.characters, status or int(not report.faithful)
-    return status
+            for loss in jillapun.join_losses(whole, losses):
+                print(loss)
+            whole = jillapun.join_reports(whole, report)
+    return int(not whole.faithful)
 
 
 if __name__ == "__main__":

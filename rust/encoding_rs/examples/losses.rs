@@ -1,5 +1,5 @@
-//! Reads lines in any encoding from standard input, and prints them as UTF-8. Each fault is told on standard error,
-//! by the offset of its first byte: `cargo run --example faults shift_jis < old.txt`
+//! Reads lines in any encoding from standard input, and prints them as UTF-8. Each malformed sequence is told on
+//! standard error, by the offset of its first byte: `cargo run --example losses shift_jis < old.txt`
 
 use encoding_rs::{DecoderResult, Encoding};
 use std::io::{self, BufRead, Write};

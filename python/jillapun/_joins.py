@@ -1,0 +1,49 @@
+"""What is told of the parts of an input, joined to what is told of the whole. The library adds, and its sums are proved;
+that they are of the whole is the law of parts (docs/PROOFS.md, *Parts are the whole*)."""
+
+import ctypes
+from typing import Iterable, List
+
+from . import _library as c
+from ._results import Bad, Loss, Lost, Report
+
+
+def join_losses(before: Report, losses: Iterable[Loss]) -> List[Loss]:
+    """The losses of a part, which count from its start, as losses of the whole input: the bytes of what stands before the
+    part are added to the offset of a `Bad`, its characters to the index of a `Lost`. `before` is what is told of all
+    parts before it (`join_reports`); before the first it is `Report()`.
+
+    Raises `OverflowError` if a number is below 0, or a sum 2^64 or more, which is so of no conversion."""
+    told, join = _record_of(before), c.streams().jillapun_join_loss
+    joined: List[Loss] = []
+    for loss in losses:
+        record = c.Loss(_count(loss[0]), 0, c.BAD if isinstance(loss, Bad) else c.LOST)
+        _check(join(ctypes.byref(told), ctypes.byref(record)))
+        place = record.place
+        joined.append(Bad(place, loss.length) if isinstance(loss, Bad) else Lost(place, loss.character))
+    return joined
+
+
+def join_reports(before: Report, part: Report) -> Report:
+    """What is told of a part, added to what is told of all parts before it, which is `Report()` before the first. Nothing
+    was lost of all of them if nothing was lost of any.
+
+    Raises `OverflowError` if a number is below 0, or a sum 2^64 or more, which is so of no conversion."""
+    told = _record_of(before)
+    _check(c.streams().jillapun_join_reports(ctypes.byref(told), ctypes.byref(_record_of(part))))
+    return Report(told.read, told.bad, told.lost, before.faithful and part.faithful, told.characters)
+
+
+def _record_of(report: Report) -> c.Report:
+    return c.Report(*map(_count, (report.read, report.bad, report.lost, report.characters)))
+
+
+def _count(number: int) -> int:
+    """A number of 64 bits; of a longer one ctypes would hand on the last."""
+    _check(0 <= number < 2**64)
+    return number
+
+
+def _check(is_count: bool) -> None:
+    if not is_count:
+        raise OverflowError("a count below 0, or of 2^64 or more")
