@@ -161,8 +161,11 @@ pub(crate) fn finish_pending<F: DecoderRule, S: Sink>(
 
 /// Decodes a source with nothing pending: runs of text as a whole, and what else there is by
 /// pieces. Returns how the call ended, and the bytes read.
+///
+/// `OWN` changes nothing that is done: a function that is called at one place is inlined there even
+/// if it is long, and by `OWN` each of the two calls below is of a function of its own.
 #[inline(always)]
-fn decode_pieces<F: DecoderRule, S: Sink>(
+fn decode_pieces<F: DecoderRule, S: Sink, const OWN: bool>(
     codec: &mut F,
     pending: &mut Pending,
     src: &[u8],
@@ -214,27 +217,6 @@ fn decode_pieces<F: DecoderRule, S: Sink>(
     (DecoderResult::InputEmpty, src.len())
 }
 
-// `decode_pieces` as a call of its own. A sink that cannot be detached decodes by it: with that
-// loop twice in it, `decode_detached` would be too long to be inlined.
-#[inline(never)]
-fn decode_in_place<F: DecoderRule, S: Sink>(
-    codec: &mut F,
-    pending: &mut Pending,
-    src: &[u8],
-    sink: &mut S,
-    last: bool,
-) -> (DecoderResult, usize)
-    requires { pending.old ≡ [] }
-    ensures call { DriverCall (driver_state F.pieces F.needs codec.old [])
-        (driver_state F.pieces F.needs codec.new pending.new) src.now last result.1
-        (λ text. S.writes sink.old text sink.new) (sink_room S.is_units S.free sink.old sink.new)
-        (Some result.0) }
-    ensures limits { F.limits codec.new ≡ F.limits codec.old }
-    ensures waits { Remains (F.pieces codec.new) pending.new }
-{
-    decode_pieces(codec, pending, src, sink, last)
-}
-
 /// Decodes a source with nothing pending (`decode_pieces`), for speed by a sink that this call
 /// owns, if it can be detached (`Sink::detach`).
 #[inline(always)]
@@ -255,10 +237,10 @@ pub(crate) fn decode_detached<F: DecoderRule, S: Sink>(
 {
     match sink.detach() {
         Some(mut own) => {
-            let ended = decode_pieces(codec, pending, src, &mut own, last);
+            let ended = decode_pieces::<F, S, true>(codec, pending, src, &mut own, last);
             *sink = own;
             ended
         }
-        None => decode_in_place(codec, pending, src, sink, last),
+        None => decode_pieces::<F, S, false>(codec, pending, src, sink, last),
     }
 }
