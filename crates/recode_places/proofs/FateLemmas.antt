@@ -33,7 +33,7 @@ use Rattle.encoding_codecs.specs.Iso2022Jp.{pieces_in_mode}
 use Rattle.encoding_front.specs.Codecs.{codec_of}
 use Rattle.encoding_front.specs.Encodings.{coding_of, is_ascii_compatible_of, output_encoding_of, pieces_of}
 use Rattle.encoding_front.specs.EncodingTable.{codec_kind_of}
-use Rattle.encoding_front.specs.calls.DecoderCall.{DecoderCall}
+use Rattle.encoding_front.specs.calls.DecoderCall.{DecoderCall, free_bytes}
 use Rattle.encoding_front.specs.calls.Stream.{DecoderView, is_input_empty}
 use Rattle.encoding_front.specs.calls.Encoder.{Encoded, EncoderState, coding_in, new_state, room_without_reference}
 use Rattle.encoding_front.specs.laws.Encoder.{output_twice}
@@ -268,7 +268,7 @@ first_of_more c bs rest utf8 e some =
 
 module _ (v v' : DecoderView) (src : List ℕ) (read : ℕ) (old new : List ℕ) (written : ℕ) where
   abbrev pub WholeCall : DecoderResult → Type 0
-  WholeCall o = DecoderCall v v' src true read (λ t. Adds old 0 (encode_utf8_all t) new written) (length (drop written new)) 4 3 o
+  WholeCall o = DecoderCall v v' src true read (λ t. Adds old 0 (encode_utf8_all t) new written) (free_bytes (length (drop written new))) o
 
   pub read_if_whole : (o : DecoderResult) (k : WholeCall o) → o ≡ InputEmpty → read_alone (v.state.pieces src) ≡ only_one (scalars k.law.taken)
   read_if_whole InputEmpty k e = read_whole v.state v'.state src read old new written (length (drop written new)) k.law k.ends
