@@ -1,12 +1,12 @@
 -- What a call of a decoder wrote, put over a text.
-use Rattle.std.proofs.Common.{◌≡◌, ◌≢◌, ℕ, ◌≤◌, Bool, true, false, Option, None, Some, List, [], ◌∷◌, ◌++◌, length, take, drop, refl, sym, ◌∙◌, ap, subst, arith, encode_utf8_all}
+use Rattle.std.proofs.Common.{◌≡◌, ◌≢◌, ℕ, Bool, true, false, Option, None, Some, List, [], ◌∷◌, ◌++◌, length, take, drop, refl, ◌∙◌, ap, subst, arith, encode_utf8_all}
 use Rattle.std.proofs.lemmas.Bool.{and_parts}
 use Rattle.std.proofs.lemmas.List.{drop_at, take_at}
 use Rattle.std.proofs.Math.Utf8.{scalar}
 use Rattle.std.specs.Str.{all_scalars}
 use Rattle.encoding_mem.specs.Piece.{Piece, well_formed, malformed, text, scalars, ArePieces}
 use Rattle.encoding_mem.specs.calls.DecodedLength.{replacement_len, two_in}
-use Rattle.encoding_mem.specs.calls.Decoding.{DecoderState, EndsWith, Takes}
+use Rattle.encoding_mem.specs.calls.Decoding.{EndsWith}
 use Rattle.encoding_mem.specs.calls.Writing.{Adds}
 use Rattle.encoding_mem.specs.declared.decoder_result.DecoderResult.{DecoderResult}
 use Rattle.encoding_mem.specs.declared.room.OutputUnit.{OutputUnit}
