@@ -132,10 +132,21 @@ def items_of(edits, path):
     return "".join("    %s\n" % item for item in dict.fromkeys(items))
 
 
+def module_of(edit):
+    """The module that an edit changes, with those that it is in."""
+    return edit.changes[0][0][len("src/") : -len(".rt")].split("/")
+
+
 def can_be_above(edit, folder):
-    """Whether a crate above can call what an edit changes: it is in a module of the root of a library."""
-    place, file = os.path.split(edit.changes[0][0])
-    return place == "src" and file != "lib.rt" and os.path.isfile(os.path.join(folder, "src", "lib.rt"))
+    """Whether a crate above can call what an edit changes: it is in a module that the root of a library can name."""
+    path, modules = edit.changes[0][0], module_of(edit)
+    if not path.startswith("src/") or modules == ["lib"] or not os.path.isfile(os.path.join(folder, "src", "lib.rt")):
+        return False
+    for depth, name in enumerate(modules[1:], 1):
+        parent = read(os.path.join(folder, "src", *modules[:depth]) + ".rt")
+        if not re.search(r"^pub(?:\(crate\))? mod %s;" % name, parent, re.M):
+            return False
+    return True
 
 
 def with_calls_above(edits, folder):
@@ -143,11 +154,10 @@ def with_calls_above(edits, folder):
     texts, names = with_all(edits, folder, FUNCTION, FUNCTIONS)
     texts = {path: text.replace("rt.alloc()", "alloc") for path, text in texts.items()}
     crate, root, tests = os.path.basename(folder), read(os.path.join(folder, "src", "lib.rt")), {}
-    for path in texts:
-        module = os.path.basename(path)[: -len(".rt")]
-        root += "pub use crate::%s::edit_calls as edit_calls_%s;\n" % (module, module)
+    for module in sorted({tuple(module_of(edit)) for edit in edits}):
+        root += "pub use crate::%s::edit_calls as edit_calls_%s;\n" % ("::".join(module), "_".join(module))
     for name in names:
-        module = os.path.basename(edits[int(name.rpartition("_")[2])].changes[0][0])[: -len(".rt")]
+        module = "_".join(module_of(edits[int(name.rpartition("_")[2])]))
         tests["%s_%s" % (crate, name)] = "%s::edit_calls_%s::%s(rt.alloc())" % (crate, module, name)
     return {**texts, "src/lib.rt": root}, tests
 

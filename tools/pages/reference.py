@@ -200,11 +200,15 @@ def library(crate):
     sources = {name: items(path) for name, path in files.items()}
     root, page, foreign = texts["lib"], sources["lib"][0], []
     paths = {("lib", name): name for name in sources["lib"][1]}
-    for module in re.findall(r"^pub mod (\w+);", root, re.M):
+    modules = {name: name for name in re.findall(r"^pub mod (\w+);", root, re.M)}
+    modules |= {"%s::%s" % use: use[1] for use in uses(root) if "%s::%s" % use in sources}
+    for module, path in modules.items():
         reached = [(module, name) for name in sources[module][1]]
         for origin, name in reached + list(uses(texts[module])):
-            paths[origin, name] = "%s::%s" % (module, name)
+            paths[origin, name] = "%s::%s" % (path, name)
     for origin, name in uses(root):
+        if "%s::%s" % (origin, name) in modules:
+            continue
         if origin in sources:
             paths[origin, name] = name
         else:

@@ -9,8 +9,8 @@ use Rattle.encoding_mem.specs.Piece.{Piece, well_formed, malformed, piece_len}
 use Rattle.encoding_mem.specs.calls.DecoderRule.{TellsFirstPiece, IsModest}
 use Rattle.encoding_mem.specs.Pieces.{pieces_in}
 use Rattle.encoding_mem.specs.laws.Shows.{Shows, Awaits, SettlesMode, shows_first_piece_in, broken_then_well_formed, well_formed_then_broken}
-use Rattle.encoding_mem.specs.declared.first_piece.FirstPiece.{FirstPiece}
-use Rattle.encoding_mem.specs.declared.first_piece.FirstPiece.TheVariants.{More}
+use Rattle.encoding_mem.specs.declared.codec.first_piece.FirstPiece.{FirstPiece}
+use Rattle.encoding_mem.specs.declared.codec.first_piece.FirstPiece.TheVariants.{More}
 use Rattle.encoding_tables.specs.Lookups.{AreEntries}
 use Rattle.encoding_codecs.specs.Iso2022Jp.{escape_at, escape_of, pieces_in_mode, ascii_piece, IsNeutral}
 use Rattle.encoding_codecs.specs.laws.Iso2022JpDecide.{escape_first_piece, char_first_piece, first_piece_iso_2022_jp, mode_after, may_be_escape, is_jis_lead, is_open, shown, decide_iso_2022_jp}
@@ -26,8 +26,8 @@ use Rattle.encoding_mem.specs.Iso2022JpAscii.{IsIso2022JpAscii, IsIso2022JpAscii
 use Rattle.encoding_mem.specs.laws.Pieces.{pieces_in-cons}
 use Rattle.encoding_mem.specs.calls.DecodedLength.{is_units, decoded_length, decoded_length_multibyte}
 use Rattle.encoding_mem.specs.calls.TextRun.{text_pieces, text_len}
-use Rattle.encoding_mem.specs.declared.room.OutputUnit.{OutputUnit}
-use Rattle.encoding_mem.specs.declared.room.OutputUnit.TheVariants.{Units, Bytes, Replaced}
+use Rattle.encoding_mem.specs.declared.codec.room.OutputUnit.{OutputUnit}
+use Rattle.encoding_mem.specs.declared.codec.room.OutputUnit.TheVariants.{Units, Bytes, Replaced}
 use Rattle.encoding_mem.specs.Decided.{AreBytes}
 
 -- ---- escapes

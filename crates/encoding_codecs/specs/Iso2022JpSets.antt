@@ -1,8 +1,8 @@
 -- The sets of ISO-2022-JP as modes of its decoder.
 use Rattle.std.specs.Prelude.{ℕ, List}
 use Rattle.encoding_mem.specs.Piece.{Piece}
-use Rattle.encoding_mem.specs.declared.form.EscapeState.{EscapeState}
-use Rattle.encoding_mem.specs.declared.form.EscapeState.TheVariants.{Ascii, Roman, Jis}
+use Rattle.encoding_mem.specs.declared.codec.form.EscapeState.{EscapeState}
+use Rattle.encoding_mem.specs.declared.codec.form.EscapeState.TheVariants.{Ascii, Roman, Jis}
 use Rattle.encoding_codecs.specs.Iso2022Jp.{ascii_mode, roman_mode, jis_mode, pieces_in_mode}
 use Rattle.encoding_codecs.specs.declared.iso_2022_jp_decoder.Mode.{Mode}
 

@@ -3,8 +3,8 @@
 -- pointer": the first pointer corresponding to code point). Two bytes of 94 values reach the pointers below 8836.
 use Rattle.std.specs.Prelude.{◌≡◌, ◌≢◌, ℕ, ◌≤◌, List, false, Option, MatchOption}
 use Rattle.std.specs.Option.{option_map}
-use Rattle.encoding_mem.specs.declared.form.Form.{Form}
-use Rattle.encoding_mem.specs.declared.form.Form.TheVariants.{Unmapped}
+use Rattle.encoding_mem.specs.declared.codec.form.Form.{Form}
+use Rattle.encoding_mem.specs.declared.codec.form.Form.TheVariants.{Unmapped}
 use Rattle.encoding_mem.specs.Coding.{form_of_bytes}
 use Rattle.encoding_tables.specs.LookupLaws.{IsPointer}
 use Rattle.encoding_codecs.specs.EucJp.{euc_jp_form, euc_jp_pair_bytes}

@@ -2,8 +2,8 @@
 use Rattle.std.specs.Prelude.{ℕ, List, [], ◌∷◌, nat_lt, if◌then◌else◌, Option, None, Some}
 use Rattle.std.specs.Option.{option_map}
 use Rattle.encoding_mem.specs.Coding.{form_of_bytes}
-use Rattle.encoding_mem.specs.declared.form.Form.{Form}
-use Rattle.encoding_mem.specs.declared.form.Form.TheVariants.{Mapped}
+use Rattle.encoding_mem.specs.declared.codec.form.Form.{Form}
+use Rattle.encoding_mem.specs.declared.codec.form.Form.TheVariants.{Mapped}
 use Rattle.encoding_codecs.specs.declared.two_byte.PairValue.{PairValue}
 use Rattle.encoding_codecs.specs.declared.two_byte.PairValue.TheVariants.{NoChar, OneChar}
 

@@ -11,7 +11,7 @@ use Rattle.std.proofs.lemmas.List.{append-nil, take-append-drop, drop_all, drop-
 use Rattle.encoding_mem.specs.Piece.{Piece, malformed, well_formed, head_piece, piece_len, sizes, AreWellFormed, scalars}
 use Rattle.encoding_mem.specs.calls.Decoding.{DecoderState, Takes, Waits, Reports, EndsWith, StateLaw, Suffices}
 use Rattle.encoding_mem.specs.calls.DecodedLength.{decoded_length, counts_past_malformed, replacement_len, left_after}
-use Rattle.encoding_mem.specs.declared.room.OutputUnit.{OutputUnit}
+use Rattle.encoding_mem.specs.declared.codec.room.OutputUnit.{OutputUnit}
 use Rattle.encoding_front.specs.calls.TakesMark.{LeavesRoom}
 use Rattle.std.specs.Prelude.{eqb}
 use Rattle.std.specs.List.{starts_with}
@@ -21,12 +21,12 @@ use Rattle.encoding_tables.specs.IndexLists.{IndexLists}
 use Rattle.encoding_front.specs.Encodings.{first_mark, pieces_of}
 use Rattle.encoding_front.specs.calls.CodecBounds.{decoded_length_of}
 use Rattle.encoding_front.specs.Marks.{source_of, pieces_from, marked_pieces}
-use Rattle.encoding_mem.specs.declared.room.DecodedLength.{DecodedLength}
+use Rattle.encoding_mem.specs.declared.codec.room.DecodedLength.{DecodedLength}
 use Rattle.encoding_front.specs.calls.Stream.{Opening, encoding_after}
 use Rattle.encoding_front.specs.declared.encoding.Encoding.{Encoding}
 use Rattle.encoding_front.specs.declared.mark.Mark.{Mark}
-use Rattle.encoding_mem.specs.declared.decoder_result.DecoderResult.{DecoderResult}
-use Rattle.encoding_mem.specs.declared.decoder_result.DecoderResult.TheVariants.{InputEmpty, OutputFull, Malformed}
+use Rattle.encoding_mem.specs.declared.codec.decoder_result.DecoderResult.{DecoderResult}
+use Rattle.encoding_mem.specs.declared.codec.decoder_result.DecoderResult.TheVariants.{InputEmpty, OutputFull, Malformed}
 use Rattle.encoding_mem.specs.laws.Piece.{sizes-append, scalars-append, AreWellFormed-append}
 use Rattle.encoding_mem.specs.Decided.{AreBytes}
 use Rattle.encoding_front.specs.calls.BomDecoderState.{held_state}

@@ -8,9 +8,9 @@ use Rattle.encoding_mem.specs.Piece.{Piece, malformed, text, scalars, sizes, mal
 use Rattle.encoding_mem.specs.laws.Piece.{sizes-append, scalars-append, text-append, malformed_count-append, well_formed_count, well_formed_text}
 use Rattle.encoding_mem.specs.calls.Decoding.{Takes, Reports, DecoderState, EndsWith, Suffices}
 use Rattle.encoding_mem.specs.calls.DecodedLength.{is_units, counts_past_malformed, replacement_len, two_in, left_after}
-use Rattle.encoding_mem.specs.declared.room.OutputUnit.{OutputUnit}
-use Rattle.encoding_mem.specs.declared.decoder_result.DecoderResult.{DecoderResult}
-use Rattle.encoding_mem.specs.declared.decoder_result.DecoderResult.TheVariants.{OutputFull, Malformed, InputEmpty}
+use Rattle.encoding_mem.specs.declared.codec.room.OutputUnit.{OutputUnit}
+use Rattle.encoding_mem.specs.declared.codec.decoder_result.DecoderResult.{DecoderResult}
+use Rattle.encoding_mem.specs.declared.codec.decoder_result.DecoderResult.TheVariants.{OutputFull, Malformed, InputEmpty}
 use Rattle.encoding_front.specs.calls.DecodedText.{TakesText, SufficesText, raw_result}
 use Rattle.encoding_front.specs.calls.DecoderCall.{DecoderCall, RoomLeft, TextCall, free_bytes}
 use Rattle.encoding_front.specs.calls.TakesMark.{LeavesRoom}

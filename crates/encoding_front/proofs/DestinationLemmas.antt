@@ -8,7 +8,7 @@ use Rattle.std.specs.Str.{all_scalars, IsUtf8}
 use Rattle.encoding_mem.specs.Piece.{Piece, well_formed, malformed, text, scalars, ArePieces}
 use Rattle.encoding_mem.specs.calls.DecodedLength.{replacement_len, two_in}
 use Rattle.encoding_mem.specs.calls.Decoding.{DecoderState, EndsWith, Takes}
-use Rattle.encoding_mem.specs.declared.decoder_result.DecoderResult.{DecoderResult}
+use Rattle.encoding_mem.specs.declared.codec.decoder_result.DecoderResult.{DecoderResult}
 use Rattle.encoding_mem.specs.calls.TextDestination.{cleared, Overwrites}
 use Rattle.encoding_mem.specs.calls.Writing.{Adds}
 use Rattle.encoding_front.specs.calls.DecodedText.{TakesText, raw_result}

@@ -1,13 +1,13 @@
 -- Calls of an encoder without replacement.
 use Rattle.std.proofs.Common.{◌≡◌, ℕ, ◌+◌, ◌-◌, ◌≤◌, Bool, List, [], ◌++◌, length, take, drop, refl, sym, ◌∙◌, ap, subst, arith}
 use Rattle.std.proofs.lemmas.List.{drop-append-le, drop-drop, take-append-drop}
-use Rattle.encoding_mem.specs.declared.reference.Reference.TheVariants.{Decimal}
+use Rattle.encoding_mem.specs.declared.codec.reference.Reference.TheVariants.{Decimal}
 use Rattle.encoding_mem.specs.calls.EncoderCalls.{EncodesItems}
 use Rattle.encoding_mem.specs.laws.EncoderCalls.{encoded_bytes, encoded_items, encoded_moves}
 use Rattle.encoding_mem.specs.calls.EncoderRule.{EncoderCall, EncoderParts}
-use Rattle.encoding_mem.specs.declared.encoder_result.EncoderResult.{EncoderResult}
-use Rattle.encoding_mem.specs.declared.encoder_result.EncoderResult.TheVariants.{InputEmpty, OutputFull, Unmappable}
-use Rattle.encoding_mem.specs.declared.form.Form.TheVariants.{Unmapped}
+use Rattle.encoding_mem.specs.declared.codec.encoder_result.EncoderResult.{EncoderResult}
+use Rattle.encoding_mem.specs.declared.codec.encoder_result.EncoderResult.TheVariants.{InputEmpty, OutputFull, Unmappable}
+use Rattle.encoding_mem.specs.declared.codec.form.Form.TheVariants.{Unmapped}
 use Rattle.encoding_tables.specs.IndexLists.{IndexLists}
 use Rattle.encoding_front.specs.calls.Encoder.{Encoded, EncoderState, IsCodecOf, Turned, coding_in, kept_back, kept_by_codec_kind, parts_in, referred}
 use Rattle.encoding_front.specs.laws.Encoder.{coding_laws}

@@ -5,18 +5,18 @@ use Rattle.std.proofs.Common.{ℕ, ◌≡◌, ◌≤◌, ◌<◌, List, length, 
 use Rattle.std.proofs.lemmas.Fmt.{length-decimal-le}
 use Rattle.std.specs.Fmt.{decimal}
 use Rattle.std.proofs.lemmas.List.{append-nil, append_cancel_right, drop-drop, drop_all, drop-append-le, length-take-le, take-append-le, take_rest}
-use Rattle.encoding_mem.specs.declared.reference.Reference.TheVariants.{Decimal}
+use Rattle.encoding_mem.specs.declared.codec.reference.Reference.TheVariants.{Decimal}
 use Rattle.encoding_mem.specs.Coding.{AllMapped, Coding, IsMapped, last_set, lost_count, bytes_from, open_from, reference_bytes, spelled, whole_from, output}
 use Rattle.encoding_mem.specs.calls.EncoderCalls.{WritesPart, Encodes, EncodesItems}
 use Rattle.encoding_mem.specs.laws.Losses.{lost_count-append}
 use Rattle.encoding_mem.specs.laws.ReadBack.{none_lost}
 use Rattle.encoding_mem.specs.laws.EncoderCalls.{items_in_bytes, last_set-append, mapped_open, open_from-append}
-use Rattle.encoding_mem.specs.declared.encoder_result.EncoderResult.TheVariants.{Unmappable, InputEmpty, OutputFull}
-use Rattle.encoding_mem.specs.declared.form.Form.TheVariants.{Unmapped}
-use Rattle.encoding_mem.specs.declared.form.EscapeState.{EscapeState}
+use Rattle.encoding_mem.specs.declared.codec.encoder_result.EncoderResult.TheVariants.{Unmappable, InputEmpty, OutputFull}
+use Rattle.encoding_mem.specs.declared.codec.form.Form.TheVariants.{Unmapped}
+use Rattle.encoding_mem.specs.declared.codec.form.EscapeState.{EscapeState}
 use Rattle.std.specs.Bool.{MatchBool}
 use Rattle.encoding_mem.specs.calls.EncoderRule.{Moves}
-use Rattle.encoding_mem.specs.declared.form.EscapeState.TheVariants.{Ascii}
+use Rattle.encoding_mem.specs.declared.codec.form.EscapeState.TheVariants.{Ascii}
 use Rattle.encoding_front.proofs.EncoderCallLemmas.{told_items}
 use Rattle.encoding_front.specs.calls.Encoder.{EncoderState, Puts, ReplacingEndsWith, Replaces, coding_in, kept_back, Encoded, Turned, referred, new_state}
 use Rattle.encoding_front.specs.laws.Encoder.{need_positive, coding_laws, output_twice}
@@ -25,7 +25,7 @@ use Rattle.encoding_front.specs.calls.CodecBounds.{need_of}
 use Rattle.encoding_front.specs.declared.coder_result.CoderResult.{CoderResult}
 use Rattle.std.proofs.Math.Seq.{take-append-add, drop-append-add}
 use borrow.Rule.Slice.PartMut.{put_mid, post_of}
-use Rattle.encoding_mem.specs.declared.encoder_result.EncoderResult.{EncoderResult}
+use Rattle.encoding_mem.specs.declared.codec.encoder_result.EncoderResult.{EncoderResult}
 use Rattle.encoding_front.specs.EncodingTable.{codec_kind_of}
 use Rattle.encoding_front.specs.declared.encoding.Encoding.{Encoding}
 use Rattle.encoding_front.specs.Codecs.{codec_of}

@@ -5,7 +5,7 @@ use Rattle.std.specs.List.{starts_with}
 use Rattle.encoding_labels.specs.Labels.{IsLabelOf}
 use Rattle.encoding_mem.specs.Piece.{Piece}
 use Rattle.encoding_mem.specs.Coding.{Coding}
-use Rattle.encoding_mem.specs.declared.form.EscapeState.{EscapeState}
+use Rattle.encoding_mem.specs.declared.codec.form.EscapeState.{EscapeState}
 use Rattle.encoding_mem.specs.Steps.{in_any_set}
 use Rattle.encoding_mem.specs.Utf8.{pieces_utf8}
 use Rattle.encoding_tables.specs.IndexLists.{IndexLists, index_entries, has}

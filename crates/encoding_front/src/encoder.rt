@@ -6,7 +6,7 @@ ghost use Rattle.std.specs.Str.{chars};
 ghost use Rattle.std.specs.Char.Utf16.{utf16_lossy_chars};
 ghost use Rattle.encoding_mem.specs.Conversions.{IsUnitBoundary};
 ghost use Rattle.encoding_mem.specs.calls.EncoderRule.{WritesBytes, left};
-ghost use Rattle.encoding_mem.specs.declared.form.EscapeState.TheVariants.{Ascii};
+ghost use Rattle.encoding_mem.specs.declared.codec.form.EscapeState.TheVariants.{Ascii};
 ghost use Rattle.encoding_front.specs.calls.Encoder.{Encoded, EncoderState, IsCodecOf, ReadsText};
 ghost use Rattle.encoding_front.specs.calls.Encoder.{Replaces, kept_back, new_state, parts_in};
 ghost use Rattle.encoding_front.specs.calls.Encoder.{queried_room, queried_with_kept};

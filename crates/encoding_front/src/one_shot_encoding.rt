@@ -3,7 +3,7 @@
 ghost use Rattle.std.specs.Prelude.{◌≡◌, ◌↔◌, ◌-◌, ◌<◌, ◌≤◌, false, IsTrue, length, IfOk};
 ghost use Rattle.std.specs.Prelude.{vec_capacity, vec_len};
 ghost use Rattle.std.specs.Str.{chars};
-ghost use Rattle.encoding_mem.specs.declared.reference.Reference.TheVariants.{Decimal};
+ghost use Rattle.encoding_mem.specs.declared.codec.reference.Reference.TheVariants.{Decimal};
 ghost use Rattle.encoding_mem.specs.Coding.{lost_count, output};
 ghost use Rattle.encoding_front.specs.calls.Encoder.{queried_with_kept, room_with_reference};
 ghost use Rattle.encoding_front.specs.Encodings.{IsReady, coding_of, output_encoding_of};

@@ -4,11 +4,11 @@ use Rattle.std.proofs.lemmas.List.{append-nil, drop-drop, drop_all, drop_more, t
 use Rattle.encoding_mem.specs.Piece.{Piece, head_piece, sizes, ArePieces, malformed, piece_len, piece_scalars, scalars, AreWellFormed}
 use Rattle.encoding_mem.specs.calls.Decoding.{DecoderState, EndsWith, Reports, Room, StateCall, Suffices, Takes}
 use Rattle.encoding_mem.specs.calls.DecodedLength.{is_units, left_after, decoded_length, replacement_len, two_in}
-use Rattle.encoding_mem.specs.declared.room.OutputUnit.{OutputUnit}
-use Rattle.encoding_mem.specs.declared.room.DecodedLength.{DecodedLength}
+use Rattle.encoding_mem.specs.declared.codec.room.OutputUnit.{OutputUnit}
+use Rattle.encoding_mem.specs.declared.codec.room.DecodedLength.{DecodedLength}
 use Rattle.encoding_mem.specs.calls.Driver.{DriverCall, DriverEndsWith, DriverState, IsNear, Remains, buffered, needs_to_come, to_come}
-use Rattle.encoding_mem.specs.declared.decoder_result.DecoderResult.{DecoderResult}
-use Rattle.encoding_mem.specs.declared.decoder_result.DecoderResult.TheVariants.{InputEmpty, OutputFull, Malformed}
+use Rattle.encoding_mem.specs.declared.codec.decoder_result.DecoderResult.{DecoderResult}
+use Rattle.encoding_mem.specs.declared.codec.decoder_result.DecoderResult.TheVariants.{InputEmpty, OutputFull, Malformed}
 use Rattle.encoding_mem.specs.laws.Piece.{sizes-append, scalars-append, AreWellFormed-append}
 use Rattle.encoding_mem.specs.calls.DecoderRule.{IsFirstPiece, IsSoon}
 use Rattle.encoding_mem.specs.Decided.{IsUndecided}

@@ -12,8 +12,8 @@ use Rattle.encoding_mem.specs.calls.Driver.{DriverCall}
 use Rattle.encoding_mem.specs.calls.DecoderRule.{IsFirstPiece, IsSoon}
 use Rattle.encoding_mem.specs.calls.TextRun.{text_pieces}
 use Rattle.encoding_mem.specs.calls.UnitRun.{BeginWithUnits, unit_pieces}
-use Rattle.encoding_mem.specs.declared.room.OutputUnit.{OutputUnit}
-use Rattle.encoding_mem.specs.declared.decoder_result.DecoderResult.TheVariants.{InputEmpty, OutputFull, Malformed}
+use Rattle.encoding_mem.specs.declared.codec.room.OutputUnit.{OutputUnit}
+use Rattle.encoding_mem.specs.declared.codec.decoder_result.DecoderResult.TheVariants.{InputEmpty, OutputFull, Malformed}
 use Rattle.encoding_mem.specs.laws.Piece.{AreWellFormed-last}
 use Rattle.encoding_mem.specs.laws.Writing.{cost_fits16}
 use Rattle.encoding_mem.proofs.DecoderCallLemmas.{held_all, left_behind, near_few, near_soon, takes_then, took_source}

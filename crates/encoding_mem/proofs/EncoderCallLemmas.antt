@@ -10,17 +10,17 @@ use Rattle.encoding_mem.specs.calls.EncoderCalls.{EncodeEndsWith, Encodes}
 use Rattle.std.specs.Str.{IsAscii, IsCharBoundary, encode_utf8_all}
 use Rattle.encoding_mem.specs.calls.EncoderRule.{CopiesAscii, CopiesUtf8, EncoderCall, EncoderParts, IsCopied, IsRun, Tight, WritesBytes}
 use Rattle.encoding_mem.proofs.DestinationLemmas.{drop_into, length_into, take_into}
-use Rattle.encoding_mem.specs.declared.form.Form.TheVariants.{Mapped, Unmapped}
-use Rattle.encoding_mem.specs.declared.encoder_result.EncoderResult.{EncoderResult as Outcome}
-use Rattle.encoding_mem.specs.declared.encoder_result.EncoderResult.TheVariants as EncoderResult
-use Rattle.encoding_mem.specs.declared.form.EscapeState.{EscapeState}
-use Rattle.encoding_mem.specs.declared.form.EscapeState.TheVariants.{Ascii}
+use Rattle.encoding_mem.specs.declared.codec.form.Form.TheVariants.{Mapped, Unmapped}
+use Rattle.encoding_mem.specs.declared.codec.encoder_result.EncoderResult.{EncoderResult as Outcome}
+use Rattle.encoding_mem.specs.declared.codec.encoder_result.EncoderResult.TheVariants as EncoderResult
+use Rattle.encoding_mem.specs.declared.codec.form.EscapeState.{EscapeState}
+use Rattle.encoding_mem.specs.declared.codec.form.EscapeState.TheVariants.{Ascii}
 use Rattle.std.specs.Char.{encode_utf8, len_utf8}
 use Rattle.std.proofs.lemmas.Str.{drop_past_char, length-encode, IsCharBoundary-from_rest}
 use native.Mathlib.Nat.{mul-add, mul_comm}
 use Rattle.encoding_mem.specs.calls.DecodedLength.{cost_in}
 use Rattle.encoding_mem.specs.calls.EncodedLength.{IsBoundFor, bound_for, encoded_length_utf8}
-use Rattle.encoding_mem.specs.declared.room.Bound.{Bound}
+use Rattle.encoding_mem.specs.declared.codec.room.Bound.{Bound}
 use Rattle.std.proofs.Math.Nat.{mul-le-mul_left}
 
 -- Of the text t from s the bytes w are written, from s' on the rest is left; what was read has no unmappable.

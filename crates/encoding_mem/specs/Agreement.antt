@@ -7,9 +7,9 @@ use Rattle.encoding_mem.specs.Piece.{Piece, text, sizes, AreWellFormed}
 use Rattle.encoding_mem.specs.Coding.{Coding, IsMapped, open_from, last_set, output}
 use Rattle.encoding_mem.specs.ReadBack.{ReadsAs}
 use Rattle.encoding_mem.specs.Steps.{IsBroken, StepLaw, one_from}
-use Rattle.encoding_mem.specs.declared.reference.Reference.{Reference}
-use Rattle.encoding_mem.specs.declared.form.EscapeState.{EscapeState}
-use Rattle.encoding_mem.specs.declared.form.EscapeState.TheVariants.{Ascii}
+use Rattle.encoding_mem.specs.declared.codec.reference.Reference.{Reference}
+use Rattle.encoding_mem.specs.declared.codec.form.EscapeState.{EscapeState}
+use Rattle.encoding_mem.specs.declared.codec.form.EscapeState.TheVariants.{Ascii}
 use Rattle.encoding_mem.specs.Decided.{IsFixed, IsUndecided}
 
 -- bytes are a whole escape of a target, from some set to some set

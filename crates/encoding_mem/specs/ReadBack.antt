@@ -3,7 +3,7 @@ use Rattle.std.specs.Prelude.{◌≡◌, ℕ, ◌↔◌, true, List}
 use Rattle.std.specs.Str.{all_scalars}
 use Rattle.encoding_mem.specs.Piece.{Piece, text, AreWellFormed}
 use Rattle.encoding_mem.specs.Coding.{Coding, AllMapped, output}
-use Rattle.encoding_mem.specs.declared.reference.Reference.{Reference}
+use Rattle.encoding_mem.specs.declared.codec.reference.Reference.{Reference}
 
 -- decoded, bytes have no malformed sequence and are a given text
 pub record ReadsAs (pieces : List ℕ → List Piece) (bytes t : List ℕ) : Type 0 where

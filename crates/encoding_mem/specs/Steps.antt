@@ -3,9 +3,9 @@ use Rattle.std.specs.Prelude.{◌≡◌, ◌≢◌, ℕ, ◌<◌, ◌≤◌, ◌
 use Rattle.std.specs.Char.{IsScalar}
 use Rattle.encoding_mem.specs.Coding.{Coding, spelled}
 use Rattle.encoding_mem.specs.Piece.{Piece, piece_len, piece_scalars, text, sizes, IsWellFormedPiece, AreWellFormed, well_formed}
-use Rattle.encoding_mem.specs.declared.reference.Reference.{Reference}
-use Rattle.encoding_mem.specs.declared.form.Form.{Form}
-use Rattle.encoding_mem.specs.declared.form.EscapeState.{EscapeState}
+use Rattle.encoding_mem.specs.declared.codec.reference.Reference.{Reference}
+use Rattle.encoding_mem.specs.declared.codec.form.Form.{Form}
+use Rattle.encoding_mem.specs.declared.codec.form.EscapeState.{EscapeState}
 use Rattle.encoding_mem.specs.Decided.{IsFixed}
 
 -- what is written for one character from a set in force on: its escape, then its bytes or

@@ -11,6 +11,10 @@
 //! `encode::EncoderRule`): what the first piece of some bytes is, and what the form of one
 //! character is. How a call cuts, waits, writes and stops is written and proved once for all rules.
 //!
+//! The sources stand in three folders: `mem` has the checks and conversions, `codec` what every
+//! decoder and encoder stands on, and `utf8` the codec of UTF-8. Callers name a module without its
+//! folder, as in `first_piece::DecoderRule`.
+//!
 //! # Use
 //!
 //!     let valid = utf8_valid_up_to(b"caf\xC3\xA9 \xFF");
@@ -26,84 +30,58 @@
 //! it.
 #![tactic(auto)]
 
-pub mod ascii;
-pub mod ascii_copies;
-pub mod ascii_text;
-pub mod bidi;
-mod bidi_bytes;
-pub mod bytewise;
-mod conversion_laws;
-mod decoder_laws;
-pub mod decoder_result;
-mod driver;
-pub mod encode;
-mod encoder_laws;
-pub mod encoder_result;
-mod equality_laws;
-pub mod first;
-pub mod first_piece;
-pub mod form;
-pub mod latin1;
-mod latin1_bytes;
-pub mod latin1_conversions;
-pub mod latin1_texts;
+mod codec;
 pub mod laws;
-mod mem_laws;
-pub mod pending;
-mod plain_units;
-pub mod raw_decoder;
-pub mod raw_encoder;
-pub mod reference;
-pub mod room;
-pub mod scalar;
-pub mod sink;
-pub mod sink_decoder;
-pub mod source;
-pub mod source_encoder;
-pub mod text_destinations;
-mod text_units;
-pub mod units_text;
-pub mod utf16_conversions;
-pub mod utf16_sink;
+mod mem;
 pub mod utf8;
-pub mod utf8_conversions;
-pub mod utf8_encoder;
-pub mod utf8_sink;
-pub mod validity;
 
-pub use ascii_copies::{copy_ascii_to_ascii, copy_ascii_to_basic_latin, copy_basic_latin_to_ascii};
-pub use ascii_text::{ascii_valid_up_to, is_ascii, is_basic_latin, iso_2022_jp_ascii_valid_up_to};
-pub use bidi::{
+pub use codec::decoder_result::DecoderResult;
+pub use codec::encoder_result::EncoderResult;
+pub use codec::raw_decoder::RawDecoder;
+pub use codec::raw_encoder::RawEncoder;
+pub use codec::reference::Reference;
+pub use codec::sink::Sink;
+pub use codec::source::{Source, Utf8Source, Utf16Source};
+pub use codec::utf8_sink::Utf8Sink;
+pub use codec::utf16_sink::Utf16Sink;
+pub use codec::{
+    bytewise, decoder_result, encode, encoder_result, first_piece, form, pending, raw_decoder,
+    raw_encoder, reference, room, scalar, sink, sink_decoder, source, source_encoder, utf8_sink,
+    utf16_sink,
+};
+pub use mem::ascii_copies::{
+    copy_ascii_to_ascii, copy_ascii_to_basic_latin, copy_basic_latin_to_ascii,
+};
+pub use mem::ascii_text::{
+    ascii_valid_up_to, is_ascii, is_basic_latin, iso_2022_jp_ascii_valid_up_to,
+};
+pub use mem::bidi::{
     Latin1Bidi, check_str_for_latin1_and_bidi, check_utf8_for_latin1_and_bidi,
     check_utf16_for_latin1_and_bidi, is_char_bidi, is_str_bidi, is_utf8_bidi, is_utf16_bidi,
     is_utf16_code_unit_bidi,
 };
-pub use decoder_result::DecoderResult;
-pub use encoder_result::EncoderResult;
-pub use latin1::{
+pub use mem::latin1::{
     is_str_latin1, is_utf8_latin1, is_utf16_latin1, str_latin1_up_to, utf8_latin1_up_to,
 };
-pub use latin1_conversions::{
+pub use mem::latin1_conversions::{
     convert_latin1_to_utf8, convert_latin1_to_utf8_partial, convert_latin1_to_utf16,
     convert_utf8_to_latin1_lossy, convert_utf16_to_latin1_lossy,
 };
-pub use latin1_texts::{Latin1Bytes, decode_latin1, encode_latin1_lossy};
-pub use raw_decoder::RawDecoder;
-pub use raw_encoder::RawEncoder;
-pub use reference::Reference;
-pub use sink::Sink;
-pub use source::{Source, Utf8Source, Utf16Source};
-pub use text_destinations::{
+pub use mem::latin1_texts::{Latin1Bytes, decode_latin1, encode_latin1_lossy};
+pub use mem::text_destinations::{
     clear_behind, convert_latin1_to_str, convert_latin1_to_str_partial, convert_utf16_to_str,
     convert_utf16_to_str_partial,
 };
-pub use utf8::Utf8Decoder;
-pub use utf8_conversions::{
+pub use mem::utf8_conversions::{
     convert_str_to_utf16, convert_utf8_to_utf16, convert_utf8_to_utf16_up_to_invalid,
     convert_utf8_to_utf16_without_replacement,
 };
-pub use utf8_encoder::Utf8Encoder;
-pub use utf8_sink::Utf8Sink;
-pub use utf16_conversions::{convert_utf16_to_utf8, convert_utf16_to_utf8_partial};
-pub use utf16_sink::Utf16Sink;
-pub use validity::{ensure_utf16_validity, utf8_valid_up_to, utf16_valid_up_to};
+pub use mem::utf16_conversions::{convert_utf16_to_utf8, convert_utf16_to_utf8_partial};
+pub use mem::validity::{ensure_utf16_validity, utf8_valid_up_to, utf16_valid_up_to};
+pub use mem::{
+    ascii, ascii_copies, ascii_text, bidi, first, latin1, latin1_conversions, latin1_texts,
+    text_destinations, units_text, utf8_conversions, utf16_conversions, validity,
+};
+pub use utf8::decoder::Utf8Decoder;
+pub use utf8::encoder as utf8_encoder;
+pub use utf8::encoder::Utf8Encoder;

@@ -19,10 +19,10 @@ use Rattle.encoding_mem.specs.calls.DecoderRule.{HasRoomFor, cut_short}
 use Rattle.encoding_mem.specs.calls.DecodedLength.{is_units, counts_past_malformed, cost_in, replacement_len, left_after, decoded_length, decoded_length_utf16}
 use Rattle.encoding_mem.specs.calls.Writing.{len_utf16}
 use Rattle.encoding_mem.specs.laws.Writing.{cost_fits16}
-use Rattle.encoding_mem.specs.declared.first_piece.FirstPiece.{FirstPiece}
-use Rattle.encoding_mem.specs.declared.first_piece.FirstPiece.TheVariants.{More, One, Two, Ignored, Malformed}
-use Rattle.encoding_mem.specs.declared.room.OutputUnit.{OutputUnit}
-use Rattle.encoding_mem.specs.declared.room.OutputUnit.TheVariants.{Units, Bytes, Replaced}
+use Rattle.encoding_mem.specs.declared.codec.first_piece.FirstPiece.{FirstPiece}
+use Rattle.encoding_mem.specs.declared.codec.first_piece.FirstPiece.TheVariants.{More, One, Two, Ignored, Malformed}
+use Rattle.encoding_mem.specs.declared.codec.room.OutputUnit.{OutputUnit}
+use Rattle.encoding_mem.specs.declared.codec.room.OutputUnit.TheVariants.{Units, Bytes, Replaced}
 use Rattle.encoding_mem.specs.Decided.{AreBytes}
 
 -- each piece has a byte

@@ -8,8 +8,8 @@ use Rattle.encoding_mem.specs.Piece.{piece_len, well_formed}
 use Rattle.encoding_mem.specs.calls.DecodedLength.{is_units, decoded_length, decoded_length_utf16}
 use Rattle.encoding_mem.specs.calls.TextRun.{text_len}
 use Rattle.encoding_mem.specs.calls.UnitRun.{BeginWithUnits, unit_pieces}
-use Rattle.encoding_mem.specs.declared.room.OutputUnit.{OutputUnit}
-use Rattle.encoding_mem.specs.declared.room.OutputUnit.TheVariants.{Units, Bytes, Replaced}
+use Rattle.encoding_mem.specs.declared.codec.room.OutputUnit.{OutputUnit}
+use Rattle.encoding_mem.specs.declared.codec.room.OutputUnit.TheVariants.{Units, Bytes, Replaced}
 use Rattle.encoding_mem.specs.laws.Pieces.{pieces_by-cons}
 use Rattle.encoding_mem.specs.laws.UnitRun.{unit_text_len}
 use Rattle.encoding_tables.specs.Utf16.{AreUnitsOf, unit_of, after_unit, first_piece_utf16, pieces_utf16}

@@ -4,7 +4,7 @@ use Rattle.std.specs.Prelude.{ℕ, List, [], ◌∷◌, Option}
 use Rattle.std.specs.Option.{option_map}
 use Rattle.encoding_mem.specs.Coding.{form_of_bytes}
 use Rattle.encoding_mem.specs.Piece.{Piece, malformed, piece_of_scalar}
-use Rattle.encoding_mem.specs.declared.form.Form.{Form}
+use Rattle.encoding_mem.specs.declared.codec.form.Form.{Form}
 
 -- the first piece of some bytes: the character that `char_of` gives the first byte, or malformed
 abbrev pub first_piece_by_byte : (ℕ → Option ℕ) → List ℕ → Piece

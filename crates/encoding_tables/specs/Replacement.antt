@@ -3,7 +3,7 @@
 use Rattle.std.specs.Prelude.{◌≡◌, ℕ, Bool, IsTrue, List, [], ◌∷◌, ◌++◌, map}
 use Rattle.encoding_mem.specs.Piece.{Piece, well_formed, malformed, malformed_count, text}
 use Rattle.encoding_mem.specs.calls.Decoding.{DecoderState, EndsWith}
-use Rattle.encoding_mem.specs.declared.decoder_result.DecoderResult.TheVariants.{OutputFull}
+use Rattle.encoding_mem.specs.declared.codec.decoder_result.DecoderResult.TheVariants.{OutputFull}
 
 -- the pieces of bytes in replacement, one for each: the first is malformed, the others are ignored
 abbrev pub pieces_replacement : List ℕ → List Piece

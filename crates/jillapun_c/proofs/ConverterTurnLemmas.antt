@@ -2,7 +2,7 @@
 use Rattle.std.proofs.Common.{◌≡◌, ℕ, ◌+◌, ◌<◌, ◌≤◌, ◌⊎◌, inl, inr, Bool, true, false, List, [], ◌∷◌, ◌++◌, length, map, take, drop, refl, sym, ◌∙◌, ap, subst, arith, append_assoc, append-nil, length-append, length-take}
 use Rattle.std.proofs.lemmas.List.{drop-append-le, length-map, length-take-le, take-append-drop, take_all}
 use Rattle.encoding_mem.specs.Items.{Byte, Item}
-use Rattle.encoding_mem.specs.declared.reference.Reference.{Reference}
+use Rattle.encoding_mem.specs.declared.codec.reference.Reference.{Reference}
 use Rattle.recode_log.specs.declared.line.LogLine.{LogLine}
 use Rattle.recode_log.specs.declared.line.LogLine.TheVariants.{Bad, Lost}
 use Rattle.recode.specs.Converter.{AllIsConverted, ConverterView, ConvertsPart, found_items, owes}

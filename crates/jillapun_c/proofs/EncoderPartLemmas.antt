@@ -3,9 +3,9 @@ use Rattle.std.proofs.Common.{◌≢◌, ℕ, inl, inr, Bool, false, List, [], �
 use Rattle.encoding_mem.specs.Coding.{Coding}
 use Rattle.encoding_mem.specs.calls.EncoderCalls.{EncodeEndsWith, Encodes, IsSetOfNext, Leaves}
 use Rattle.encoding_mem.specs.calls.EncoderRule.{Tight}
-use Rattle.encoding_mem.specs.declared.encoder_result.EncoderResult.{EncoderResult}
-use Rattle.encoding_mem.specs.declared.encoder_result.EncoderResult.TheVariants as raw_
-use Rattle.encoding_mem.specs.declared.form.EscapeState.{EscapeState}
+use Rattle.encoding_mem.specs.declared.codec.encoder_result.EncoderResult.{EncoderResult}
+use Rattle.encoding_mem.specs.declared.codec.encoder_result.EncoderResult.TheVariants as raw_
+use Rattle.encoding_mem.specs.declared.codec.form.EscapeState.{EscapeState}
 
 set_of_next : (e : Coding) (q : EscapeState) (next more : List ℕ) (s' : EscapeState) → IsSetOfNext e q next s' → IsSetOfNext e q (next ++ more) s'
 set_of_next e q [] more s' h = absurd h

@@ -1,7 +1,7 @@
 -- What a query returns by the words of a handle is what the decoder would return.
 use mathlib.Core.Bool.{not}
 use Rattle.std.proofs.Common.{◌≡◌, ℕ, true, false, Option, Some, None, [], refl, sym, ap, ◌∙◌, unwrap_or}
-use Rattle.encoding_mem.specs.declared.room.OutputUnit.{OutputUnit}
+use Rattle.encoding_mem.specs.declared.codec.room.OutputUnit.{OutputUnit}
 use Rattle.encoding_front.specs.EncodingTable.{number_of}
 use Rattle.encoding_front.specs.calls.DecoderViews.{decoder_view}
 use Rattle.encoding_front.specs.calls.RoomRules.{room_by, room_rule_of}

@@ -5,10 +5,10 @@ use Rattle.std.specs.Option.{option_map, option_or}
 use Rattle.std.specs.Char.{encode_utf8}
 use Rattle.std.proofs.lemmas.Str.{length-encode, len_utf8_bounds}
 use Rattle.encoding_mem.specs.Coding.{AllMapped, Coding, IsMapped, bytes_from, form_of_bytes, mapped_bytes, open_from, spelled}
-use Rattle.encoding_mem.specs.declared.form.EscapeState.{EscapeState}
-use Rattle.encoding_mem.specs.declared.form.Form.{Form}
-use Rattle.encoding_mem.specs.declared.form.Form.TheVariants.{Mapped, Unmapped}
-use Rattle.encoding_mem.specs.declared.reference.Reference.TheVariants.{Decimal}
+use Rattle.encoding_mem.specs.declared.codec.form.EscapeState.{EscapeState}
+use Rattle.encoding_mem.specs.declared.codec.form.Form.{Form}
+use Rattle.encoding_mem.specs.declared.codec.form.Form.TheVariants.{Mapped, Unmapped}
+use Rattle.encoding_mem.specs.declared.codec.reference.Reference.TheVariants.{Decimal}
 use Rattle.encoding_tables.specs.Ranges.{range_pointer}
 use Rattle.encoding_tables.specs.Lookups.{first_pointer}
 use Rattle.encoding_codecs.specs.EucJp.{euc_jp_form, euc_jp_own_bytes, euc_jp_pair_bytes}

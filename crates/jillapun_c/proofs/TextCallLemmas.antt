@@ -9,9 +9,9 @@ use Rattle.std.proofs.lemmas.Str.{encodes-chars, IsUtf8-append, IsUtf8-drop, IsC
 use Rattle.encoding_mem.specs.Conversions.{text_prefix}
 use Rattle.encoding_mem.specs.calls.DecodedLength.{bound_at}
 use Rattle.encoding_mem.specs.calls.EncodedLength.{bound_for}
-use Rattle.encoding_mem.specs.declared.room.Bound.{Bound}
-use Rattle.encoding_mem.specs.declared.encoder_result.EncoderResult.{EncoderResult}
-use Rattle.encoding_mem.specs.declared.encoder_result.EncoderResult.TheVariants as raw_
+use Rattle.encoding_mem.specs.declared.codec.room.Bound.{Bound}
+use Rattle.encoding_mem.specs.declared.codec.encoder_result.EncoderResult.{EncoderResult}
+use Rattle.encoding_mem.specs.declared.codec.encoder_result.EncoderResult.TheVariants as raw_
 use Rattle.encoding_front.specs.Encodings.{output_encoding_of}
 use Rattle.encoding_front.specs.calls.CodecBounds.{encoded_length_of}
 use Rattle.encoding_front.specs.calls.Encoder.{Encoded, EncoderState, ReadsText, Replaces}

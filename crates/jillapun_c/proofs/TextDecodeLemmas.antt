@@ -8,8 +8,8 @@ use Rattle.encoding_mem.specs.Piece.{Piece, well_formed, malformed, text, scalar
 use Rattle.encoding_mem.specs.calls.DecodedLength.{replacement_len, two_in}
 use Rattle.encoding_mem.specs.calls.Decoding.{EndsWith}
 use Rattle.encoding_mem.specs.calls.Writing.{Adds}
-use Rattle.encoding_mem.specs.declared.decoder_result.DecoderResult.{DecoderResult}
-use Rattle.encoding_mem.specs.declared.room.OutputUnit.{OutputUnit}
+use Rattle.encoding_mem.specs.declared.codec.decoder_result.DecoderResult.{DecoderResult}
+use Rattle.encoding_mem.specs.declared.codec.room.OutputUnit.{OutputUnit}
 use Rattle.encoding_front.specs.calls.DecodedText.{raw_result}
 use Rattle.encoding_front.specs.calls.DecoderCall.{DecoderCall, TextCall, free_bytes}
 use Rattle.encoding_front.specs.calls.DecoderViews.{decoder_view}

@@ -9,8 +9,8 @@ use Rattle.encoding_mem.specs.Coding.{Coding, lost_count, output, whole_from}
 use Rattle.encoding_mem.specs.Piece.{Piece, malformed_count, text}
 use Rattle.encoding_mem.specs.Utf8Coding.{utf8_coding}
 use Rattle.encoding_mem.specs.calls.Writing.{Adds}
-use Rattle.encoding_mem.specs.declared.form.EscapeState.TheVariants.{Ascii}
-use Rattle.encoding_mem.specs.declared.reference.Reference.TheVariants.{Decimal}
+use Rattle.encoding_mem.specs.declared.codec.form.EscapeState.TheVariants.{Ascii}
+use Rattle.encoding_mem.specs.declared.codec.reference.Reference.TheVariants.{Decimal}
 use Rattle.encoding_mem.specs.laws.EncoderCalls.{utf8_lost_count, utf8_output}
 use Rattle.encoding_tables.specs.IndexLists.{AreAcceptedTables, IndexLists}
 use Rattle.encoding_front.specs.Codecs.{codec_of}

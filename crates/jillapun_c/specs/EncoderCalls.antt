@@ -1,8 +1,8 @@
 -- What a call of an encoder's handle does.
 use Rattle.std.specs.Prelude.{◌≡◌, ◌≢◌, ◌-◌, ◌≤◌, ℕ, Bool, false, List, length, take, Option, None, Some, unwrap_or}
 use Rattle.encoding_mem.specs.calls.EncoderRule.{WritesBytes}
-use Rattle.encoding_mem.specs.declared.encoder_result.EncoderResult.{EncoderResult}
-use Rattle.encoding_mem.specs.declared.encoder_result.EncoderResult.TheVariants as raw_
+use Rattle.encoding_mem.specs.declared.codec.encoder_result.EncoderResult.{EncoderResult}
+use Rattle.encoding_mem.specs.declared.codec.encoder_result.EncoderResult.TheVariants as raw_
 use Rattle.encoding_tables.specs.IndexLists.{IndexLists}
 use Rattle.encoding_front.specs.Encodings.{output_encoding_of}
 use Rattle.encoding_front.specs.calls.Encoder.{Encoded, EncoderState, Replaces, new_state, room_with_reference, room_without_reference}

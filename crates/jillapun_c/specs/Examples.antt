@@ -3,7 +3,7 @@ use Rattle.std.proofs.Common.{arith, inl, inr}
 use Rattle.std.specs.Prelude.{◌≡◌, true, false, None, Some, [], ◌∷◌, codes, refl}
 use lib.Utf8.{encode}
 use Rattle.std.specs.Fmt.{digits}
-use Rattle.encoding_mem.specs.declared.form.EscapeState.TheVariants as set
+use Rattle.encoding_mem.specs.declared.codec.form.EscapeState.TheVariants as set
 use Rattle.encoding_index.specs.declared.fault.IndexFaultKind.TheVariants as fault
 use Rattle.encoding_index.specs.declared.fault.LoadFault.TheVariants.{Text, Table}
 use Rattle.encoding_index.specs.IndexText.{memory_fault}

@@ -2,8 +2,8 @@
 use Rattle.std.specs.Prelude.{◌≡◌, ◌≢◌, ◌↔◌, ◌⊎◌, ℕ, ◌<◌, ◌≤◌, Bool, IsTrue, if◌then◌else◌, List, length, take, Option, Some, MatchOption}
 use Rattle.std.specs.Str.{IsUtf8, chars}
 use Rattle.encoding_mem.specs.Coding.{lost_count, output}
-use Rattle.encoding_mem.specs.declared.reference.Reference.TheVariants.{Decimal}
-use Rattle.encoding_mem.specs.declared.room.OutputUnit.TheVariants.{Replaced}
+use Rattle.encoding_mem.specs.declared.codec.reference.Reference.TheVariants.{Decimal}
+use Rattle.encoding_mem.specs.declared.codec.room.OutputUnit.TheVariants.{Replaced}
 use Rattle.encoding_tables.specs.IndexLists.{IndexLists}
 use Rattle.encoding_front.specs.Encodings.{coding_of, output_encoding_of}
 use Rattle.encoding_front.specs.calls.OneShot.{IsDecoded, room_at_start}

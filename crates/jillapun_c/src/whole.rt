@@ -4,8 +4,8 @@ ghost use Rattle.std.specs.Prelude.{◌≡◌, ◌≢◌, ◌↔◌, ◌<◌, �
 ghost use Rattle.std.specs.Prelude.{length, string_bytes, take};
 ghost use Rattle.std.specs.Str.{IsUtf8, chars};
 ghost use Rattle.encoding_mem.specs.Coding.{lost_count, output};
-ghost use Rattle.encoding_mem.specs.declared.reference.Reference.TheVariants.{Decimal};
-ghost use Rattle.encoding_mem.specs.declared.room.OutputUnit.TheVariants.{Replaced};
+ghost use Rattle.encoding_mem.specs.declared.codec.reference.Reference.TheVariants.{Decimal};
+ghost use Rattle.encoding_mem.specs.declared.codec.room.OutputUnit.TheVariants.{Replaced};
 ghost use Rattle.encoding_tables.specs.IndexLists.{IndexLists};
 ghost use Rattle.encoding_front.specs.Encodings.{IsReady, coding_of, output_encoding_of};
 ghost use Rattle.encoding_front.specs.calls.DecoderViews.{decoder_view};

@@ -5,15 +5,15 @@ use Rattle.std.proofs.Common.{◌≡◌, ℕ, suc, ◌+◌, ◌≤◌, Bool, tru
 use lib.Utf8.{scalar}
 use Rattle.std.proofs.lemmas.Bool.{and_parts, cases_lt, lt-ltb, le-ltb, eqb-true, eq-eqb, le-leb, lt-leb}
 use Rattle.std.specs.Str.{all_scalars, chars, IsUtf8, encode_utf8_all}
-use Rattle.encoding_mem.specs.declared.reference.Reference.{Reference}
+use Rattle.encoding_mem.specs.declared.codec.reference.Reference.{Reference}
 use Rattle.encoding_mem.specs.Piece.{IsPiece, Piece, well_formed, malformed, piece_scalars, sizes, scalars, AreWellFormed, ArePieces}
 use Rattle.encoding_mem.specs.Coding.{Coding, last_set, IsCoding}
 use Rattle.encoding_mem.specs.Items.{Byte, closing, form_items, open_items, trace_from, Item, whole_items}
-use Rattle.encoding_mem.specs.declared.form.EscapeState.{EscapeState}
+use Rattle.encoding_mem.specs.declared.codec.form.EscapeState.{EscapeState}
 use Rattle.encoding_mem.specs.calls.Decoding.{DecoderState, Takes, StateLaw, EndsWith}
-use Rattle.encoding_mem.specs.declared.form.EscapeState.TheVariants.{Ascii}
-use Rattle.encoding_mem.specs.declared.decoder_result.DecoderResult.{DecoderResult}
-use Rattle.encoding_mem.specs.declared.decoder_result.DecoderResult.TheVariants.{InputEmpty, OutputFull, Malformed}
+use Rattle.encoding_mem.specs.declared.codec.form.EscapeState.TheVariants.{Ascii}
+use Rattle.encoding_mem.specs.declared.codec.decoder_result.DecoderResult.{DecoderResult}
+use Rattle.encoding_mem.specs.declared.codec.decoder_result.DecoderResult.TheVariants.{InputEmpty, OutputFull, Malformed}
 use Rattle.encoding_mem.specs.laws.Piece.{scalars-append, sizes-append}
 use Rattle.encoding_mem.specs.laws.EncoderCalls.{last_set-append, encoded_items}
 use Rattle.recode.specs.calls.Turns.{reported}
@@ -21,7 +21,7 @@ use Rattle.recode.specs.calls.TraceToWrite.{trace_to_write}
 use Rattle.recode.specs.declared.counts.Counts.{Counts}
 use Rattle.std.proofs.lemmas.List.{length-map, length-take-le, append_cancel_left, nil_from_length, take_at, take_rest, take-append-drop, take_all}
 use Rattle.encoding_mem.specs.calls.EncoderCalls.{Encodes, reported_item}
-use Rattle.encoding_mem.specs.declared.encoder_result.EncoderResult.{EncoderResult}
+use Rattle.encoding_mem.specs.declared.codec.encoder_result.EncoderResult.{EncoderResult}
 use lib.Dec.{eqb}
 use Rattle.std.specs.Char.Escape.{encode_utf16}
 use Rattle.std.specs.Char.Utf16.{surrogate_pair_char, utf16_lossy_chars}

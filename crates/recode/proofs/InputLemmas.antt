@@ -31,7 +31,7 @@ use Rattle.recode.specs.WrittenItems.{IsStop, lost_line_count}
 use Rattle.recode.proofs.StepLemmas.{faithful_where_kept, quiet_where_faithful}
 use Rattle.recode.proofs.StopLemmas.{kept_where_quiet, losts_of, none_malformed, mapped_through, output_where_spared, quiet_where_kept, mapped_where_faithful, runs_through, trace_where_spared, output_where_mapped}
 use Rattle.std.proofs.lemmas.Bool.{cases_lt, false≢true}
-use Rattle.encoding_mem.specs.declared.reference.Reference.TheVariants.{Decimal}
+use Rattle.encoding_mem.specs.declared.codec.reference.Reference.TheVariants.{Decimal}
 use Rattle.encoding_mem.specs.Utf8Coding.{utf8_coding}
 use Rattle.encoding_mem.specs.laws.Piece.{well_formed_count, AreWellFormed-append, malformed_count-append, text-append}
 use Rattle.encoding_front.specs.Codecs.{codec_of}
@@ -46,9 +46,9 @@ use Rattle.std.proofs.lemmas.Grind.{flat_map-append}
 use Rattle.encoding_mem.specs.Parts.{EndsInCut, StandsAlone}
 use Rattle.encoding_mem.specs.ReadBack.{ReadsAs}
 use Rattle.encoding_mem.specs.Stateless.{HasOneSet}
-use Rattle.encoding_mem.specs.declared.form.EscapeState.TheVariants.{Ascii}
-use Rattle.encoding_mem.specs.declared.form.Form.TheVariants.{Mapped}
-use Rattle.encoding_mem.specs.declared.reference.Reference.{Reference}
+use Rattle.encoding_mem.specs.declared.codec.form.EscapeState.TheVariants.{Ascii}
+use Rattle.encoding_mem.specs.declared.codec.form.Form.TheVariants.{Mapped}
+use Rattle.encoding_mem.specs.declared.codec.reference.Reference.{Reference}
 use Rattle.encoding_mem.specs.laws.Agreement.{broken_never_reads, broken_stays, well_formed_parts}
 use Rattle.encoding_mem.specs.laws.Losses.{lost_count-append}
 use Rattle.encoding_front.specs.laws.Parts.{ends_alone, one_set_for, parts_of, source_by_mark, source_if, source_is_ready, stands_alone_of, writes_of}

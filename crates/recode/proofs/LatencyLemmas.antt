@@ -5,13 +5,13 @@ use Rattle.recode.proofs.TraceLemmas.{Gave-nil, Gave-trans, Grew-nil, Grew-trans
 use Rattle.std.proofs.lemmas.Bool.{false≢true}
 use Rattle.std.proofs.lemmas.Grind.{flat_map-append}
 use Rattle.std.proofs.lemmas.List.{append_cancel_right}
-use Rattle.encoding_mem.specs.declared.reference.Reference.{Reference}
+use Rattle.encoding_mem.specs.declared.codec.reference.Reference.{Reference}
 use Rattle.encoding_mem.specs.Piece.{ArePieces, Piece, well_formed, malformed, sizes, text, head_piece}
 use Rattle.encoding_mem.specs.calls.Decoding.{DecoderState}
 use Rattle.encoding_mem.specs.Coding.{Coding, last_set, open_from, whole_from}
 use Rattle.encoding_mem.specs.Items.{Item, trace_from}
-use Rattle.encoding_mem.specs.declared.form.EscapeState.{EscapeState}
-use Rattle.encoding_mem.specs.declared.form.EscapeState.TheVariants.{Ascii}
+use Rattle.encoding_mem.specs.declared.codec.form.EscapeState.{EscapeState}
+use Rattle.encoding_mem.specs.declared.codec.form.EscapeState.TheVariants.{Ascii}
 use Rattle.encoding_mem.specs.Decided.{AreBytes, IsDecided, IsFixed}
 use Rattle.encoding_mem.specs.laws.Piece.{sizes-append, text-append}
 use Rattle.encoding_mem.specs.laws.EncoderCalls.{last_set-append, open_from-append}

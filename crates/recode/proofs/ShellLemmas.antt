@@ -5,7 +5,7 @@ use Rattle.std.specs.Str.{all_scalars, encode_utf8_all}
 use Rattle.encoding_mem.proofs.Utf16Lemmas.{no_units}
 use Rattle.encoding_mem.specs.Items.{Byte, Item, trace_from}
 use Rattle.encoding_mem.specs.calls.Writing.{encode_utf16_all}
-use Rattle.encoding_mem.specs.declared.reference.Reference.{Reference}
+use Rattle.encoding_mem.specs.declared.codec.reference.Reference.{Reference}
 use Rattle.recode_log.specs.declared.line.LogLine.{LogLine}
 use Rattle.recode_log.specs.declared.line.LogLine.TheVariants.{Bad, Lost}
 use Rattle.recode.specs.Converter.{found_items, ConverterView, ConvertsPart, ConverterEndsWith, is_all_converted, owed_after}
@@ -33,8 +33,8 @@ use Rattle.std.proofs.lemmas.Bool.{false_from_ne_true, true_from_ne_false}
 use Rattle.std.proofs.lemmas.List.{nil_from_length}
 use Rattle.std.specs.Prelude.{◌&&◌}
 use Rattle.encoding_mem.specs.Piece.{Piece, sizes}
-use Rattle.encoding_mem.specs.declared.decoder_result.DecoderResult.{DecoderResult}
-use Rattle.encoding_mem.specs.declared.decoder_result.DecoderResult.TheVariants as decoded
+use Rattle.encoding_mem.specs.declared.codec.decoder_result.DecoderResult.{DecoderResult}
+use Rattle.encoding_mem.specs.declared.codec.decoder_result.DecoderResult.TheVariants as decoded
 use Rattle.encoding_front.specs.calls.Stream.{DecoderView}
 use Rattle.encoding_mem.specs.calls.EncoderRule.{EncoderParts}
 use Rattle.recode.specs.declared.engine.Engine.{Engine}

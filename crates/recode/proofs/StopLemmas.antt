@@ -4,16 +4,16 @@ use Rattle.encoding_mem.specs.laws.Piece.{well_formed_count}
 use Rattle.std.proofs.Common.{arith, ◌+◌, ◌*◌, ◌≡◌, ◌≤◌, ◌⊎◌, inl, inr, false, true, ℕ, List, [], ◌∷◌, ◌++◌, map, length, refl, sym, ◌∙◌, ap, subst, append_assoc, append-nil, length-append}
 use Rattle.std.specs.List.{flat_map}
 use Rattle.std.specs.Str.{all_scalars}
-use Rattle.encoding_mem.specs.declared.reference.Reference.{Reference}
-use Rattle.encoding_mem.specs.declared.reference.Reference.TheVariants.{Decimal}
+use Rattle.encoding_mem.specs.declared.codec.reference.Reference.{Reference}
+use Rattle.encoding_mem.specs.declared.codec.reference.Reference.TheVariants.{Decimal}
 use Rattle.encoding_mem.specs.Coding.{AllMapped, Coding, IsMapped, mapped_bytes, bytes_from, last_set, lost_count, open_from, output}
 use Rattle.encoding_mem.specs.Items.{Item, Byte, LostAt, item_bytes, form_items, open_items, trace_from}
 use Rattle.encoding_mem.specs.Piece.{Piece, well_formed, malformed, text, AreWellFormed, malformed_count}
 use Rattle.encoding_mem.specs.ReadBack.{ReadsAs}
-use Rattle.encoding_mem.specs.declared.form.Form.{Form}
-use Rattle.encoding_mem.specs.declared.form.Form.TheVariants.{Mapped, Unmapped}
-use Rattle.encoding_mem.specs.declared.form.EscapeState.{EscapeState}
-use Rattle.encoding_mem.specs.declared.form.EscapeState.TheVariants.{Ascii}
+use Rattle.encoding_mem.specs.declared.codec.form.Form.{Form}
+use Rattle.encoding_mem.specs.declared.codec.form.Form.TheVariants.{Mapped, Unmapped}
+use Rattle.encoding_mem.specs.declared.codec.form.EscapeState.{EscapeState}
+use Rattle.encoding_mem.specs.declared.codec.form.EscapeState.TheVariants.{Ascii}
 use Rattle.encoding_mem.specs.laws.Agreement.{open_reads}
 use Rattle.encoding_mem.specs.laws.EncoderCalls.{item_bytes-append, item_bytes-bytes, mapped_open, last_set-append}
 use Rattle.encoding_mem.specs.laws.ReadBack.{none_lost, all_mapped}

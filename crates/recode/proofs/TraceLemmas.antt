@@ -5,7 +5,7 @@ use Rattle.std.specs.List.{concat, flat_map}
 use Rattle.std.proofs.lemmas.List.Folds.{concat-append}
 use Rattle.recode.specs.Devices.{Gave, GaveThen, GaveToEnd, Grew, Written}
 use Rattle.std.proofs.lemmas.List.{map-append}
-use Rattle.encoding_mem.specs.declared.reference.Reference.{Reference}
+use Rattle.encoding_mem.specs.declared.codec.reference.Reference.{Reference}
 use Rattle.encoding_mem.specs.Items.{Item, Byte, MalformedAt, LostAt, item_bytes, open_items, trace_from}
 use Rattle.recode_log.specs.Line.{line_bytes}
 use Rattle.recode.specs.laws.Items.{output_bytes-append, log_bytes-append, output_bytes-bytes, log_bytes-bytes, output_bytes-lines, log_bytes-lines, tagged-append, lost_line_count-append, written_spared, spared_nil, spared_bytes}
@@ -18,13 +18,13 @@ use Rattle.recode.specs.declared.job.Fault.{Fault}
 use Rattle.recode.specs.declared.job.Fault.TheVariants.{Write, Log}
 use Rattle.recode.specs.declared.job.Policy.{Policy}
 use Rattle.encoding_mem.specs.Coding.{Coding, open_from, whole_from, last_set}
-use Rattle.encoding_mem.specs.declared.form.EscapeState.{EscapeState}
-use Rattle.encoding_mem.specs.declared.form.EscapeState.TheVariants.{Ascii}
+use Rattle.encoding_mem.specs.declared.codec.form.EscapeState.{EscapeState}
+use Rattle.encoding_mem.specs.declared.codec.form.EscapeState.TheVariants.{Ascii}
 use Rattle.recode.specs.declared.counts.Counts.{Counts}
 use Rattle.encoding_mem.specs.Piece.{Piece, well_formed, malformed, text}
 use Rattle.encoding_mem.specs.laws.EncoderCalls.{item_bytes-append, item_bytes-bytes, item_bytes-open_items, last_set-append, open_from-append}
-use Rattle.encoding_mem.specs.declared.form.Form.{Form}
-use Rattle.encoding_mem.specs.declared.form.Form.TheVariants.{Mapped, Unmapped}
+use Rattle.encoding_mem.specs.declared.codec.form.Form.{Form}
+use Rattle.encoding_mem.specs.declared.codec.form.Form.TheVariants.{Mapped, Unmapped}
 use Rattle.recode_log.specs.declared.line.LogLine.{LogLine}
 use Rattle.recode.specs.Job.{form_lines, lost_log_lines, log_lines, input_pieces, input_text, log_of, target_of, trace, lines_up_to_loss, whole_trace}
 use Rattle.recode_log.specs.declared.line.LogLine.TheVariants.{Bad, Lost}

@@ -6,10 +6,10 @@ use Rattle.encoding_mem.specs.Coding.{Coding, last_set, IsCoding, reference_byte
 use Rattle.encoding_mem.specs.Items.{Item, MalformedAt, open_items, trace_from, whole_items, Byte}
 use Rattle.encoding_mem.specs.Piece.{AreWellFormed, Piece, malformed_count, scalars, sizes, text}
 use Rattle.encoding_mem.specs.calls.Decoding.{DecoderState}
-use Rattle.encoding_mem.specs.declared.decoder_result.DecoderResult.{DecoderResult}
-use Rattle.encoding_mem.specs.declared.decoder_result.DecoderResult.TheVariants.{Malformed, OutputFull, InputEmpty}
-use Rattle.encoding_mem.specs.declared.form.EscapeState.{EscapeState}
-use Rattle.encoding_mem.specs.declared.reference.Reference.{Reference}
+use Rattle.encoding_mem.specs.declared.codec.decoder_result.DecoderResult.{DecoderResult}
+use Rattle.encoding_mem.specs.declared.codec.decoder_result.DecoderResult.TheVariants.{Malformed, OutputFull, InputEmpty}
+use Rattle.encoding_mem.specs.declared.codec.form.EscapeState.{EscapeState}
+use Rattle.encoding_mem.specs.declared.codec.reference.Reference.{Reference}
 use Rattle.encoding_mem.specs.laws.EncoderCalls.{last_set-append}
 use Rattle.encoding_mem.specs.laws.Agreement.{well_formed_parts}
 use Rattle.encoding_mem.specs.laws.Piece.{AreWellFormed-append, sizes-append, text-append, well_formed_text}
@@ -41,11 +41,11 @@ use Rattle.recode.specs.declared.job.Pivot.{Pivot}
 use Rattle.recode.specs.declared.job.Pivot.TheVariants.{Utf8, Utf16}
 use Rattle.recode.specs.declared.engine.Engine.{Engine}
 use Rattle.recode.specs.declared.job.Policy.{Policy}
-use Rattle.encoding_mem.specs.declared.form.EscapeState.TheVariants.{Ascii}
+use Rattle.encoding_mem.specs.declared.codec.form.EscapeState.TheVariants.{Ascii}
 use Rattle.recode.specs.calls.Chunk.{IsDoneWith}
 use Rattle.encoding_mem.specs.calls.EncoderCalls.{reported_item}
-use Rattle.encoding_mem.specs.declared.encoder_result.EncoderResult.{EncoderResult}
-use Rattle.encoding_mem.specs.declared.encoder_result.EncoderResult.TheVariants.{Unmappable}
+use Rattle.encoding_mem.specs.declared.codec.encoder_result.EncoderResult.{EncoderResult}
+use Rattle.encoding_mem.specs.declared.codec.encoder_result.EncoderResult.TheVariants.{Unmappable}
 use Rattle.recode.specs.WrittenItems.{AreCounted, lost_line_count}
 
 -- ---- text as pieces

@@ -13,19 +13,19 @@ use Rattle.encoding_mem.specs.ReadBack.{ReadsAs}
 use Rattle.encoding_mem.specs.calls.ReadCalls.{CallsAlong, HoldsAfter, KeepsVerdict, IsNotUnmappable, ReadsAlong, AreRead, HasTakenPart}
 use Rattle.encoding_mem.specs.laws.ReadCalls.{begins_along, differing_part_never_reads, ends_along, lost_never_reads, next_along, verdict_of_call}
 use Rattle.encoding_mem.specs.laws.Verdict.{keeps_agreed, keeps_false, keeps_lost, part_begins, part_ends, part_is_decided}
-use Rattle.encoding_mem.specs.declared.form.EscapeState.{EscapeState}
-use Rattle.encoding_mem.specs.declared.form.EscapeState.TheVariants.{Ascii}
-use Rattle.encoding_mem.specs.declared.reference.Reference.{Reference}
-use Rattle.encoding_mem.specs.declared.encoder_result.EncoderResult.{EncoderResult}
-use Rattle.encoding_mem.specs.declared.encoder_result.EncoderResult.TheVariants.{Unmappable}
+use Rattle.encoding_mem.specs.declared.codec.form.EscapeState.{EscapeState}
+use Rattle.encoding_mem.specs.declared.codec.form.EscapeState.TheVariants.{Ascii}
+use Rattle.encoding_mem.specs.declared.codec.reference.Reference.{Reference}
+use Rattle.encoding_mem.specs.declared.codec.encoder_result.EncoderResult.{EncoderResult}
+use Rattle.encoding_mem.specs.declared.codec.encoder_result.EncoderResult.TheVariants.{Unmappable}
 use Rattle.recode.specs.calls.Verdict.{CanTell, IsFaithfulFor, IsReadAlong, IsReadBack, IsToldAtEnd, IsToldByLog, VerdictIsKept, ReadsAsOther, ReadsAsText, VerdictView, to_read}
 use Rattle.std.specs.Bool.{MatchBool}
 use Rattle.std.proofs.lemmas.List.{append_cancel_left}
 use Rattle.encoding_mem.specs.calls.Decoding.{DecoderState, Waits}
 use Rattle.encoding_mem.specs.laws.Agreement.{well_formed_parts}
 use Rattle.encoding_mem.specs.laws.Piece.{AreWellFormed-append, text-append, well_formed_text}
-use Rattle.encoding_mem.specs.declared.decoder_result.DecoderResult.{DecoderResult}
-use Rattle.encoding_mem.specs.declared.decoder_result.DecoderResult.TheVariants.{InputEmpty, OutputFull, Malformed}
+use Rattle.encoding_mem.specs.declared.codec.decoder_result.DecoderResult.{DecoderResult}
+use Rattle.encoding_mem.specs.declared.codec.decoder_result.DecoderResult.TheVariants.{InputEmpty, OutputFull, Malformed}
 use Rattle.recode.specs.calls.Turns.{reported}
 use Rattle.recode.proofs.CodecCallLemmas.{IsDecoded}
 use Rattle.encoding_front.specs.Encodings.{KeepsCharacters, output_encoding_of, pieces_of, set_pieces_of}

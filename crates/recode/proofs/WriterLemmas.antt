@@ -10,7 +10,7 @@ use Rattle.recode.specs.declared.job.Pivot.{Pivot}
 use Rattle.recode.specs.declared.job.Pivot.TheVariants.{Utf8, Utf16}
 use Rattle.recode.specs.declared.writers.MalformedLine.{MalformedLine}
 use Rattle.recode.specs.declared.writers.Writers.{Writers}
-use Rattle.encoding_mem.specs.declared.reference.Reference.{Reference}
+use Rattle.encoding_mem.specs.declared.codec.reference.Reference.{Reference}
 use Rattle.recode.specs.Policy.{reference_form, reference_of, written_under}
 use Rattle.recode.specs.declared.job.Policy.{Policy}
 use Rattle.std.proofs.lemmas.List.{map-append}

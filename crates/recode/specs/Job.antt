@@ -3,9 +3,9 @@ use Rattle.std.specs.Prelude.{◌≡◌, ℕ, ◌+◌, ◌^◌, ◌≤◌, List,
 use Rattle.encoding_mem.specs.Piece.{Piece, well_formed, malformed, text, AreWellFormed}
 use Rattle.encoding_mem.specs.Coding.{Coding, lost_count}
 use Rattle.encoding_mem.specs.Items.{Item, trace_from}
-use Rattle.encoding_mem.specs.declared.form.Form.{Form}
-use Rattle.encoding_mem.specs.declared.form.Form.TheVariants.{Mapped, Unmapped}
-use Rattle.encoding_mem.specs.declared.form.EscapeState.TheVariants.{Ascii}
+use Rattle.encoding_mem.specs.declared.codec.form.Form.{Form}
+use Rattle.encoding_mem.specs.declared.codec.form.Form.TheVariants.{Mapped, Unmapped}
+use Rattle.encoding_mem.specs.declared.codec.form.EscapeState.TheVariants.{Ascii}
 use Rattle.encoding_front.specs.Encodings.{IsReady, pieces_of, coding_of, output_encoding_of}
 use Rattle.encoding_front.specs.Marks.{marked_pieces, source_of}
 use Rattle.encoding_front.specs.declared.encoding.Encoding.{Encoding}

@@ -1,7 +1,7 @@
 -- What a policy writes for a character without bytes, and when it ends a conversion.
 use Rattle.std.specs.Prelude.{List, [], ◌∷◌, Option, Some, None}
 use Rattle.encoding_mem.specs.Items.{Item, LostAt}
-use Rattle.encoding_mem.specs.declared.reference.Reference.{Reference}
+use Rattle.encoding_mem.specs.declared.codec.reference.Reference.{Reference}
 use Rattle.recode.specs.declared.job.Policy.{Policy}
 
 -- the form of the reference that is written, or none is

@@ -2,7 +2,7 @@
 use Rattle.std.specs.Prelude.{◌<◌, ◌≡◌, ℕ, ◌≤◌, ◌⊎◌, ◌↔◌, IsTrue, List, [], ◌++◌, length, true, Result, Ok, Err}
 use Rattle.encoding_mem.specs.Piece.{Piece, malformed_count}
 use Rattle.encoding_mem.specs.Coding.{lost_count}
-use Rattle.encoding_mem.specs.declared.form.EscapeState.TheVariants.{Ascii}
+use Rattle.encoding_mem.specs.declared.codec.form.EscapeState.TheVariants.{Ascii}
 use Rattle.recode.specs.Job.{trace, whole_trace, target_of, output_of, log_of, source_in, input_pieces, input_text, Faithful, RunsThrough}
 use Rattle.recode.specs.Latency.{WroteDecided}
 use Rattle.recode.specs.State.{State, WillBeFaithful, to_write}

@@ -5,7 +5,7 @@ use Rattle.encoding_mem.specs.Coding.{Coding, last_set, open_from}
 use Rattle.encoding_mem.specs.calls.Decoding.{DecoderState, Waits}
 use Rattle.encoding_mem.specs.Items.{Item}
 use Rattle.encoding_mem.specs.Piece.{Piece, text}
-use Rattle.encoding_mem.specs.declared.form.EscapeState.{EscapeState}
+use Rattle.encoding_mem.specs.declared.codec.form.EscapeState.{EscapeState}
 use Rattle.recode_log.specs.Call.{Call, Passed, Failed, Flush, failed_read}
 use Rattle.recode_log.specs.Counted.{CountsWrites, history_of}
 use Rattle.recode_log.specs.declared.counted.Counted.{Counted}

@@ -15,9 +15,9 @@ ghost use Rattle.encoding_mem.specs.Piece.{ArePieces, AreWellFormed, Piece, malf
 ghost use Rattle.encoding_mem.specs.Piece.{piece_len, sizes};
 ghost use Rattle.encoding_mem.specs.ReadBack.{ReadsAs};
 ghost use Rattle.encoding_mem.specs.Steps.{IsBroken};
-ghost use Rattle.encoding_mem.specs.declared.form.EscapeState.TheVariants.{Ascii};
-ghost use Rattle.encoding_mem.specs.declared.form.Form.TheVariants.{Unmapped};
-ghost use Rattle.encoding_mem.specs.declared.reference.Reference.TheVariants.{Decimal};
+ghost use Rattle.encoding_mem.specs.declared.codec.form.EscapeState.TheVariants.{Ascii};
+ghost use Rattle.encoding_mem.specs.declared.codec.form.Form.TheVariants.{Unmapped};
+ghost use Rattle.encoding_mem.specs.declared.codec.reference.Reference.TheVariants.{Decimal};
 ghost use Rattle.encoding_mem.specs.Decided.{IsDecided, IsFixed};
 ghost use Rattle.encoding_front.specs.Encodings.{IsUtf8Encoding, KeepsCharacters, coding_of};
 ghost use Rattle.encoding_front.specs.Encodings.{output_encoding_of};

@@ -3,8 +3,8 @@ use Rattle.std.proofs.Common.{◌≡◌, ℕ, ◌+◌, ◌-◌, ◌<◌, ◌≤�
 use Rattle.encoding_mem.specs.Piece.{Piece, well_formed, malformed, sizes, scalars, text, AreWellFormed, ArePieces}
 use Rattle.encoding_mem.specs.laws.Piece.{sizes-append}
 use Rattle.encoding_mem.specs.calls.Decoding.{DecoderState, Reports, StateLaw}
-use Rattle.encoding_mem.specs.declared.decoder_result.DecoderResult.{DecoderResult}
-use Rattle.encoding_mem.specs.declared.decoder_result.DecoderResult.TheVariants.{Malformed}
+use Rattle.encoding_mem.specs.declared.codec.decoder_result.DecoderResult.{DecoderResult}
+use Rattle.encoding_mem.specs.declared.codec.decoder_result.DecoderResult.TheVariants.{Malformed}
 use Rattle.std.proofs.lemmas.Bool.{false≢true}
 use Rattle.std.proofs.lemmas.Option.{none-some, same_Some}
 use Rattle.std.specs.Io.KnownBytes.{Consumes, IsAtEnd}

@@ -8,8 +8,8 @@ use Rattle.std.specs.Str.{chars, IsUtf8, all_scalars, encode_utf8_all}
 use Rattle.encoding_mem.specs.Piece.{Piece, well_formed, malformed, piece_scalars, piece_text, sizes, scalars, text, AreWellFormed, ArePieces}
 use Rattle.encoding_mem.specs.calls.Decoding.{DecoderState, Reports, StateLaw}
 use Rattle.encoding_mem.specs.calls.Writing.{Adds}
-use Rattle.encoding_mem.specs.declared.decoder_result.DecoderResult.{DecoderResult}
-use Rattle.encoding_mem.specs.declared.decoder_result.DecoderResult.TheVariants.{InputEmpty, OutputFull, Malformed}
+use Rattle.encoding_mem.specs.declared.codec.decoder_result.DecoderResult.{DecoderResult}
+use Rattle.encoding_mem.specs.declared.codec.decoder_result.DecoderResult.TheVariants.{InputEmpty, OutputFull, Malformed}
 use Rattle.encoding_mem.specs.laws.Piece.{well_formed_text}
 
 prefix_pieces : (ps qs : List Piece) → ArePieces (ps ++ qs) → ArePieces ps

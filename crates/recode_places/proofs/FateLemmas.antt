@@ -16,16 +16,16 @@ use Rattle.encoding_mem.specs.laws.ReadBack.{utf8_exact}
 use Rattle.encoding_mem.specs.calls.Decoding.{DecoderState, EndsWith, StateLaw}
 use Rattle.encoding_mem.specs.calls.EncoderCalls.{Encodes}
 use Rattle.encoding_mem.specs.calls.Writing.{Adds}
-use Rattle.encoding_mem.specs.declared.decoder_result.DecoderResult.{DecoderResult}
-use Rattle.encoding_mem.specs.declared.decoder_result.DecoderResult.TheVariants.{InputEmpty, OutputFull, Malformed}
-use Rattle.encoding_mem.specs.declared.encoder_result.EncoderResult.{EncoderResult}
-use Rattle.encoding_mem.specs.declared.encoder_result.EncoderResult.TheVariants.{Unmappable}
-use Rattle.encoding_mem.specs.declared.encoder_result.EncoderResult.TheVariants as encoder
-use Rattle.encoding_mem.specs.declared.form.Form.{Form}
-use Rattle.encoding_mem.specs.declared.form.Form.TheVariants.{Mapped, Unmapped}
-use Rattle.encoding_mem.specs.declared.form.EscapeState.{EscapeState}
-use Rattle.encoding_mem.specs.declared.form.EscapeState.TheVariants.{Ascii}
-use Rattle.encoding_mem.specs.declared.reference.Reference.TheVariants.{Decimal}
+use Rattle.encoding_mem.specs.declared.codec.decoder_result.DecoderResult.{DecoderResult}
+use Rattle.encoding_mem.specs.declared.codec.decoder_result.DecoderResult.TheVariants.{InputEmpty, OutputFull, Malformed}
+use Rattle.encoding_mem.specs.declared.codec.encoder_result.EncoderResult.{EncoderResult}
+use Rattle.encoding_mem.specs.declared.codec.encoder_result.EncoderResult.TheVariants.{Unmappable}
+use Rattle.encoding_mem.specs.declared.codec.encoder_result.EncoderResult.TheVariants as encoder
+use Rattle.encoding_mem.specs.declared.codec.form.Form.{Form}
+use Rattle.encoding_mem.specs.declared.codec.form.Form.TheVariants.{Mapped, Unmapped}
+use Rattle.encoding_mem.specs.declared.codec.form.EscapeState.{EscapeState}
+use Rattle.encoding_mem.specs.declared.codec.form.EscapeState.TheVariants.{Ascii}
+use Rattle.encoding_mem.specs.declared.codec.reference.Reference.TheVariants.{Decimal}
 use Rattle.encoding_mem.specs.laws.EncoderCalls.{mapped_open}
 use Rattle.encoding_mem.specs.laws.Piece.{text-append, malformed_count-append, well_formed_count, well_formed_text}
 use Rattle.encoding_tables.specs.IndexLists.{IndexLists}

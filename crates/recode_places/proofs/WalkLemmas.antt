@@ -9,8 +9,8 @@ use Rattle.std.specs.Str.{encode_utf8_all}
 use Rattle.encoding_mem.specs.calls.Decoding.{DecoderState, Reports, StateLaw, Waits}
 use Rattle.encoding_front.specs.calls.Stream.{finishes, is_input_empty}
 use Rattle.encoding_mem.specs.calls.Writing.{Adds}
-use Rattle.encoding_mem.specs.declared.decoder_result.DecoderResult.{DecoderResult}
-use Rattle.encoding_mem.specs.declared.decoder_result.DecoderResult.TheVariants.{Malformed}
+use Rattle.encoding_mem.specs.declared.codec.decoder_result.DecoderResult.{DecoderResult}
+use Rattle.encoding_mem.specs.declared.codec.decoder_result.DecoderResult.TheVariants.{Malformed}
 use Rattle.recode_places.specs.Entries.{TellsTrue, TellsTrueIn}
 use Rattle.recode_places.specs.Places.{IsPlaceAfter}
 use Rattle.recode_places.specs.calls.Walks.{HasPassed, TellsPrefix, WalksInput, WalksOn, WalkState}

@@ -3,7 +3,7 @@ use Rattle.std.proofs.Common.{◌≡◌, ◌≢◌, ℕ, ◌+◌, ◌-◌, ◌<�
 use Rattle.std.proofs.lemmas.List.{length-map, length-take-le}
 use Rattle.encoding_mem.specs.Coding.{reference_bytes}
 use Rattle.encoding_mem.specs.Items.{Item, Byte}
-use Rattle.encoding_mem.specs.declared.reference.Reference.{Reference}
+use Rattle.encoding_mem.specs.declared.codec.reference.Reference.{Reference}
 use Rattle.recode.specs.Converter.{ConverterView, ConvertsPart, ConverterEndsWith, AllIsConverted, IsFreshConverter, IsWhole, WillKeep, found_items, owes}
 use Rattle.recode.specs.Job.{Faithful, log_of, output_of, trace, whole_trace}
 use Rattle.recode.specs.Policy.{written_under}

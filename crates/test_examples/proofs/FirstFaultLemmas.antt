@@ -4,8 +4,8 @@ use Rattle.std.proofs.lemmas.Str.{encodes-append}
 use Rattle.encoding_mem.specs.Piece.{AreWellFormed, Piece, malformed, scalars, sizes, text}
 use Rattle.encoding_mem.specs.calls.Decoding.{Reports, Takes}
 use Rattle.encoding_mem.specs.calls.Writing.{Adds}
-use Rattle.encoding_mem.specs.declared.decoder_result.DecoderResult.{DecoderResult}
-use Rattle.encoding_mem.specs.declared.decoder_result.DecoderResult.TheVariants.{InputEmpty, Malformed, OutputFull}
+use Rattle.encoding_mem.specs.declared.codec.decoder_result.DecoderResult.{DecoderResult}
+use Rattle.encoding_mem.specs.declared.codec.decoder_result.DecoderResult.TheVariants.{InputEmpty, Malformed, OutputFull}
 use Rattle.encoding_mem.specs.laws.Piece.{AreWellFormed-append, sizes-append, text-append, well_formed_text}
 use Rattle.encoding_front.specs.calls.DecoderCall.{DecoderCall, RoomLeft, free_bytes}
 use Rattle.encoding_front.specs.calls.Stream.{DecoderView}

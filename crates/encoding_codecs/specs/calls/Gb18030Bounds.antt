@@ -1,7 +1,7 @@
 -- How much room gb18030 and GBK need, with the extended range (gb18030) or without it (GBK).
 use Rattle.std.specs.Prelude.{ℕ, Bool, if◌then◌else◌}
 use Rattle.encoding_mem.specs.calls.EncodedLength.{encoded_length_gb18030, encoded_length_two_byte}
-use Rattle.encoding_mem.specs.declared.room.EncodedLength.{EncodedLength}
+use Rattle.encoding_mem.specs.declared.codec.room.EncodedLength.{EncodedLength}
 
 -- the most bytes of a character: 4 in gb18030, 2 in GBK
 abbrev pub gb18030_need : Bool → ℕ

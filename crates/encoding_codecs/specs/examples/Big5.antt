@@ -2,7 +2,7 @@
 use Rattle.std.specs.Prelude.{◌≡◌, ℕ, List, [], ◌∷◌, ◌++◌, refl, replicate, map}
 use Rattle.encoding_mem.specs.Piece.{well_formed, malformed}
 use Rattle.encoding_mem.specs.Pieces.{pieces_in}
-use Rattle.encoding_mem.specs.declared.form.Form.TheVariants.{Mapped, Unmapped}
+use Rattle.encoding_mem.specs.declared.codec.form.Form.TheVariants.{Mapped, Unmapped}
 use Rattle.encoding_codecs.specs.Big5.{big5_pair_pointer, pieces_big5, big5_pair_bytes, big5_form}
 
 -- 88 62, 88 64, 88 A3 and 88 A5 are the four pointers, even if an index maps nothing

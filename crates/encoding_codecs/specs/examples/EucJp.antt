@@ -3,7 +3,7 @@ use Rattle.std.specs.Prelude.{◌≡◌, ℕ, List, [], ◌∷◌, ◌++◌, Som
 use Rattle.std.proofs.Common.{refl}
 use Rattle.encoding_mem.specs.Piece.{well_formed, malformed}
 use Rattle.encoding_mem.specs.Pieces.{pieces_in}
-use Rattle.encoding_mem.specs.declared.form.Form.TheVariants.{Unmapped, Mapped}
+use Rattle.encoding_mem.specs.declared.codec.form.Form.TheVariants.{Unmapped, Mapped}
 use Rattle.encoding_codecs.specs.EucJp.{pieces_euc_jp, euc_jp_pair_bytes, euc_jp_char_bytes, euc_jp_form}
 
 -- lists for examples: of jis0208 U+30FB at 5, U+4E00 at 7 and 9 and U+FF0D at 60, of jis0212 U+02D8 at 1

@@ -2,7 +2,7 @@
 use Rattle.std.specs.Prelude.{◌≡◌, ℕ, List, [], ◌∷◌, refl, map, replicate, ◌++◌}
 use Rattle.encoding_mem.specs.Piece.{well_formed, malformed}
 use Rattle.encoding_mem.specs.Pieces.{pieces_in}
-use Rattle.encoding_mem.specs.declared.form.Form.TheVariants.{Mapped, Unmapped}
+use Rattle.encoding_mem.specs.declared.codec.form.Form.TheVariants.{Mapped, Unmapped}
 use Rattle.encoding_codecs.specs.EucKr.{euc_kr_pair_pointer, pieces_euc_kr, euc_kr_pair_bytes, euc_kr_form}
 
 -- a list for examples, of the first trails of the lead 81: U+AC02 at 41 and 43, nothing at 42

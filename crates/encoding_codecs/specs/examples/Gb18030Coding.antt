@@ -1,8 +1,8 @@
 -- Worked rows of `specs/Gb18030Coding.antt`.
 use Rattle.std.specs.Prelude.{◌≡◌, ℕ, Bool, true, false, List, [], ◌∷◌, refl, map, replicate, ◌++◌}
 use Rattle.encoding_mem.specs.calls.EncodedLength.{bound_for}
-use Rattle.encoding_mem.specs.declared.form.Form.{Form}
-use Rattle.encoding_mem.specs.declared.form.Form.TheVariants.{Mapped, Unmapped}
+use Rattle.encoding_mem.specs.declared.codec.form.Form.{Form}
+use Rattle.encoding_mem.specs.declared.codec.form.Form.TheVariants.{Mapped, Unmapped}
 use Rattle.encoding_codecs.specs.Gb18030.{sample_flat, sample_rows}
 use Rattle.encoding_codecs.specs.Gb18030Coding.{gb18030_pair_bytes, gb18030_form, gb18030_four_bytes}
 use Rattle.encoding_codecs.specs.calls.Gb18030Bounds.{gb18030_need, gb18030_encoded_length}

@@ -9,9 +9,9 @@ use Rattle.encoding_mem.specs.calls.ReadCalls.{ReadsAlong}
 use Rattle.encoding_mem.specs.Steps.{IsBroken}
 use Rattle.encoding_mem.specs.laws.Utf8.{scalar_from}
 use Rattle.encoding_mem.specs.laws.Agreement.{broken_never_reads, reads_back_or_breaks}
-use Rattle.encoding_mem.specs.declared.reference.Reference.TheVariants.{Decimal}
-use Rattle.encoding_mem.specs.declared.form.EscapeState.{EscapeState}
-use Rattle.encoding_mem.specs.declared.form.EscapeState.TheVariants.{Ascii, Roman, Jis}
+use Rattle.encoding_mem.specs.declared.codec.reference.Reference.TheVariants.{Decimal}
+use Rattle.encoding_mem.specs.declared.codec.form.EscapeState.{EscapeState}
+use Rattle.encoding_mem.specs.declared.codec.form.EscapeState.TheVariants.{Ascii, Roman, Jis}
 use Rattle.encoding_tables.specs.Lookups.{AreEntries}
 use Rattle.encoding_codecs.specs.Iso2022Jp.{pieces_in_mode, pieces_iso_2022_jp}
 use Rattle.encoding_codecs.specs.Iso2022JpForms.{iso_2022_jp_coding}

@@ -2,7 +2,7 @@
 use Rattle.std.specs.Prelude.{◌≡◌, ℕ, List, [], ◌∷◌, ◌++◌, replicate, refl}
 use Rattle.encoding_mem.specs.Piece.{well_formed, malformed}
 use Rattle.encoding_mem.specs.Pieces.{pieces_in}
-use Rattle.encoding_mem.specs.declared.form.Form.TheVariants.{Mapped}
+use Rattle.encoding_mem.specs.declared.codec.form.Form.TheVariants.{Mapped}
 use Rattle.encoding_codecs.specs.EucKr.{pieces_euc_kr, euc_kr_form}
 use Rattle.encoding_codecs.specs.Big5.{pieces_big5, big5_form}
 use Rattle.encoding_codecs.specs.EucJp.{pieces_euc_jp}

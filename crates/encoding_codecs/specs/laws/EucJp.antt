@@ -7,8 +7,8 @@ use Rattle.encoding_mem.specs.Piece.{Piece, piece_len, Cuts}
 use Rattle.encoding_mem.specs.calls.DecoderRule.{IsModest}
 use Rattle.encoding_mem.specs.laws.Shows.{Shows, shows_cond, shows_cons}
 use Rattle.encoding_mem.specs.laws.Utf8.{cuts_cond, cuts_malformed}
-use Rattle.encoding_mem.specs.declared.form.Form.TheVariants.{Mapped}
-use Rattle.encoding_mem.specs.declared.first_piece.FirstPiece.{FirstPiece}
+use Rattle.encoding_mem.specs.declared.codec.form.Form.TheVariants.{Mapped}
+use Rattle.encoding_mem.specs.declared.codec.first_piece.FirstPiece.{FirstPiece}
 use Rattle.encoding_mem.specs.Stateless.{stateless}
 use Rattle.encoding_tables.specs.Lookups.{AreEntries, first_pointer}
 use Rattle.encoding_codecs.specs.EucJp.{is_pointer_byte, euc_jp_pair_pointer, euc_jp_first, euc_pair, euc_jp_pair, euc_jp_after_8f, euc_jp_after, euc_jp_own_bytes, euc_jp_pair_bytes, euc_jp_char_bytes, euc_jp_form}

@@ -1,7 +1,7 @@
 -- What is known of the first piece of EUC-JP if more bytes may come: each definition follows the one of
 -- specs/EucJp.antt for the piece.
 use Rattle.std.specs.Prelude.{ℕ, Bool, List, [], ◌∷◌, ◌==◌, if◌then◌else◌}
-use Rattle.encoding_mem.specs.declared.first_piece.FirstPiece.{FirstPiece}
+use Rattle.encoding_mem.specs.declared.codec.first_piece.FirstPiece.{FirstPiece}
 use Rattle.encoding_mem.specs.calls.DecoderRule.{cut_short}
 use Rattle.encoding_codecs.specs.EucJp.{is_pointer_byte, euc_pair, euc_jp_pair}
 use Rattle.encoding_codecs.specs.laws.TwoByteDecide.{decide_after, decide_trail}

@@ -7,7 +7,7 @@ use Rattle.std.proofs.Math.Utf8.{scalar}
 use Rattle.std.proofs.lemmas.Bool.{and_parts}
 use Rattle.std.proofs.lemmas.List.{append-nil, drop_at}
 use Rattle.encoding_mem.specs.laws.Steps.{reference_behind}
-use Rattle.encoding_mem.specs.declared.reference.Reference.{Reference}
+use Rattle.encoding_mem.specs.declared.codec.reference.Reference.{Reference}
 use Rattle.encoding_mem.specs.Piece.{Piece, well_formed, piece_len, text, AreWellFormed}
 use Rattle.encoding_mem.specs.Pieces.{pieces_by}
 use Rattle.encoding_mem.specs.laws.Pieces.{CutsEach, pieces_by-nil, pieces_by-first}
@@ -18,10 +18,10 @@ use Rattle.encoding_mem.specs.Stateless.{stateless}
 use Rattle.encoding_mem.specs.Steps.{StepLaw, in_any_set, Returns, Strays}
 use Rattle.encoding_mem.specs.laws.OneSet.{one_set_by_step}
 use Rattle.encoding_mem.specs.laws.Steps.{step_law}
-use Rattle.encoding_mem.specs.declared.form.Form.{Form}
-use Rattle.encoding_mem.specs.declared.form.Form.TheVariants.{Mapped, Unmapped}
-use Rattle.encoding_mem.specs.declared.form.EscapeState.{EscapeState}
-use Rattle.encoding_mem.specs.declared.form.EscapeState.TheVariants.{Ascii}
+use Rattle.encoding_mem.specs.declared.codec.form.Form.{Form}
+use Rattle.encoding_mem.specs.declared.codec.form.Form.TheVariants.{Mapped, Unmapped}
+use Rattle.encoding_mem.specs.declared.codec.form.EscapeState.{EscapeState}
+use Rattle.encoding_mem.specs.declared.codec.form.EscapeState.TheVariants.{Ascii}
 use Rattle.encoding_codecs.specs.laws.Steps.{reference_strays}
 
 -- these bytes are a piece that gives the scalar, whatever follows; one without bytes is above ASCII

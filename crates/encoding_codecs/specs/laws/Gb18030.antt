@@ -9,7 +9,7 @@ use Rattle.encoding_mem.specs.laws.Pieces.{CutsEach}
 use Rattle.encoding_mem.specs.laws.Shows.{Shows, shows_cond, shows_cons, shows_const}
 use Rattle.encoding_mem.specs.laws.Utf8.{cuts_cond, cuts_malformed, cuts_one}
 use Rattle.encoding_mem.specs.laws.Writing.{cost_fits, cost_fits16}
-use Rattle.encoding_mem.specs.declared.first_piece.FirstPiece.TheVariants.{Malformed}
+use Rattle.encoding_mem.specs.declared.codec.first_piece.FirstPiece.TheVariants.{Malformed}
 use Rattle.encoding_tables.specs.Lookups.{AreEntries, value_of}
 use Rattle.encoding_tables.specs.Ranges.{range_value, HaveScalars}
 use Rattle.encoding_mem.specs.calls.DecoderRule.{IsModest}

@@ -3,7 +3,7 @@ use Rattle.std.proofs.Common.{◌≡◌, refl, ℕ, ◌<◌, ◌≤◌, Bool, tr
 use Rattle.std.specs.Prelude.{◌==◌, ◌&&◌, not, IfSome}
 use Rattle.std.specs.Option.{option_map, option_or}
 use Rattle.encoding_mem.specs.Coding.{IsCoding, FitsNeed, form_of_bytes}
-use Rattle.encoding_mem.specs.declared.form.Form.TheVariants.{Mapped}
+use Rattle.encoding_mem.specs.declared.codec.form.Form.TheVariants.{Mapped}
 use Rattle.encoding_mem.specs.laws.Stateless.{stateless_laws, short_one, short_none}
 use Rattle.encoding_mem.specs.calls.EncodedLength.{IsRoomFor}
 use Rattle.encoding_mem.specs.laws.EncodedLength.{two_byte_room, four_byte_room}

@@ -2,8 +2,8 @@
 -- specs/Gb18030.antt for the piece.
 use Rattle.std.specs.Prelude.{ℕ, Bool, List, [], ◌∷◌, if◌then◌else◌, Option, None, Some}
 use Rattle.std.specs.Int.{is_in_range}
-use Rattle.encoding_mem.specs.declared.first_piece.FirstPiece.{FirstPiece}
-use Rattle.encoding_mem.specs.declared.first_piece.FirstPiece.TheVariants.{One, Malformed}
+use Rattle.encoding_mem.specs.declared.codec.first_piece.FirstPiece.{FirstPiece}
+use Rattle.encoding_mem.specs.declared.codec.first_piece.FirstPiece.TheVariants.{One, Malformed}
 use Rattle.encoding_mem.specs.calls.DecoderRule.{cut_short}
 use Rattle.encoding_tables.specs.Ranges.{range_value}
 use Rattle.encoding_codecs.specs.laws.TwoByteDecide.{decide_trail}

@@ -6,7 +6,7 @@ use Rattle.std.specs.List.{find}
 use Rattle.std.specs.Option.{option_map, option_or}
 use Rattle.std.proofs.lemmas.Bool.{cases_lt, lt-ltb, le-ltb, leb-true, and_parts}
 use Rattle.std.proofs.lemmas.Bool.Decides.{nat_tests}
-use Rattle.encoding_mem.specs.declared.reference.Reference.{Reference}
+use Rattle.encoding_mem.specs.declared.codec.reference.Reference.{Reference}
 use Rattle.encoding_mem.specs.Coding.{spelled, form_of_bytes}
 use Rattle.encoding_mem.specs.Piece.{well_formed, malformed, piece_of_scalar}
 use Rattle.encoding_mem.specs.Steps.{Returns, Strays, StepsReadBack}

@@ -3,8 +3,8 @@ use Rattle.std.specs.Prelude.{ℕ, ◌==◌, ◌&&◌, ◌||◌, not, Bool, true
 use Rattle.std.specs.Int.{is_in_range}
 use Rattle.std.specs.Option.{unwrap_or}
 use Rattle.encoding_mem.specs.Piece.{Piece, well_formed, malformed}
-use Rattle.encoding_mem.specs.declared.first_piece.FirstPiece.{FirstPiece}
-use Rattle.encoding_mem.specs.declared.first_piece.FirstPiece.TheVariants.{More, One, Ignored, Malformed}
+use Rattle.encoding_mem.specs.declared.codec.first_piece.FirstPiece.{FirstPiece}
+use Rattle.encoding_mem.specs.declared.codec.first_piece.FirstPiece.TheVariants.{More, One, Ignored, Malformed}
 use Rattle.encoding_codecs.specs.Iso2022Jp.{escape_at, ascii_piece, roman_piece, katakana_piece, pair_piece}
 use Rattle.encoding_codecs.specs.declared.iso_2022_jp_decoder.Mode.{Mode}
 use Rattle.encoding_codecs.specs.declared.iso_2022_jp_decoder.Mode.TheVariants.{Ascii, Roman, Katakana, Jis}

@@ -7,10 +7,10 @@ use Rattle.encoding_mem.specs.calls.DecodedLength.{cost_in}
 use Rattle.encoding_mem.specs.calls.EncodedLength.{IsRoomFor, bound_for, encoded_length_iso_2022_jp}
 use Rattle.encoding_mem.specs.laws.EncodedLength.{cost_some, two_bytes}
 use Rattle.encoding_mem.specs.laws.Stateless.{short_if, short_one, short_none}
-use Rattle.encoding_mem.specs.declared.form.Form.{Form}
-use Rattle.encoding_mem.specs.declared.form.Form.TheVariants.{Mapped}
-use Rattle.encoding_mem.specs.declared.form.EscapeState.{EscapeState}
-use Rattle.encoding_mem.specs.declared.form.EscapeState.TheVariants.{Ascii, Roman, Jis}
+use Rattle.encoding_mem.specs.declared.codec.form.Form.{Form}
+use Rattle.encoding_mem.specs.declared.codec.form.Form.TheVariants.{Mapped}
+use Rattle.encoding_mem.specs.declared.codec.form.EscapeState.{EscapeState}
+use Rattle.encoding_mem.specs.declared.codec.form.EscapeState.TheVariants.{Ascii, Roman, Jis}
 use Rattle.encoding_codecs.specs.Iso2022JpForms.{iso_2022_jp_pointer, iso_2022_jp_form, ascii_or_roman, iso_2022_jp_set, iso_2022_jp_escape, iso_2022_jp_coding, iso_2022_jp_pair_bytes}
 use Rattle.encoding_codecs.specs.laws.Pointers.{form_of_pointer}
 

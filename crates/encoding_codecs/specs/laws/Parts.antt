@@ -4,7 +4,7 @@ use Rattle.std.specs.Int.{is_in_range}
 use Rattle.std.proofs.lemmas.Bool.{lt-ltb}
 use Rattle.encoding_mem.specs.Parts.{IsCutByte, StandsAlone}
 use Rattle.encoding_mem.specs.Piece.{Piece, malformed, well_formed, piece_len, piece_of_scalar}
-use Rattle.encoding_mem.specs.declared.form.Form.TheVariants.{Mapped}
+use Rattle.encoding_mem.specs.declared.codec.form.Form.TheVariants.{Mapped}
 use Rattle.encoding_mem.specs.laws.Parts.{ClosesAt, Stays, cut_is_below, not_both, stands_alone, stays_cond, stays_const, stays_within}
 use Rattle.encoding_tables.specs.Lookups.{AreEntries}
 use Rattle.encoding_tables.specs.Ranges.{range_value}

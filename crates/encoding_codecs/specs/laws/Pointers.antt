@@ -7,8 +7,8 @@ use Rattle.encoding_mem.specs.Coding.{IsCoding, FitsNeed, form_of_bytes}
 use Rattle.encoding_mem.specs.Piece.{well_formed}
 use Rattle.encoding_mem.specs.Stateless.{stateless}
 use Rattle.encoding_mem.specs.laws.Stateless.{stateless_laws, short_if, short_one, short_none}
-use Rattle.encoding_mem.specs.declared.form.Form.{Form}
-use Rattle.encoding_mem.specs.declared.form.Form.TheVariants.{Mapped}
+use Rattle.encoding_mem.specs.declared.codec.form.Form.{Form}
+use Rattle.encoding_mem.specs.declared.codec.form.Form.TheVariants.{Mapped}
 use Rattle.encoding_tables.specs.Lookups.{AreEntries, value_of}
 use Rattle.encoding_tables.specs.laws.Pointers.{value_some}
 use Rattle.encoding_codecs.specs.TwoByte.{first_piece_two_byte, after_bytes, piece_of_first, piece_of_trail}

@@ -6,7 +6,7 @@ use Rattle.std.specs.Int.{is_in_range}
 use Rattle.std.proofs.lemmas.Bool.{lt-ltb}
 use Rattle.encoding_mem.specs.Coding.{IsCoding}
 use Rattle.encoding_mem.specs.laws.Utf8.{scalar_from, range_from}
-use Rattle.encoding_mem.specs.declared.form.Form.TheVariants.{Mapped}
+use Rattle.encoding_mem.specs.declared.codec.form.Form.TheVariants.{Mapped}
 use Rattle.encoding_mem.specs.Stateless.{stateless}
 use Rattle.encoding_tables.specs.Lookups.{AreEntries}
 use Rattle.encoding_codecs.specs.JisForms.{folded, is_katakana_byte}

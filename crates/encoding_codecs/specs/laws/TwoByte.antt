@@ -12,8 +12,8 @@ use Rattle.encoding_mem.specs.laws.Shows.{Shows, shows_cond, shows_cons, shows_c
 use Rattle.encoding_mem.specs.calls.DecoderRule.{TellsFirstPiece, IsModest, cut_short}
 use Rattle.encoding_mem.specs.laws.Utf8.{cuts_cond, cuts_malformed, cuts_one}
 use Rattle.encoding_mem.specs.laws.Writing.{cost_fits, cost_fits16}
-use Rattle.encoding_mem.specs.declared.first_piece.FirstPiece.{FirstPiece}
-use Rattle.encoding_mem.specs.declared.first_piece.FirstPiece.TheVariants.{Malformed}
+use Rattle.encoding_mem.specs.declared.codec.first_piece.FirstPiece.{FirstPiece}
+use Rattle.encoding_mem.specs.declared.codec.first_piece.FirstPiece.TheVariants.{Malformed}
 use Rattle.encoding_mem.specs.Decided.{AreBytes}
 use Rattle.encoding_codecs.specs.TwoByte.{first_piece_by_lead, piece_of_first, piece_of_trail, after_bytes, first_piece_two_byte}
 use Rattle.encoding_codecs.specs.laws.TwoByteDecide.{decide_of_first, decide_by_lead, decide_trail, decide_after}

@@ -2,8 +2,8 @@
 -- the piece.
 use Rattle.std.specs.Prelude.{ℕ, ◌+◌, Bool, List, [], ◌∷◌, nat_lt, if◌then◌else◌}
 use Rattle.encoding_mem.specs.Piece.{Piece}
-use Rattle.encoding_mem.specs.declared.first_piece.FirstPiece.{FirstPiece}
-use Rattle.encoding_mem.specs.declared.first_piece.FirstPiece.TheVariants.{More, One, Two, Malformed}
+use Rattle.encoding_mem.specs.declared.codec.first_piece.FirstPiece.{FirstPiece}
+use Rattle.encoding_mem.specs.declared.codec.first_piece.FirstPiece.TheVariants.{More, One, Two, Malformed}
 use Rattle.encoding_mem.specs.calls.DecoderRule.{cut_short}
 use Rattle.encoding_codecs.specs.TwoByte.{after_bytes}
 use Rattle.encoding_codecs.specs.declared.lead_byte_rule.FirstByte.{FirstByte}

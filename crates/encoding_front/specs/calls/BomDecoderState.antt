@@ -3,7 +3,7 @@ use Rattle.std.proofs.Common.{◌≡◌, ℕ, ◌+◌, ◌≤◌, IsTrue, List, 
 use Rattle.encoding_mem.specs.Piece.{sizes}
 use Rattle.encoding_mem.specs.calls.Decoding.{DecoderState}
 use Rattle.encoding_mem.specs.calls.DecodedLength.{decoded_length}
-use Rattle.encoding_mem.specs.declared.room.OutputUnit.{OutputUnit}
+use Rattle.encoding_mem.specs.declared.codec.room.OutputUnit.{OutputUnit}
 use Rattle.encoding_front.specs.calls.Seeking.{is_sought, sought_pieces, sought_needs, room_widest}
 use Rattle.encoding_front.specs.laws.Seeking.{sought_whole, sought_are_pieces, sought_covers}
 use Rattle.encoding_front.specs.declared.seeking.BomSet.{BomSet}

@@ -2,8 +2,8 @@
 use Rattle.std.specs.Prelude.{◌≡◌, ℕ, ◌+◌, ◌≤◌, ◌<◌, ◌↔◌, Bool, true, IsTrue, List, [], ◌++◌, length, drop}
 use Rattle.encoding_mem.specs.Piece.{Piece, text, sizes, malformed_count}
 use Rattle.encoding_mem.specs.calls.DecodedLength.{is_units, counts_past_malformed}
-use Rattle.encoding_mem.specs.declared.decoder_result.DecoderResult.{DecoderResult}
-use Rattle.encoding_mem.specs.declared.room.OutputUnit.{OutputUnit}
+use Rattle.encoding_mem.specs.declared.codec.decoder_result.DecoderResult.{DecoderResult}
+use Rattle.encoding_mem.specs.declared.codec.room.OutputUnit.{OutputUnit}
 use Rattle.encoding_front.specs.declared.coder_result.CoderResult.{CoderResult}
 use Rattle.encoding_front.specs.declared.coder_result.CoderResult.TheVariants.{InputEmpty, OutputFull}
 

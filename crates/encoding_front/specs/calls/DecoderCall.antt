@@ -4,8 +4,8 @@ use Rattle.encoding_mem.specs.calls.DecodedLength.{replacement_len, two_in}
 use Rattle.encoding_mem.specs.calls.Decoding.{StateLaw, EndsWith}
 use Rattle.encoding_mem.specs.calls.TextDestination.{Overwrites}
 use Rattle.encoding_mem.specs.calls.Writing.{Adds}
-use Rattle.encoding_mem.specs.declared.decoder_result.DecoderResult.{DecoderResult}
-use Rattle.encoding_mem.specs.declared.room.OutputUnit.{OutputUnit}
+use Rattle.encoding_mem.specs.declared.codec.decoder_result.DecoderResult.{DecoderResult}
+use Rattle.encoding_mem.specs.declared.codec.room.OutputUnit.{OutputUnit}
 use Rattle.encoding_front.specs.calls.DecodedText.{TakesText, raw_result}
 use Rattle.encoding_front.specs.calls.Stream.{DecoderView, finishes, room_asked}
 use Rattle.encoding_front.specs.declared.coder_result.CoderResult.{CoderResult}

@@ -2,15 +2,15 @@
 use Rattle.std.specs.Prelude.{◌≡◌, ℕ, ◌+◌, ◌-◌, ◌<◌, ◌≤◌, Bool, true, false, List, [], ◌∷◌, ◌++◌, length, IsTrue, ◌↔◌, ◌⊎◌, ◌≢◌, Option}
 use Rattle.std.specs.Bool.{MatchBool}
 use Rattle.std.specs.Str.{IsCharBoundary}
-use Rattle.encoding_mem.specs.declared.reference.Reference.TheVariants.{Decimal}
+use Rattle.encoding_mem.specs.declared.codec.reference.Reference.TheVariants.{Decimal}
 use Rattle.encoding_mem.specs.Coding.{Coding, IsMapped, last_set, lost_count, open_from, reference_bytes, spelled, whole_from}
 use Rattle.encoding_mem.specs.calls.EncoderCalls.{WritesPart, AccountsForText}
 use Rattle.encoding_mem.specs.calls.DecodedLength.{checked, bound_at}
 use Rattle.encoding_mem.specs.calls.EncoderRule.{EncoderCall, EncoderParts, Moves}
 use Rattle.encoding_mem.specs.calls.EncodedLength.{bound_for}
-use Rattle.encoding_mem.specs.declared.encoder_result.EncoderResult.{EncoderResult}
-use Rattle.encoding_mem.specs.declared.form.EscapeState.{EscapeState}
-use Rattle.encoding_mem.specs.declared.form.EscapeState.TheVariants.{Ascii}
+use Rattle.encoding_mem.specs.declared.codec.encoder_result.EncoderResult.{EncoderResult}
+use Rattle.encoding_mem.specs.declared.codec.form.EscapeState.{EscapeState}
+use Rattle.encoding_mem.specs.declared.codec.form.EscapeState.TheVariants.{Ascii}
 use Rattle.encoding_tables.specs.IndexLists.{IndexLists}
 use Rattle.encoding_front.specs.EncodingTable.{codec_kind_of}
 use Rattle.encoding_front.specs.Encodings.{coding_of, output_encoding_of}

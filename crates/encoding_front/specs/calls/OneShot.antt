@@ -1,7 +1,7 @@
 -- A whole input at once: its text, the room that is asked for it, and why it is refused.
 use Rattle.std.specs.Prelude.{◌≡◌, ◌≢◌, ◌↔◌, ℕ, ◌<◌, Bool, IsTrue, Option, None, Some, Result, Ok, Err, List, [], encode_utf8_all}
 use Rattle.encoding_mem.specs.Piece.{malformed_count}
-use Rattle.encoding_mem.specs.declared.room.OutputUnit.{OutputUnit}
+use Rattle.encoding_mem.specs.declared.codec.room.OutputUnit.{OutputUnit}
 use Rattle.encoding_tables.specs.IndexLists.{IndexLists}
 use Rattle.encoding_front.specs.calls.CodecBounds.{decoded_length_of}
 use Rattle.encoding_front.specs.Marks.{marked_pieces, marked_text}

@@ -1,7 +1,7 @@
 -- What is written for a character without bytes: its number, or that of U+FFFD.
 use Rattle.std.specs.Prelude.{◌≡◌, ℕ, ◌⊎◌}
-use Rattle.encoding_mem.specs.declared.form.Form.{Form}
-use Rattle.encoding_mem.specs.declared.form.Form.TheVariants.{Mapped, Unmapped}
+use Rattle.encoding_mem.specs.declared.codec.form.Form.{Form}
+use Rattle.encoding_mem.specs.declared.codec.form.Form.TheVariants.{Mapped, Unmapped}
 
 -- a character without bytes is reported as itself, or as U+FFFD
 abbrev pub ReportsItself : ℕ → Form → Type 0

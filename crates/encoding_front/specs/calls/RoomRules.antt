@@ -1,7 +1,7 @@
 -- What the length queries of a decoder depend on, as plain values.
 use Rattle.std.specs.Prelude.{ℕ, ◌+◌, ◌||◌, Option, [], List}
 use Rattle.encoding_mem.specs.calls.DecodedLength.{queried, decoded_length_utf8, decoded_length_utf16}
-use Rattle.encoding_mem.specs.declared.room.OutputUnit.{OutputUnit}
+use Rattle.encoding_mem.specs.declared.codec.room.OutputUnit.{OutputUnit}
 use Rattle.encoding_front.specs.calls.CodecBounds.{decoded_length_of}
 use Rattle.encoding_front.specs.calls.Seeking.{can_be}
 use Rattle.encoding_front.specs.calls.Stream.{DecoderView, ahead, greater_if}

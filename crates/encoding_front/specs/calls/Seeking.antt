@@ -3,8 +3,8 @@ use Rattle.std.specs.Prelude.{ℕ, ◌+◌, ◌-◌, ◌==◌, ◌&&◌, ◌||�
 use Rattle.encoding_mem.specs.Piece.{Piece, well_formed}
 use Rattle.encoding_mem.specs.calls.DecodedLength.{decoded_length, decoded_length_utf8, decoded_length_utf16, of_bytes, linear_bound}
 use Rattle.encoding_mem.specs.Utf8.{pieces_utf8}
-use Rattle.encoding_mem.specs.declared.room.OutputUnit.{OutputUnit}
-use Rattle.encoding_mem.specs.declared.room.DecodedLength.{DecodedLength}
+use Rattle.encoding_mem.specs.declared.codec.room.OutputUnit.{OutputUnit}
+use Rattle.encoding_mem.specs.declared.codec.room.DecodedLength.{DecodedLength}
 use Rattle.encoding_tables.specs.Utf16.{pieces_utf16}
 use Rattle.encoding_front.specs.Marks.{takes_mark_of}
 use Rattle.encoding_front.specs.declared.encoding.Encoding.{Encoding}

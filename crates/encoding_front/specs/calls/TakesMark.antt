@@ -2,7 +2,7 @@
 use Rattle.std.specs.Prelude.{◌≡◌, ℕ, ◌+◌, ◌≤◌, Bool, false, List, [], length, Option, Some, None}
 use Rattle.encoding_mem.specs.Piece.{AreWellFormed}
 use Rattle.encoding_mem.specs.calls.Decoding.{DecoderState, Takes, Waits}
-use Rattle.encoding_mem.specs.declared.room.OutputUnit.{OutputUnit}
+use Rattle.encoding_mem.specs.declared.codec.room.OutputUnit.{OutputUnit}
 use Rattle.encoding_front.specs.calls.Seeking.{nothing_sought}
 use Rattle.encoding_front.specs.declared.seeking.BomSet.{BomSet}
 

@@ -1,8 +1,8 @@
 -- Worked rows of the destinations of a call of a decoder, and of the room that it leaves
 -- (`specs/calls/DecoderCall.antt`).
 use Rattle.std.proofs.Common.{◌≡◌, ℕ, ◌<◌, ◌≤◌, Bool, true, false, List, [], ◌∷◌, refl, arith}
-use Rattle.encoding_mem.specs.declared.decoder_result.DecoderResult.{DecoderResult}
-use Rattle.encoding_mem.specs.declared.decoder_result.DecoderResult.TheVariants.{Malformed}
+use Rattle.encoding_mem.specs.declared.codec.decoder_result.DecoderResult.{DecoderResult}
+use Rattle.encoding_mem.specs.declared.codec.decoder_result.DecoderResult.TheVariants.{Malformed}
 use Rattle.encoding_front.specs.calls.DecoderCall.{DecoderCall, HasText, TextCall, buffer, free_bytes, free_in_sink, free_units, grown_string, text_buffer}
 use Rattle.encoding_front.specs.calls.Stream.{DecoderView}
 use Rattle.encoding_front.specs.declared.coder_result.CoderResult.{CoderResult}

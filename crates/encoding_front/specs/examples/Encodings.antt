@@ -9,9 +9,9 @@ use Rattle.std.specs.Char.{encode_utf8}
 use Rattle.encoding_mem.specs.Piece.{well_formed, malformed}
 use Rattle.encoding_mem.specs.Pieces.{pieces_in}
 use Rattle.encoding_mem.specs.calls.DecodedLength.{queried}
-use Rattle.encoding_mem.specs.declared.form.Form.TheVariants.{Mapped, Unmapped}
-use Rattle.encoding_mem.specs.declared.form.EscapeState.TheVariants.{Ascii, Roman, Jis}
-use Rattle.encoding_mem.specs.declared.room.OutputUnit.TheVariants.{Units, Bytes, Replaced}
+use Rattle.encoding_mem.specs.declared.codec.form.Form.TheVariants.{Mapped, Unmapped}
+use Rattle.encoding_mem.specs.declared.codec.form.EscapeState.TheVariants.{Ascii, Roman, Jis}
+use Rattle.encoding_mem.specs.declared.codec.room.OutputUnit.TheVariants.{Units, Bytes, Replaced}
 use Rattle.encoding_tables.specs.IndexLists.{IndexLists}
 use Rattle.encoding_tables.specs.calls.Slots.{slot_of}
 use Rattle.encoding_codecs.specs.Iso2022Jp.{pieces_in_mode}

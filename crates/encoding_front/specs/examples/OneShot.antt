@@ -1,6 +1,6 @@
 -- Worked rows of `specs/calls/OneShot.antt`.
 use Rattle.std.specs.Prelude.{◌≡◌, None, Some, refl}
-use Rattle.encoding_mem.specs.declared.room.OutputUnit.TheVariants.{Bytes, Replaced}
+use Rattle.encoding_mem.specs.declared.codec.room.OutputUnit.TheVariants.{Bytes, Replaced}
 use Rattle.encoding_front.specs.declared.encoding.Encoding.{Encoding}
 use Rattle.encoding_front.specs.declared.mark.Mark.TheVariants.{Sniff, Keep}
 use Rattle.encoding_front.specs.calls.OneShot.{room_at_start}

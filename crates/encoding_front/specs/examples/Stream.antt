@@ -1,7 +1,7 @@
 -- Worked rows of `specs/calls/Stream.antt` and of `specs/calls/RoomRules.antt`.
 use Rattle.std.specs.Prelude.{◌≡◌, ℕ, true, false, Option, None, Some, List, [], ◌∷◌, refl}
 use Rattle.encoding_mem.specs.calls.DecodedLength.{decoded_length_utf8, decoded_length_single_byte, decoded_length_replacement}
-use Rattle.encoding_mem.specs.declared.room.OutputUnit.TheVariants.{Units, Bytes, Replaced}
+use Rattle.encoding_mem.specs.declared.codec.room.OutputUnit.TheVariants.{Units, Bytes, Replaced}
 use Rattle.encoding_front.specs.calls.Seeking.{nothing_sought, sought_by}
 use Rattle.encoding_front.specs.declared.encoding.Encoding.{Encoding}
 use Rattle.encoding_front.specs.declared.mark.Mark.TheVariants.{Sniff}

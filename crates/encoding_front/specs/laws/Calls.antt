@@ -11,12 +11,12 @@ use Rattle.encoding_mem.specs.calls.DecodedLength.{replacement_len, two_in}
 use Rattle.encoding_mem.specs.calls.Decoding.{DecoderState, EndsWith, Reports, Takes}
 use Rattle.encoding_mem.specs.calls.EncoderCalls.{Encodes}
 use Rattle.encoding_mem.specs.calls.ReadCalls.{IsNotUnmappable}
-use Rattle.encoding_mem.specs.declared.reference.Reference.TheVariants.{Decimal}
-use Rattle.encoding_mem.specs.declared.form.EscapeState.{EscapeState}
-use Rattle.encoding_mem.specs.declared.form.EscapeState.TheVariants.{Ascii}
-use Rattle.encoding_mem.specs.declared.decoder_result.DecoderResult.{DecoderResult}
-use Rattle.encoding_mem.specs.declared.decoder_result.DecoderResult.TheVariants.{InputEmpty, OutputFull, Malformed}
-use Rattle.encoding_mem.specs.declared.encoder_result.EncoderResult.{EncoderResult}
+use Rattle.encoding_mem.specs.declared.codec.reference.Reference.TheVariants.{Decimal}
+use Rattle.encoding_mem.specs.declared.codec.form.EscapeState.{EscapeState}
+use Rattle.encoding_mem.specs.declared.codec.form.EscapeState.TheVariants.{Ascii}
+use Rattle.encoding_mem.specs.declared.codec.decoder_result.DecoderResult.{DecoderResult}
+use Rattle.encoding_mem.specs.declared.codec.decoder_result.DecoderResult.TheVariants.{InputEmpty, OutputFull, Malformed}
+use Rattle.encoding_mem.specs.declared.codec.encoder_result.EncoderResult.{EncoderResult}
 use Rattle.encoding_front.specs.calls.DecodedText.{raw_result}
 use Rattle.encoding_front.specs.calls.DecoderCall.{DecoderCall, RoomLeft, TextCall}
 use Rattle.encoding_front.specs.calls.Encoder.{Encoded, EncoderState, Replaces, coding_in}

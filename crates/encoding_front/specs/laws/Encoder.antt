@@ -4,8 +4,8 @@ use Rattle.std.specs.Str.{all_scalars}
 use Rattle.encoding_mem.specs.calls.EncoderCalls.{Encodes}
 use Rattle.encoding_mem.specs.calls.ReadCalls.{KeepsVerdict, IsNotUnmappable}
 use Rattle.encoding_mem.specs.laws.Verdict.{keeps_exact}
-use Rattle.encoding_mem.specs.declared.form.EscapeState.{EscapeState}
-use Rattle.encoding_mem.specs.declared.encoder_result.EncoderResult.{EncoderResult}
+use Rattle.encoding_mem.specs.declared.codec.form.EscapeState.{EscapeState}
+use Rattle.encoding_mem.specs.declared.codec.encoder_result.EncoderResult.{EncoderResult}
 use Rattle.encoding_front.specs.laws.Encodings.{one_set_of, reads_back_exactly, step_law_of}
 use Rattle.encoding_mem.specs.Coding.{IsCoding}
 use Rattle.encoding_mem.specs.laws.Utf8Coding.{utf8_coding_laws}

@@ -7,8 +7,8 @@ use Rattle.std.proofs.lemmas.Str.{chars-encodes}
 use Rattle.std.proofs.lemmas.List.{length-take}
 use lib.Pointwise.{pointwise_long}
 use lib.Utf8.{scalar}
-use Rattle.encoding_mem.specs.declared.reference.Reference.{Reference}
-use Rattle.encoding_mem.specs.declared.reference.Reference.TheVariants.{Decimal}
+use Rattle.encoding_mem.specs.declared.codec.reference.Reference.{Reference}
+use Rattle.encoding_mem.specs.declared.codec.reference.Reference.TheVariants.{Decimal}
 use Rattle.encoding_mem.specs.Coding.{output}
 use Rattle.encoding_mem.specs.Piece.{Piece, well_formed, malformed, text, piece_text, sizes, ArePieces}
 use Rattle.encoding_mem.specs.laws.Piece.{sizes-append, ArePieces-append}

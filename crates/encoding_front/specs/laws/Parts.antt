@@ -10,7 +10,7 @@ use Rattle.std.proofs.lemmas.Str.{encode_ascii}
 use Rattle.encoding_mem.specs.Parts.{EndsInCut, IsCutByte, StandsAlone}
 use Rattle.encoding_mem.specs.Piece.{Piece, well_formed}
 use Rattle.encoding_mem.specs.Stateless.{HasOneSet}
-use Rattle.encoding_mem.specs.declared.form.Form.TheVariants.{Mapped}
+use Rattle.encoding_mem.specs.declared.codec.form.Form.TheVariants.{Mapped}
 use Rattle.encoding_mem.specs.laws.Parts.{utf8_stands_alone}
 use Rattle.encoding_tables.specs.IndexLists.{AreAcceptedTables, IndexLists, index_entries, range_rows}
 use Rattle.encoding_tables.specs.declared.index_kind.IndexKind.{IndexKind}

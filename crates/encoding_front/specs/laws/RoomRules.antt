@@ -2,7 +2,7 @@
 use Rattle.std.specs.Prelude.{◌≡◌, ℕ, ◌+◌, ◌||◌}
 use Rattle.std.proofs.Common.{ap}
 use Rattle.encoding_mem.specs.calls.DecodedLength.{queried, decoded_length_utf8, decoded_length_utf16}
-use Rattle.encoding_mem.specs.declared.room.OutputUnit.{OutputUnit}
+use Rattle.encoding_mem.specs.declared.codec.room.OutputUnit.{OutputUnit}
 use Rattle.encoding_front.specs.calls.RoomRules.{room_by, room_rule_of}
 use Rattle.encoding_front.specs.calls.Stream.{DecoderView, IsOpenedBy, ahead, greater_if, room_asked}
 

@@ -6,8 +6,8 @@ use Rattle.encoding_mem.specs.calls.Decoding.{DecoderState}
 use Rattle.encoding_mem.specs.calls.DecodedLength.{decoded_length, decoded_length_utf8, decoded_length_utf16, decoded_length_single_byte, decoded_length_multibyte, decoded_length_replacement}
 use Rattle.encoding_mem.specs.Utf8.{first_piece_utf8}
 use Rattle.encoding_mem.specs.laws.Utf8.{cuts_utf8}
-use Rattle.encoding_mem.specs.declared.room.OutputUnit.{OutputUnit}
-use Rattle.encoding_mem.specs.declared.room.OutputUnit.TheVariants.{Units, Bytes, Replaced}
+use Rattle.encoding_mem.specs.declared.codec.room.OutputUnit.{OutputUnit}
+use Rattle.encoding_mem.specs.declared.codec.room.OutputUnit.TheVariants.{Units, Bytes, Replaced}
 use Rattle.encoding_tables.specs.Utf16.{first_piece_utf16}
 use Rattle.encoding_tables.specs.laws.Utf16.{cuts_utf16}
 use Rattle.encoding_front.specs.EncodingTable.{codec_kind_of}

@@ -2,8 +2,8 @@
 use Rattle.std.proofs.Common.{◌≡◌, ℕ, ◌≤◌, Bool, true, false, cond, IsTrue, Option, None, List, [], ◌++◌, refl, sym, subst, ◌∙◌, ap}
 use Rattle.std.proofs.lemmas.List.{append-nil}
 use Rattle.encoding_mem.specs.calls.DecodedLength.{decoded_length}
-use Rattle.encoding_mem.specs.declared.room.DecodedLength.{DecodedLength}
-use Rattle.encoding_mem.specs.declared.room.OutputUnit.{OutputUnit}
+use Rattle.encoding_mem.specs.declared.codec.room.DecodedLength.{DecodedLength}
+use Rattle.encoding_mem.specs.declared.codec.room.OutputUnit.{OutputUnit}
 use Rattle.encoding_front.specs.calls.CodecBounds.{decoded_length_of}
 use Rattle.encoding_front.specs.calls.Seeking.{encoding_of_mark, find_mark, is_sought, mark_seen, mark_taken, room_after_mark, room_widest}
 use Rattle.encoding_front.specs.calls.Stream.{encoding_after}

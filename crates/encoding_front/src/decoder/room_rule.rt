@@ -1,7 +1,7 @@
 //! What the room that is enough depends on, as plain values.
 
 ghost use Rattle.std.specs.Prelude.{◌≡◌, ℕ};
-ghost use Rattle.encoding_mem.specs.declared.room.OutputUnit.{OutputUnit};
+ghost use Rattle.encoding_mem.specs.declared.codec.room.OutputUnit.{OutputUnit};
 ghost use Rattle.encoding_front.specs.calls.DecoderViews.{decoder_view};
 ghost use Rattle.encoding_front.specs.calls.RoomRules.{room_by, room_rule_of};
 ghost use Rattle.encoding_front.specs.calls.Stream.{room_asked};

@@ -2,10 +2,10 @@
 use Rattle.std.specs.Prelude.{ℕ, ◌+◌, ◌*◌, ◌/◌, ◌^◌, nat_lt, Bool, true, false, if◌then◌else◌, Option, Some, None}
 use Rattle.std.specs.Char.{len_utf8}
 use Rattle.encoding_mem.specs.calls.Writing.{len_utf16}
-use Rattle.encoding_mem.specs.declared.room.OutputUnit.{OutputUnit}
-use Rattle.encoding_mem.specs.declared.room.OutputUnit.TheVariants.{Units, Bytes, Replaced}
-use Rattle.encoding_mem.specs.declared.room.Bound.{Bound}
-use Rattle.encoding_mem.specs.declared.room.DecodedLength.{DecodedLength}
+use Rattle.encoding_mem.specs.declared.codec.room.OutputUnit.{OutputUnit}
+use Rattle.encoding_mem.specs.declared.codec.room.OutputUnit.TheVariants.{Units, Bytes, Replaced}
+use Rattle.encoding_mem.specs.declared.codec.room.Bound.{Bound}
+use Rattle.encoding_mem.specs.declared.codec.room.DecodedLength.{DecodedLength}
 
 -- whether an output unit is of 16 bits: room is counted in units of UTF-16, not in bytes of UTF-8
 abbrev pub is_units : OutputUnit → Bool

@@ -4,9 +4,9 @@ use Rattle.std.specs.Char.{len_utf8}
 use Rattle.encoding_mem.specs.Piece.{Piece, well_formed, malformed, head_piece, piece_len}
 use Rattle.encoding_mem.specs.calls.Writing.{len_utf16}
 use Rattle.encoding_mem.specs.calls.DecodedLength.{is_units, counts_past_malformed, cost_in, replacement_len, two_in, left_after}
-use Rattle.encoding_mem.specs.declared.room.OutputUnit.{OutputUnit}
-use Rattle.encoding_mem.specs.declared.first_piece.FirstPiece.{FirstPiece}
-use Rattle.encoding_mem.specs.declared.first_piece.FirstPiece.TheVariants.{More, One, Two, Ignored, Malformed}
+use Rattle.encoding_mem.specs.declared.codec.room.OutputUnit.{OutputUnit}
+use Rattle.encoding_mem.specs.declared.codec.first_piece.FirstPiece.{FirstPiece}
+use Rattle.encoding_mem.specs.declared.codec.first_piece.FirstPiece.TheVariants.{More, One, Two, Ignored, Malformed}
 use Rattle.encoding_mem.specs.Decided.{IsUndecided}
 
 -- whatever follows some bytes, the first piece ends at most two bytes before their end

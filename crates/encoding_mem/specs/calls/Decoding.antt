@@ -2,11 +2,11 @@
 use Rattle.std.specs.Prelude.{◌≡◌, ℕ, ◌+◌, ◌-◌, ◌≤◌, ◌<◌, ◌⊎◌, Bool, true, false, IsTrue, Some, List, [], ◌∷◌, ◌++◌, length, drop}
 use Rattle.encoding_mem.specs.Piece.{Piece, malformed, head_piece, piece_len, sizes, scalars, piece_text, AreWellFormed, ArePieces}
 use Rattle.encoding_mem.specs.calls.DecodedLength.{decoded_length, counts_past_malformed, is_units, left_after, replacement_len, two_in}
-use Rattle.encoding_mem.specs.declared.room.OutputUnit.{OutputUnit}
-use Rattle.encoding_mem.specs.declared.room.DecodedLength.{DecodedLength}
+use Rattle.encoding_mem.specs.declared.codec.room.OutputUnit.{OutputUnit}
+use Rattle.encoding_mem.specs.declared.codec.room.DecodedLength.{DecodedLength}
 use Rattle.encoding_mem.specs.Event.{Event, malformed_at, events, scalar_events}
-use Rattle.encoding_mem.specs.declared.decoder_result.DecoderResult.{DecoderResult}
-use Rattle.encoding_mem.specs.declared.decoder_result.DecoderResult.TheVariants.{InputEmpty, OutputFull, Malformed}
+use Rattle.encoding_mem.specs.declared.codec.decoder_result.DecoderResult.{DecoderResult}
+use Rattle.encoding_mem.specs.declared.codec.decoder_result.DecoderResult.TheVariants.{InputEmpty, OutputFull, Malformed}
 use Rattle.encoding_mem.specs.Decided.{IsUndecided}
 
 -- A decoder, as its callers know it: the pieces of what is pending and of the bytes that follow, how

@@ -5,12 +5,12 @@ use Rattle.encoding_mem.specs.Piece.{Piece, malformed, head_piece, piece_len, pi
 use Rattle.encoding_mem.specs.calls.Decoding.{DecoderState, IsKnown, Reports, Room, Suffices, Takes}
 use Rattle.encoding_mem.specs.calls.DecoderRule.{IsFirstPiece, IsSoon}
 use Rattle.encoding_mem.specs.calls.DecodedLength.{is_units, counts_past_malformed, replacement_len, two_in, left_after, decoded_length}
-use Rattle.encoding_mem.specs.declared.room.OutputUnit.{OutputUnit}
-use Rattle.encoding_mem.specs.declared.room.DecodedLength.{DecodedLength}
-use Rattle.encoding_mem.specs.declared.decoder_result.DecoderResult.{DecoderResult}
-use Rattle.encoding_mem.specs.declared.decoder_result.DecoderResult.TheVariants.{InputEmpty, OutputFull, Malformed}
-use Rattle.encoding_mem.specs.declared.driver.Step.{Step}
-use Rattle.encoding_mem.specs.declared.driver.Step.TheVariants.{Wait, Full, Took, Broke}
+use Rattle.encoding_mem.specs.declared.codec.room.OutputUnit.{OutputUnit}
+use Rattle.encoding_mem.specs.declared.codec.room.DecodedLength.{DecodedLength}
+use Rattle.encoding_mem.specs.declared.codec.decoder_result.DecoderResult.{DecoderResult}
+use Rattle.encoding_mem.specs.declared.codec.decoder_result.DecoderResult.TheVariants.{InputEmpty, OutputFull, Malformed}
+use Rattle.encoding_mem.specs.declared.codec.driver.Step.{Step}
+use Rattle.encoding_mem.specs.declared.codec.driver.Step.TheVariants.{Wait, Full, Took, Broke}
 use Rattle.encoding_mem.specs.Decided.{IsUndecided}
 
 -- whatever follows some bytes, the first piece ends at most three bytes before their end

@@ -2,10 +2,10 @@
 use Rattle.std.specs.Prelude.{ℕ, ◌+◌, ◌*◌, ◌≤◌, Bool, if◌then◌else◌, length}
 use Rattle.encoding_mem.specs.Coding.{Coding, mapped_bytes}
 use Rattle.encoding_mem.specs.calls.DecodedLength.{cost_in, linear_bound}
-use Rattle.encoding_mem.specs.declared.form.EscapeState.{EscapeState}
-use Rattle.encoding_mem.specs.declared.form.EscapeState.TheVariants.{Ascii}
-use Rattle.encoding_mem.specs.declared.room.Bound.{Bound}
-use Rattle.encoding_mem.specs.declared.room.EncodedLength.{EncodedLength}
+use Rattle.encoding_mem.specs.declared.codec.form.EscapeState.{EscapeState}
+use Rattle.encoding_mem.specs.declared.codec.form.EscapeState.TheVariants.{Ascii}
+use Rattle.encoding_mem.specs.declared.codec.room.Bound.{Bound}
+use Rattle.encoding_mem.specs.declared.codec.room.EncodedLength.{EncodedLength}
 
 -- the bound of an encoded length by a text's units of UTF-16, or by its bytes of UTF-8
 abbrev pub bound_for : EncodedLength → (is_units : Bool) → Bound

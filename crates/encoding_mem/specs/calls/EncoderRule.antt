@@ -4,12 +4,12 @@ use Rattle.std.specs.Char.{encode_utf8}
 use Rattle.std.specs.Str.{IsAscii, encode_utf8_all}
 use Rattle.encoding_mem.specs.Coding.{Coding, mapped_bytes}
 use Rattle.encoding_mem.specs.calls.EncoderCalls.{EncodeEndsWith, Encodes}
-use Rattle.encoding_mem.specs.declared.form.Form.TheVariants.{Mapped}
-use Rattle.encoding_mem.specs.declared.form.EscapeState.{EscapeState}
-use Rattle.encoding_mem.specs.declared.form.EscapeState.TheVariants.{Ascii}
-use Rattle.encoding_mem.specs.declared.encoder_result.EncoderResult.{EncoderResult}
-use Rattle.encoding_mem.specs.declared.encoder_result.EncoderResult.TheVariants.{InputEmpty, OutputFull, Unmappable}
-use Rattle.encoding_mem.specs.declared.room.EncodedLength.{EncodedLength}
+use Rattle.encoding_mem.specs.declared.codec.form.Form.TheVariants.{Mapped}
+use Rattle.encoding_mem.specs.declared.codec.form.EscapeState.{EscapeState}
+use Rattle.encoding_mem.specs.declared.codec.form.EscapeState.TheVariants.{Ascii}
+use Rattle.encoding_mem.specs.declared.codec.encoder_result.EncoderResult.{EncoderResult}
+use Rattle.encoding_mem.specs.declared.codec.encoder_result.EncoderResult.TheVariants.{InputEmpty, OutputFull, Unmappable}
+use Rattle.encoding_mem.specs.declared.codec.room.EncodedLength.{EncodedLength}
 
 -- An encoder, as its callers know it: its need (the most bytes of an escape or a character), what
 -- it makes of text (`Coding`), the set in force, and its encoded length.

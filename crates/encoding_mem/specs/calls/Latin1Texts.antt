@@ -1,7 +1,7 @@
 -- Words on `Latin1Bytes`.
 use Rattle.std.specs.Prelude.{ℕ, List}
-use Rattle.encoding_mem.specs.declared.latin1_texts.Latin1Bytes.{Latin1Bytes}
-use Rattle.encoding_mem.specs.declared.latin1_texts.Latin1Bytes.TheVariants.{Borrowed, Owned}
+use Rattle.encoding_mem.specs.declared.mem.latin1_texts.Latin1Bytes.{Latin1Bytes}
+use Rattle.encoding_mem.specs.declared.mem.latin1_texts.Latin1Bytes.TheVariants.{Borrowed, Owned}
 
 -- the bytes of a `Latin1Bytes`, be they borrowed or owned
 abbrev pub latin1_bytes : Latin1Bytes → List ℕ

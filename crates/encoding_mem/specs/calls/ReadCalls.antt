@@ -9,10 +9,10 @@ use Rattle.encoding_mem.specs.Coding.{Coding, IsCoding, reference_bytes, whole_f
 use Rattle.encoding_mem.specs.calls.EncoderCalls.{Encodes, IsSetOfNext}
 use Rattle.encoding_mem.specs.ReadBack.{ReadsAs}
 use Rattle.encoding_mem.specs.Steps.{IsBroken}
-use Rattle.encoding_mem.specs.declared.reference.Reference.{Reference}
-use Rattle.encoding_mem.specs.declared.form.EscapeState.{EscapeState}
-use Rattle.encoding_mem.specs.declared.encoder_result.EncoderResult.{EncoderResult}
-use Rattle.encoding_mem.specs.declared.encoder_result.EncoderResult.TheVariants.{InputEmpty, OutputFull, Unmappable}
+use Rattle.encoding_mem.specs.declared.codec.reference.Reference.{Reference}
+use Rattle.encoding_mem.specs.declared.codec.form.EscapeState.{EscapeState}
+use Rattle.encoding_mem.specs.declared.codec.encoder_result.EncoderResult.{EncoderResult}
+use Rattle.encoding_mem.specs.declared.codec.encoder_result.EncoderResult.TheVariants.{InputEmpty, OutputFull, Unmappable}
 use Rattle.encoding_mem.specs.Decided.{IsUndecided}
 
 -- what a decoder in one set makes of the escape from it to another and the bytes after the escape

@@ -8,7 +8,7 @@ use Rattle.encoding_mem.specs.Utf8.{pieces_utf8}
 use Rattle.encoding_mem.specs.Utf8Coding.{utf8_coding}
 use Rattle.encoding_mem.specs.examples.SampleCoding.{sample_coding}
 use Rattle.encoding_mem.specs.laws.SampleCoding.{sample_coding_laws}
-use Rattle.encoding_mem.specs.declared.form.EscapeState.TheVariants.{Ascii, Roman}
+use Rattle.encoding_mem.specs.declared.codec.form.EscapeState.TheVariants.{Ascii, Roman}
 
 -- `Aé` agrees with its two characters
 letters_agree : AgreesWith utf8_coding pieces_utf8 (0x41 ∷ 0xC3 ∷ 0xA9 ∷ []) (0x41 ∷ 0xE9 ∷ [])

@@ -2,11 +2,11 @@
 use Rattle.std.specs.Prelude.{◌≡◌, [], ◌∷◌, codes, Some, None, refl}
 use Rattle.std.proofs.Common.{arith}
 use Rattle.std.specs.Fmt.{digits}
-use Rattle.encoding_mem.specs.declared.form.Form.TheVariants.{Mapped, Unmapped}
-use Rattle.encoding_mem.specs.declared.reference.Reference.TheVariants.{Decimal}
+use Rattle.encoding_mem.specs.declared.codec.form.Form.TheVariants.{Mapped, Unmapped}
+use Rattle.encoding_mem.specs.declared.codec.reference.Reference.TheVariants.{Decimal}
 use Rattle.encoding_mem.specs.Coding.{Coding, IsCoding, open_from, last_set, lost_count, form_of_bytes}
 use Rattle.encoding_mem.specs.examples.SampleCoding.{sample_coding}
-use Rattle.encoding_mem.specs.declared.form.EscapeState.TheVariants.{Ascii, Roman, Jis}
+use Rattle.encoding_mem.specs.declared.codec.form.EscapeState.TheVariants.{Ascii, Roman, Jis}
 
 -- 日 has the bytes it was found with, and is unmappable if it was found with none
 bytes_found : form_of_bytes 0x65E5 (Some (0x93 ∷ 0xFA ∷ [])) ≡ Mapped (0x93 ∷ 0xFA ∷ [])

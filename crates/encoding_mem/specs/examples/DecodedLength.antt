@@ -1,6 +1,6 @@
 -- Worked rows of `specs/calls/DecodedLength.antt`.
 use Rattle.std.specs.Prelude.{◌≡◌, true, false, Some, None, refl}
-use Rattle.encoding_mem.specs.declared.room.OutputUnit.TheVariants.{Units, Bytes, Replaced}
+use Rattle.encoding_mem.specs.declared.codec.room.OutputUnit.TheVariants.{Units, Bytes, Replaced}
 use Rattle.encoding_mem.specs.calls.DecodedLength.{cost_in, replacement_len, two_in, left_after, queried, decoded_length_utf8, decoded_length_single_byte, decoded_length_multibyte, decoded_length_utf16, decoded_length_replacement}
 
 utf8_in_units : queried decoded_length_utf8 Units 5 ≡ Some 6

@@ -6,7 +6,7 @@ use Rattle.encoding_mem.specs.Pieces.{pieces_in}
 use Rattle.encoding_mem.specs.Event.{malformed_at}
 use Rattle.encoding_mem.specs.calls.Decoding.{DecoderState, IsKnown, Reports, StateCall, TakesSoon, Waits, bytes_room, reported_event, sink_room, units_room}
 use Rattle.encoding_mem.specs.Utf8.{pieces_utf8}
-use Rattle.encoding_mem.specs.declared.decoder_result.DecoderResult.TheVariants.{InputEmpty, Malformed, OutputFull}
+use Rattle.encoding_mem.specs.declared.codec.decoder_result.DecoderResult.TheVariants.{InputEmpty, Malformed, OutputFull}
 use Rattle.encoding_mem.specs.Decided.{AreBytes, IsDecided, IsUndecided}
 
 -- a malformed sequence of two bytes is reported at the offset where it ends

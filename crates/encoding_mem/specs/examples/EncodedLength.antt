@@ -2,7 +2,7 @@
 use Rattle.std.specs.Prelude.{◌≡◌, ℕ, Bool, true, false, Option, Some, None, refl}
 use Rattle.encoding_mem.specs.calls.DecodedLength.{checked, bound_at}
 use Rattle.encoding_mem.specs.calls.EncodedLength.{bound_for, encoded_length_utf8, encoded_length_single_byte, encoded_length_two_byte, encoded_length_gb18030, encoded_length_iso_2022_jp}
-use Rattle.encoding_mem.specs.declared.room.EncodedLength.{EncodedLength}
+use Rattle.encoding_mem.specs.declared.codec.room.EncodedLength.{EncodedLength}
 
 -- the room for n units or n bytes of text; none if it passes a usize
 abbrev room_for : EncodedLength → (is_units : Bool) → ℕ → Option ℕ

@@ -3,14 +3,14 @@
 use Rattle.std.specs.Prelude.{◌≡◌, nat_eq, if◌then◌else◌, true, false, [], ◌∷◌, ◌++◌, map, codes, refl}
 use Rattle.std.specs.Char.{encode_utf8}
 use Rattle.std.specs.Fmt.{digits}
-use Rattle.encoding_mem.specs.declared.reference.Reference.TheVariants.{Decimal}
+use Rattle.encoding_mem.specs.declared.codec.reference.Reference.TheVariants.{Decimal}
 use Rattle.encoding_mem.specs.Piece.{well_formed, malformed}
 use Rattle.encoding_mem.specs.Items.{Byte, MalformedAt, LostAt, item_bytes, whole_items, trace_from}
 use Rattle.encoding_mem.specs.Coding.{Coding}
 use Rattle.encoding_mem.specs.Utf8Coding.{utf8_coding}
 use Rattle.encoding_mem.specs.examples.SampleCoding.{sample_coding}
-use Rattle.encoding_mem.specs.declared.form.Form.TheVariants.{Mapped}
-use Rattle.encoding_mem.specs.declared.form.EscapeState.TheVariants.{Ascii, Jis}
+use Rattle.encoding_mem.specs.declared.codec.form.Form.TheVariants.{Mapped}
+use Rattle.encoding_mem.specs.declared.codec.form.EscapeState.TheVariants.{Ascii, Jis}
 
 -- the bytes without the notes
 bytes_alone : item_bytes (MalformedAt 0 1 ∷ Byte 0x41 ∷ LostAt 1 0xE9 ∷ Byte 0x42 ∷ []) ≡ 0x41 ∷ 0x42 ∷ []

@@ -10,9 +10,9 @@ use Rattle.encoding_mem.specs.Piece.{Piece, sizes, text, AreWellFormed}
 use Rattle.encoding_mem.specs.ReadBack.{ReadsAs}
 use Rattle.encoding_mem.specs.Steps.{Follows, TextsDiffer, IsBroken, StepLaw, one_from}
 use Rattle.encoding_mem.specs.laws.Piece.{sizes-append, text-append, AreWellFormed-append}
-use Rattle.encoding_mem.specs.declared.reference.Reference.{Reference}
-use Rattle.encoding_mem.specs.declared.form.EscapeState.{EscapeState}
-use Rattle.encoding_mem.specs.declared.form.EscapeState.TheVariants.{Ascii}
+use Rattle.encoding_mem.specs.declared.codec.reference.Reference.{Reference}
+use Rattle.encoding_mem.specs.declared.codec.form.EscapeState.{EscapeState}
+use Rattle.encoding_mem.specs.declared.codec.form.EscapeState.TheVariants.{Ascii}
 
 -- ---- bytes after bytes
 

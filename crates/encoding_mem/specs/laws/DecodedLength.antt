@@ -8,10 +8,10 @@ use Rattle.encoding_mem.specs.calls.Writing.{len_utf16}
 use Rattle.encoding_mem.specs.laws.Writing.{len_utf16_le, cost_two, cost_two16, length-encode_utf16_chars}
 use Rattle.encoding_mem.specs.calls.DecodedLength.{is_units, counts_past_malformed, cost_in, replacement_len, two_in, left_after, decoded_length, decoded_length_utf8, decoded_length_single_byte, decoded_length_multibyte}
 use Rattle.encoding_mem.specs.calls.DecoderRule.{HasRoomFor, IsNotLonger, IsBasic, IsModest}
-use Rattle.encoding_mem.specs.declared.first_piece.FirstPiece.{FirstPiece}
-use Rattle.encoding_mem.specs.declared.first_piece.FirstPiece.TheVariants.{More, One, Two, Ignored, Malformed}
-use Rattle.encoding_mem.specs.declared.room.OutputUnit.{OutputUnit}
-use Rattle.encoding_mem.specs.declared.room.OutputUnit.TheVariants.{Units, Bytes, Replaced}
+use Rattle.encoding_mem.specs.declared.codec.first_piece.FirstPiece.{FirstPiece}
+use Rattle.encoding_mem.specs.declared.codec.first_piece.FirstPiece.TheVariants.{More, One, Two, Ignored, Malformed}
+use Rattle.encoding_mem.specs.declared.codec.room.OutputUnit.{OutputUnit}
+use Rattle.encoding_mem.specs.declared.codec.room.OutputUnit.TheVariants.{Units, Bytes, Replaced}
 
 -- in UTF-8
 short_one : (c n : ℕ) → len_utf8 c ≤ n → (k : OutputUnit) (m : ℕ) → cost_in (is_units k) c + decoded_length decoded_length_utf8 k m ≤ decoded_length decoded_length_utf8 k (n + m)

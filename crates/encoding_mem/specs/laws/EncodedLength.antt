@@ -10,9 +10,9 @@ use Rattle.encoding_mem.specs.Stateless.{stateless}
 use Rattle.encoding_mem.specs.calls.EncodedLength.{IsRoomFor, bound_for, encoded_length_utf8, encoded_length_single_byte, encoded_length_two_byte, encoded_length_gb18030}
 use Rattle.encoding_mem.specs.Utf8Coding.{utf8_coding}
 use Rattle.encoding_mem.specs.calls.Writing.{len_utf16}
-use Rattle.encoding_mem.specs.declared.form.Form.{Form}
-use Rattle.encoding_mem.specs.declared.form.Form.TheVariants.{Mapped}
-use Rattle.encoding_mem.specs.declared.room.EncodedLength.{EncodedLength}
+use Rattle.encoding_mem.specs.declared.codec.form.Form.{Form}
+use Rattle.encoding_mem.specs.declared.codec.form.Form.TheVariants.{Mapped}
+use Rattle.encoding_mem.specs.declared.codec.room.EncodedLength.{EncodedLength}
 
 pub sum_within : (a b c : ℕ) → a + b ≡ c → a ≤ c
 sum_within a b c e = omega (arith, e)

@@ -4,8 +4,8 @@ use Rattle.std.proofs.lemmas.List.{append-nil}
 use Rattle.encoding_mem.specs.Piece.{Piece, well_formed, malformed, sizes, scalars, head_piece, AreWellFormed}
 use Rattle.encoding_mem.specs.laws.Piece.{sizes-append, scalars-append}
 use Rattle.encoding_mem.specs.Event.{scalar, malformed_at, events, scalar_events}
-use Rattle.encoding_mem.specs.declared.decoder_result.DecoderResult.{DecoderResult}
-use Rattle.encoding_mem.specs.declared.decoder_result.DecoderResult.TheVariants.{InputEmpty, OutputFull, Malformed}
+use Rattle.encoding_mem.specs.declared.codec.decoder_result.DecoderResult.{DecoderResult}
+use Rattle.encoding_mem.specs.declared.codec.decoder_result.DecoderResult.TheVariants.{InputEmpty, OutputFull, Malformed}
 use Rattle.encoding_mem.specs.calls.Decoding.{DecoderState, Reports, StateLaw, EventLaw, reported_event}
 use Rattle.encoding_mem.specs.Decided.{IsDecided, IsUndecided}
 

@@ -5,7 +5,7 @@ use Rattle.encoding_mem.specs.Piece.{Piece, head_piece, sizes}
 use Rattle.encoding_mem.specs.calls.Decoding.{DecoderState, EndsWith, StateLaw, TakesSoon, Waits}
 use Rattle.encoding_mem.specs.laws.Piece.{sizes-append}
 use Rattle.encoding_mem.specs.laws.ReadCalls.{apart_parts}
-use Rattle.encoding_mem.specs.declared.decoder_result.DecoderResult.TheVariants.{InputEmpty}
+use Rattle.encoding_mem.specs.declared.codec.decoder_result.DecoderResult.TheVariants.{InputEmpty}
 
 -- what was taken, if size bytes are these pieces and what is pending
 pub takes_soon : (before after : List ℕ → List Piece) (src : List ℕ) (last : Bool) (size pending : ℕ) (taken : List Piece)

@@ -14,9 +14,9 @@ use Rattle.encoding_mem.specs.Utf8Coding.{utf8_coding}
 use Rattle.encoding_mem.specs.laws.Pieces.{CutsEach, pieces_by-nil}
 use Rattle.encoding_mem.specs.laws.Steps.{step_law, broken_at_first, strays_at_reference}
 use Rattle.encoding_mem.specs.laws.Utf8.{first_piece_utf8-encode, cuts_utf8}
-use Rattle.encoding_mem.specs.declared.reference.Reference.{Reference}
-use Rattle.encoding_mem.specs.declared.form.Form.{Form}
-use Rattle.encoding_mem.specs.declared.form.Form.TheVariants.{Mapped, Unmapped}
+use Rattle.encoding_mem.specs.declared.codec.reference.Reference.{Reference}
+use Rattle.encoding_mem.specs.declared.codec.form.Form.{Form}
+use Rattle.encoding_mem.specs.declared.codec.form.Form.TheVariants.{Mapped, Unmapped}
 
 -- a reference is never read as the character that it stands for, if `&` is itself and has bytes
 lost_strays : (ref : Reference) (first_piece : List ℕ → Piece) (form : ℕ → Form) → ((x : List ℕ) → first_piece (0x26 ∷ x) ≡ well_formed 1 (0x26 ∷ [])) → IsMapped (form 0x26)

@@ -17,13 +17,13 @@ use Rattle.encoding_mem.specs.laws.Agreement.{open_reads, broken_stays, broken_b
 use Rattle.encoding_mem.specs.laws.EncoderCalls.{mapped_open, last_set-append, encoded_items, encoded_bytes}
 use Rattle.encoding_mem.specs.laws.Event.{decides_nothing}
 use Rattle.encoding_mem.specs.laws.Piece.{text-append, AreWellFormed-append}
-use Rattle.encoding_mem.specs.declared.reference.Reference.{Reference}
-use Rattle.encoding_mem.specs.declared.reference.Reference.TheVariants.{Decimal}
-use Rattle.encoding_mem.specs.declared.form.Form.TheVariants.{Unmapped}
-use Rattle.encoding_mem.specs.declared.form.EscapeState.{EscapeState}
-use Rattle.encoding_mem.specs.declared.form.EscapeState.TheVariants.{Ascii}
-use Rattle.encoding_mem.specs.declared.encoder_result.EncoderResult.{EncoderResult}
-use Rattle.encoding_mem.specs.declared.encoder_result.EncoderResult.TheVariants.{InputEmpty, OutputFull, Unmappable}
+use Rattle.encoding_mem.specs.declared.codec.reference.Reference.{Reference}
+use Rattle.encoding_mem.specs.declared.codec.reference.Reference.TheVariants.{Decimal}
+use Rattle.encoding_mem.specs.declared.codec.form.Form.TheVariants.{Unmapped}
+use Rattle.encoding_mem.specs.declared.codec.form.EscapeState.{EscapeState}
+use Rattle.encoding_mem.specs.declared.codec.form.EscapeState.TheVariants.{Ascii}
+use Rattle.encoding_mem.specs.declared.codec.encoder_result.EncoderResult.{EncoderResult}
+use Rattle.encoding_mem.specs.declared.codec.encoder_result.EncoderResult.TheVariants.{InputEmpty, OutputFull, Unmappable}
 use Rattle.encoding_mem.specs.Decided.{AreBytes, IsDecided}
 
 -- ---- a call after an escape

@@ -6,8 +6,8 @@ use Rattle.encoding_mem.specs.calls.EncodedLength.{IsRoomFor, bound_for}
 use Rattle.encoding_mem.specs.laws.EncodedLength.{cost_some}
 use Rattle.encoding_mem.specs.laws.Stateless.{short_if, short_one, short_none}
 use Rattle.encoding_mem.specs.examples.SampleCoding.{out_of_jis, escape_between, sample_form, sample_coding, sample_room}
-use Rattle.encoding_mem.specs.declared.form.EscapeState.{EscapeState}
-use Rattle.encoding_mem.specs.declared.form.EscapeState.TheVariants.{Ascii, Roman, Jis}
+use Rattle.encoding_mem.specs.declared.codec.form.EscapeState.{EscapeState}
+use Rattle.encoding_mem.specs.declared.codec.form.EscapeState.TheVariants.{Ascii, Roman, Jis}
 
 out_twice : (s : EscapeState) → out_of_jis (out_of_jis s) ≡ out_of_jis s
 out_twice Ascii = refl

@@ -5,8 +5,8 @@ use Rattle.encoding_mem.specs.Piece.{Piece, well_formed, malformed, piece_len, h
 use Rattle.encoding_mem.specs.Pieces.{pieces_in, pieces_by}
 use Rattle.encoding_mem.specs.laws.Pieces.{AllCut, CutsEach, pieces_in-nil, pieces_in-cons}
 use Rattle.encoding_mem.specs.calls.DecoderRule.{IsFirstPiece, TellsFirstPiece, IsSoon}
-use Rattle.encoding_mem.specs.declared.first_piece.FirstPiece.{FirstPiece}
-use Rattle.encoding_mem.specs.declared.first_piece.FirstPiece.TheVariants.{More, One, Two, Ignored, Malformed}
+use Rattle.encoding_mem.specs.declared.codec.first_piece.FirstPiece.{FirstPiece}
+use Rattle.encoding_mem.specs.declared.codec.first_piece.FirstPiece.TheVariants.{More, One, Two, Ignored, Malformed}
 use Rattle.encoding_mem.specs.Decided.{AreBytes, IsUndecided}
 
 -- first_piece is the first piece as a function of what follows k bytes

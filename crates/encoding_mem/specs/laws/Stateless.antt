@@ -2,8 +2,8 @@
 use Rattle.std.proofs.Common.{ℕ, ◌≤◌, refl, arith, Bool, true, false, cond, [], ◌∷◌, suc}
 use Rattle.encoding_mem.specs.Coding.{IsCoding, FitsNeed}
 use Rattle.encoding_mem.specs.Stateless.{stateless}
-use Rattle.encoding_mem.specs.declared.form.Form.{Form}
-use Rattle.encoding_mem.specs.declared.form.Form.TheVariants.{Mapped, Unmapped}
+use Rattle.encoding_mem.specs.declared.codec.form.Form.{Form}
+use Rattle.encoding_mem.specs.declared.codec.form.Form.TheVariants.{Mapped, Unmapped}
 
 -- It is a target if no character has more than need bytes.
 pub stateless_laws : (need : ℕ) (form : ℕ → Form) → need ≤ 4 → ((c : ℕ) → FitsNeed need (form c)) → IsCoding need (stateless form)

@@ -7,9 +7,9 @@ use Rattle.encoding_mem.specs.Pieces.{pieces_by}
 use Rattle.encoding_mem.specs.laws.Pieces.{CutsEach, pieces_by-first}
 use Rattle.encoding_mem.specs.Stateless.{stateless}
 use Rattle.encoding_mem.specs.Steps.{Follows, TextsDiffer, IsBroken, StepLaw, in_any_set, Returns, Strays, StepsReadBack}
-use Rattle.encoding_mem.specs.declared.reference.Reference.{Reference}
-use Rattle.encoding_mem.specs.declared.reference.Reference.TheVariants.{Decimal, Hexadecimal}
-use Rattle.encoding_mem.specs.declared.form.Form.{Form}
+use Rattle.encoding_mem.specs.declared.codec.reference.Reference.{Reference}
+use Rattle.encoding_mem.specs.declared.codec.reference.Reference.TheVariants.{Decimal, Hexadecimal}
+use Rattle.encoding_mem.specs.declared.codec.form.Form.{Form}
 
 -- some bytes are written, since a piece is some bytes
 returned : (first_piece : List ℕ → Piece) → CutsEach first_piece → (bytes : List ℕ) (c : ℕ) → Returns first_piece bytes c → 0 < length bytes

@@ -5,7 +5,7 @@ use Rattle.std.specs.Char.{encode_utf8}
 use Rattle.encoding_mem.specs.Coding.{IsCoding, FitsNeed}
 use Rattle.encoding_mem.specs.laws.Stateless.{stateless_laws}
 use Rattle.encoding_mem.specs.Utf8Coding.{utf8_coding}
-use Rattle.encoding_mem.specs.declared.form.Form.TheVariants.{Mapped}
+use Rattle.encoding_mem.specs.declared.codec.form.Form.TheVariants.{Mapped}
 
 short_char : (c : ℕ) → FitsNeed 4 (Mapped (encode_utf8 c))
 short_char c = record { short = let n = length-encode c in let b = len_utf8_bounds c in omega arith }

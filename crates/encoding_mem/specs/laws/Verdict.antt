@@ -14,13 +14,13 @@ use Rattle.encoding_mem.specs.Steps.{Follows, IsBroken, StepLaw, in_any_set}
 use Rattle.encoding_mem.specs.laws.Agreement.{broken_behind, broken_never_reads, open_reads}
 use Rattle.encoding_mem.specs.laws.EncoderCalls.{mapped_open}
 use Rattle.encoding_mem.specs.laws.ReadCalls.{agreed_whole, ends_along, scalars_parts}
-use Rattle.encoding_mem.specs.declared.reference.Reference.{Reference}
-use Rattle.encoding_mem.specs.declared.reference.Reference.TheVariants.{Decimal}
-use Rattle.encoding_mem.specs.declared.encoder_result.EncoderResult.{EncoderResult}
-use Rattle.encoding_mem.specs.declared.encoder_result.EncoderResult.TheVariants.{InputEmpty as Read, OutputFull, Unmappable}
-use Rattle.encoding_mem.specs.declared.form.EscapeState.{EscapeState}
-use Rattle.encoding_mem.specs.declared.form.EscapeState.TheVariants.{Ascii}
-use Rattle.encoding_mem.specs.declared.decoder_result.DecoderResult.TheVariants.{InputEmpty}
+use Rattle.encoding_mem.specs.declared.codec.reference.Reference.{Reference}
+use Rattle.encoding_mem.specs.declared.codec.reference.Reference.TheVariants.{Decimal}
+use Rattle.encoding_mem.specs.declared.codec.encoder_result.EncoderResult.{EncoderResult}
+use Rattle.encoding_mem.specs.declared.codec.encoder_result.EncoderResult.TheVariants.{InputEmpty as Read, OutputFull, Unmappable}
+use Rattle.encoding_mem.specs.declared.codec.form.EscapeState.{EscapeState}
+use Rattle.encoding_mem.specs.declared.codec.form.EscapeState.TheVariants.{Ascii}
+use Rattle.encoding_mem.specs.declared.codec.decoder_result.DecoderResult.TheVariants.{InputEmpty}
 use Rattle.encoding_mem.specs.Decided.{IsFixed}
 
 -- ---- the verdict

@@ -1,6 +1,6 @@
 -- Worked rows of `specs/UserDefined.antt`.
 use Rattle.std.specs.Prelude.{◌≡◌, [], ◌∷◌, None, Some, refl}
-use Rattle.encoding_mem.specs.declared.reference.Reference.TheVariants.{Decimal}
+use Rattle.encoding_mem.specs.declared.codec.reference.Reference.TheVariants.{Decimal}
 use Rattle.encoding_mem.specs.Coding.{output}
 use Rattle.encoding_mem.specs.Piece.{well_formed}
 use Rattle.encoding_mem.specs.Pieces.{pieces_in}

@@ -12,9 +12,9 @@ use Rattle.encoding_mem.specs.laws.Pieces.{CutsEach, pieces_by-cons}
 use Rattle.encoding_mem.specs.laws.Utf8.{cuts_malformed, cuts_one}
 use Rattle.encoding_mem.specs.calls.DecoderRule.{TellsFirstPiece}
 use Rattle.encoding_mem.specs.laws.Shows.{Shows, shows_first_piece}
-use Rattle.encoding_mem.specs.declared.form.Form.{Form}
-use Rattle.encoding_mem.specs.declared.first_piece.FirstPiece.{FirstPiece}
-use Rattle.encoding_mem.specs.declared.first_piece.FirstPiece.TheVariants.{One, Malformed}
+use Rattle.encoding_mem.specs.declared.codec.form.Form.{Form}
+use Rattle.encoding_mem.specs.declared.codec.first_piece.FirstPiece.{FirstPiece}
+use Rattle.encoding_mem.specs.declared.codec.first_piece.FirstPiece.TheVariants.{One, Malformed}
 use Rattle.encoding_mem.specs.Stateless.{stateless}
 use Rattle.encoding_mem.specs.Pieces.{pieces_by}
 use Rattle.encoding_tables.specs.EachByte.{first_piece_by_byte, form_by_byte}

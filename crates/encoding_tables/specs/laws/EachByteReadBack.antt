@@ -2,8 +2,8 @@
 -- when each character has a byte, and character by character.
 use Rattle.std.proofs.Common.{◌≡◌, ℕ, ◌+◌, ◌≤◌, List, [], ◌∷◌, ◌++◌, length, sym, ◌≢◌, ◌⊎◌, inl, inr, ◌∙◌, ap, subst, refl, arith, Option, None, Some, true, append-nil, length-append}
 use Rattle.std.specs.Fmt.{decimal, digits}
-use Rattle.encoding_mem.specs.declared.reference.Reference.{Reference}
-use Rattle.encoding_mem.specs.declared.reference.Reference.TheVariants.{Decimal, Hexadecimal}
+use Rattle.encoding_mem.specs.declared.codec.reference.Reference.{Reference}
+use Rattle.encoding_mem.specs.declared.codec.reference.Reference.TheVariants.{Decimal, Hexadecimal}
 use Rattle.encoding_mem.specs.Piece.{text, piece_text, AreWellFormed, piece_of_scalar}
 use Rattle.encoding_mem.specs.laws.Pieces.{pieces_by-nil}
 use Rattle.encoding_mem.specs.Coding.{AllMapped, IsMapped, open_from, output, spelled, lost_count, unmapped_count}
@@ -13,8 +13,8 @@ use Rattle.encoding_mem.specs.laws.OneSet.{one_set_by_step}
 use Rattle.encoding_mem.specs.laws.Steps.{step_law, strays_at_reference}
 use Rattle.encoding_mem.specs.ReadBack.{ReadsAs, ReadsBackExactly}
 use Rattle.encoding_mem.specs.laws.ReadBack.{all_mapped}
-use Rattle.encoding_mem.specs.declared.form.EscapeState.{EscapeState}
-use Rattle.encoding_mem.specs.declared.form.EscapeState.TheVariants.{Ascii}
+use Rattle.encoding_mem.specs.declared.codec.form.EscapeState.{EscapeState}
+use Rattle.encoding_mem.specs.declared.codec.form.EscapeState.TheVariants.{Ascii}
 use Rattle.encoding_tables.specs.EachByte.{first_piece_by_byte, form_by_byte}
 use Rattle.encoding_tables.specs.laws.EachByte.{AreScalars, cuts_by_byte, pieces_by_byte-cons, form_of_byte, coding_by_byte, pieces_by_byte}
 

@@ -3,7 +3,7 @@ use Rattle.std.proofs.Common.{◌≡◌, ℕ, List, [], ◌∷◌, refl, ap, ari
 use Rattle.std.proofs.lemmas.Bool.{lt-ltb}
 use Rattle.encoding_mem.specs.Parts.{IsCutByte, StandsAlone}
 use Rattle.encoding_mem.specs.Piece.{piece_len, piece_of_scalar}
-use Rattle.encoding_mem.specs.declared.form.Form.TheVariants.{Mapped}
+use Rattle.encoding_mem.specs.declared.codec.form.Form.TheVariants.{Mapped}
 use Rattle.encoding_mem.specs.laws.Parts.{ClosesAt, stands_alone, stays_const}
 use Rattle.encoding_tables.specs.EachByte.{first_piece_by_byte, form_by_byte}
 use Rattle.encoding_tables.specs.Lookups.{AreEntries}

@@ -7,10 +7,10 @@ use Rattle.encoding_mem.specs.laws.Utf8.{cuts_malformed}
 use Rattle.encoding_mem.specs.calls.DecoderRule.{TellsFirstPiece, HasRoomFor}
 use Rattle.encoding_mem.specs.calls.DecodedLength.{is_units, counts_past_malformed, replacement_len, left_after, decoded_length, decoded_length_replacement}
 use Rattle.encoding_mem.specs.laws.Shows.{Shows, shows_first_piece_in}
-use Rattle.encoding_mem.specs.declared.first_piece.FirstPiece.{FirstPiece}
-use Rattle.encoding_mem.specs.declared.first_piece.FirstPiece.TheVariants.{Ignored, Malformed}
-use Rattle.encoding_mem.specs.declared.room.OutputUnit.{OutputUnit}
-use Rattle.encoding_mem.specs.declared.room.OutputUnit.TheVariants.{Units, Bytes, Replaced}
+use Rattle.encoding_mem.specs.declared.codec.first_piece.FirstPiece.{FirstPiece}
+use Rattle.encoding_mem.specs.declared.codec.first_piece.FirstPiece.TheVariants.{Ignored, Malformed}
+use Rattle.encoding_mem.specs.declared.codec.room.OutputUnit.{OutputUnit}
+use Rattle.encoding_mem.specs.declared.codec.room.OutputUnit.TheVariants.{Units, Bytes, Replaced}
 use Rattle.encoding_tables.specs.Replacement.{pieces_replacement}
 
 -- the first piece of bytes in replacement, by whether the error was returned before

@@ -9,7 +9,7 @@ use Rattle.encoding_mem.specs.calls.EncodedLength.{IsRoomFor, encoded_length_sin
 use Rattle.encoding_mem.specs.Piece.{well_formed, piece_of_scalar, Piece}
 use Rattle.encoding_mem.specs.laws.Pieces.{CutsEach}
 use Rattle.encoding_mem.specs.calls.DecoderRule.{TellsFirstPiece}
-use Rattle.encoding_mem.specs.declared.form.Form.TheVariants.{Mapped}
+use Rattle.encoding_mem.specs.declared.codec.form.Form.TheVariants.{Mapped}
 use Rattle.encoding_tables.specs.EachByte.{form_by_byte, first_piece_by_byte}
 use Rattle.encoding_tables.specs.laws.EachByte.{AreScalars, first_piece_of_byte, cuts_by_byte, first_piece_by_first, laws_by_byte, fits_by_byte, pieces_by_byte-cons}
 use Rattle.encoding_tables.specs.Lookups.{AreEntries, value_of}

@@ -11,7 +11,7 @@ use Rattle.encoding_mem.specs.Piece.{well_formed, Piece}
 use Rattle.encoding_mem.specs.laws.Pieces.{CutsEach}
 use Rattle.encoding_mem.specs.ReadBack.{ReadsBackExactly}
 use Rattle.encoding_mem.specs.laws.Utf8.{range_from, scalar_from}
-use Rattle.encoding_mem.specs.declared.form.Form.TheVariants.{Mapped}
+use Rattle.encoding_mem.specs.declared.codec.form.Form.TheVariants.{Mapped}
 use Rattle.encoding_tables.specs.EachByte.{form_by_byte, first_piece_by_byte}
 use Rattle.encoding_tables.specs.laws.EachByte.{AreScalars, cuts_by_byte, laws_by_byte}
 use Rattle.encoding_mem.specs.Steps.{StepLaw, in_any_set}

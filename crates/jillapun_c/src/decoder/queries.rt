@@ -1,7 +1,8 @@
 //! What a decoder tells of itself.
 
 ghost use Rattle.std.specs.Prelude.{◌≡◌, ◌≢◌, [], Some, MatchOption};
-ghost use Rattle.encoding_mem.specs.declared.room.OutputUnit.TheVariants.{Units, Bytes, Replaced};
+ghost use Rattle.encoding_mem.specs.declared.codec.room.OutputUnit.TheVariants.{Units, Bytes};
+ghost use Rattle.encoding_mem.specs.declared.codec.room.OutputUnit.TheVariants.{Replaced};
 ghost use Rattle.encoding_front.specs.EncodingTable.{number_of};
 ghost use Rattle.encoding_front.specs.calls.DecoderViews.{decoder_view};
 ghost use Rattle.jillapun_c.specs.Coders.{decoder_in};

@@ -1,7 +1,7 @@
 //! The exports that decode to UTF-8 over a text.
 
 ghost use Rattle.std.specs.Prelude.{◌≡◌, ◌≢◌, drop, length, encode_utf8_all};
-ghost use Rattle.encoding_mem.specs.declared.room.OutputUnit.TheVariants.{Bytes, Replaced};
+ghost use Rattle.encoding_mem.specs.declared.codec.room.OutputUnit.TheVariants.{Bytes, Replaced};
 ghost use Rattle.encoding_front.specs.calls.DecoderCall.{free_bytes};
 ghost use Rattle.jillapun_c.specs.DecoderCalls.{AnswersDecoder, Decodes, DecodesUpToFault};
 ghost use Rattle.jillapun_c.specs.Room.{TextIsPut};

@@ -2,7 +2,7 @@
 
 ghost use Rattle.std.specs.Prelude.{◌≡◌, ◌≢◌, Some, drop, length};
 ghost use Rattle.encoding_mem.specs.calls.Writing.{Adds, encode_utf16_all};
-ghost use Rattle.encoding_mem.specs.declared.room.OutputUnit.TheVariants.{Units};
+ghost use Rattle.encoding_mem.specs.declared.codec.room.OutputUnit.TheVariants.{Units};
 ghost use Rattle.encoding_front.specs.calls.DecoderCall.{free_units};
 ghost use Rattle.jillapun_c.specs.DecoderCalls.{AnswersDecoder, Decodes, DecodesUpToFault};
 ghost use Rattle.jillapun_c.specs.declared.progress.TheConstants.Progress.{NONE};

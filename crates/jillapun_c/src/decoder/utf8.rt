@@ -3,7 +3,7 @@
 ghost use Rattle.std.specs.Prelude.{◌≡◌, ◌≢◌, Some};
 ghost use Rattle.std.specs.Prelude.{drop, length, encode_utf8_all};
 ghost use Rattle.encoding_mem.specs.calls.Writing.{Adds};
-ghost use Rattle.encoding_mem.specs.declared.room.OutputUnit.TheVariants.{Bytes, Replaced};
+ghost use Rattle.encoding_mem.specs.declared.codec.room.OutputUnit.TheVariants.{Bytes, Replaced};
 ghost use Rattle.encoding_front.specs.calls.DecoderCall.{free_bytes};
 ghost use Rattle.jillapun_c.specs.DecoderCalls.{AnswersDecoder, Decodes, DecodesUpToFault};
 ghost use Rattle.jillapun_c.specs.declared.progress.TheConstants.Progress.{NONE};

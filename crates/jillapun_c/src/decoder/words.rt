@@ -1,7 +1,7 @@
 //! What a handle tells of its decoder, for queries that write nothing.
 
 ghost use Rattle.std.specs.Prelude.{◌≡◌, ◌≢◌, None, Some};
-ghost use Rattle.encoding_mem.specs.declared.room.OutputUnit.{OutputUnit};
+ghost use Rattle.encoding_mem.specs.declared.codec.room.OutputUnit.{OutputUnit};
 ghost use Rattle.encoding_front.specs.declared.decoder.Decoder.{Decoder};
 ghost use Rattle.std.specs.declared.option.Option.{Option};
 ghost use Rattle.jillapun_c.specs.Coders.{decoder_in};

@@ -1,7 +1,7 @@
 //! What an encoder tells of itself.
 
 ghost use Rattle.std.specs.Prelude.{◌≡◌, ◌≢◌, ◌↔◌, true, false, IsTrue, MatchOption};
-ghost use Rattle.encoding_mem.specs.declared.form.EscapeState.TheVariants.{Ascii};
+ghost use Rattle.encoding_mem.specs.declared.codec.form.EscapeState.TheVariants.{Ascii};
 ghost use Rattle.encoding_front.specs.EncodingTable.{number_of};
 ghost use Rattle.encoding_front.specs.calls.Encoder.{queried_room, queried_with_kept};
 ghost use Rattle.jillapun_c.specs.Coders.{encoder_in};

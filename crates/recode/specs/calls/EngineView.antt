@@ -4,7 +4,7 @@ use Rattle.std.specs.Char.Utf16.{utf16_lossy_chars}
 use Rattle.std.specs.Str.{all_scalars, chars, encode_utf8_all}
 use Rattle.encoding_front.specs.calls.Stream.{DecoderView}
 use Rattle.encoding_mem.specs.calls.EncoderRule.{EncoderParts}
-use Rattle.encoding_mem.specs.declared.decoder_result.DecoderResult.TheVariants.{OutputFull}
+use Rattle.encoding_mem.specs.declared.codec.decoder_result.DecoderResult.TheVariants.{OutputFull}
 use Rattle.encoding_mem.specs.calls.Writing.{encode_utf16_all}
 use Rattle.recode.specs.Converter.{ConverterView}
 use Rattle.recode.specs.State.{State}

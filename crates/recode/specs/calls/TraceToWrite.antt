@@ -1,10 +1,10 @@
 -- What a conversion has still to write for the bytes to come.
 use Rattle.std.specs.Prelude.{ℕ, ◌+◌, ◌-◌, ◌≤◌, List}
-use Rattle.encoding_mem.specs.declared.reference.Reference.{Reference}
+use Rattle.encoding_mem.specs.declared.codec.reference.Reference.{Reference}
 use Rattle.encoding_mem.specs.calls.Decoding.{DecoderState}
 use Rattle.encoding_mem.specs.Coding.{Coding}
 use Rattle.encoding_mem.specs.Items.{Item, trace_from}
-use Rattle.encoding_mem.specs.declared.form.EscapeState.{EscapeState}
+use Rattle.encoding_mem.specs.declared.codec.form.EscapeState.{EscapeState}
 use Rattle.recode.specs.declared.counts.Counts.{Counts}
 
 -- the trace of the decoder's pieces, from the set of the encoder and the counts, with references of this form

@@ -3,9 +3,9 @@ use Rattle.std.specs.Prelude.{◌≡◌, ◌↔◌, ℕ, ◌+◌, ◌-◌, ◌*�
 use Rattle.encoding_mem.specs.Coding.{last_set}
 use Rattle.encoding_mem.specs.Items.{Item}
 use Rattle.encoding_mem.specs.Piece.{Piece, malformed, malformed_count, sizes, text, well_formed}
-use Rattle.encoding_mem.specs.declared.decoder_result.DecoderResult.{DecoderResult}
-use Rattle.encoding_mem.specs.declared.decoder_result.DecoderResult.TheVariants as decoded
-use Rattle.encoding_mem.specs.declared.reference.Reference.{Reference}
+use Rattle.encoding_mem.specs.declared.codec.decoder_result.DecoderResult.{DecoderResult}
+use Rattle.encoding_mem.specs.declared.codec.decoder_result.DecoderResult.TheVariants as decoded
+use Rattle.encoding_mem.specs.declared.codec.reference.Reference.{Reference}
 use Rattle.recode_log.specs.Line.{IsValid}
 use Rattle.recode.specs.Converter.{WillBeKeptAfter, found_items, owed_after}
 use Rattle.recode.specs.State.{State, characters_after}

@@ -4,7 +4,7 @@ use Rattle.std.specs.Fmt.{digits}
 use Rattle.std.proofs.Common.{arith}
 use Rattle.encoding_mem.specs.Items.{Byte, LostAt, MalformedAt}
 use Rattle.encoding_mem.specs.Piece.{malformed, text, well_formed}
-use Rattle.encoding_mem.specs.declared.reference.Reference.TheVariants.{Decimal, Hexadecimal}
+use Rattle.encoding_mem.specs.declared.codec.reference.Reference.TheVariants.{Decimal, Hexadecimal}
 use Rattle.recode_log.specs.declared.line.LogLine.TheVariants.{Bad, Lost}
 use Rattle.recode.specs.Converter.{ConverterEndsWith, ConverterView, found_items, is_all_converted}
 use Rattle.recode.specs.State.{State, characters_with, characters_after, text_after}

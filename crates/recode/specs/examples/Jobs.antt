@@ -2,7 +2,7 @@
 use Rattle.std.specs.Prelude.{◌≡◌, ℕ, List, [], ◌∷◌, ◌++◌, replicate, codes, refl, map, None, Some, Bool, true, false, slice_index, ◌==◌}
 use Rattle.std.specs.Char.{encode_utf8}
 use Rattle.std.specs.Fmt.{digits}
-use Rattle.encoding_mem.specs.declared.reference.Reference.TheVariants.{Decimal}
+use Rattle.encoding_mem.specs.declared.codec.reference.Reference.TheVariants.{Decimal}
 use Rattle.encoding_mem.specs.Coding.{output}
 use Rattle.encoding_mem.specs.Piece.{text, well_formed, malformed}
 use Rattle.encoding_mem.specs.Pieces.{pieces_in}

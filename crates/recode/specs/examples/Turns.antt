@@ -1,7 +1,7 @@
 -- Worked rows of `specs/calls/Turns.antt`.
 use Rattle.std.specs.Prelude.{◌≡◌, [], ◌∷◌, ◌++◌, None, Some, false, refl, true}
 use Rattle.encoding_mem.specs.Piece.{malformed, well_formed}
-use Rattle.encoding_mem.specs.declared.decoder_result.DecoderResult.TheVariants as decoded
+use Rattle.encoding_mem.specs.declared.codec.decoder_result.DecoderResult.TheVariants as decoded
 use Rattle.recode.specs.calls.Turns.{due_calls, end_count, is_last_text, pieces_of_text, reported, settled, spare_calls, stop_count, waits}
 use Rattle.recode.specs.declared.converter.ConverterResult.TheVariants.{InputEmpty, OutputFull}
 

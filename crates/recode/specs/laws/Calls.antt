@@ -1,7 +1,7 @@
 -- Calls of a converter add up, and together are the conversion of what they were handed.
 use Rattle.std.proofs.Common.{◌≡◌, ℕ, ◌↔◌, Bool, true, false, List, [], ◌++◌, length, refl, sym, ◌∙◌, ap, subst, arith, append_assoc, append-nil, length-append}
 use Rattle.encoding_mem.specs.Items.{Item}
-use Rattle.encoding_mem.specs.declared.form.EscapeState.TheVariants.{Ascii}
+use Rattle.encoding_mem.specs.declared.codec.form.EscapeState.TheVariants.{Ascii}
 use Rattle.recode.specs.Converter.{ConverterView, ConvertsPart, ConvertedSoFar, IsFreshConverter, IsReportButCalls, IsWhole, WillKeep, characters_of, owes}
 use Rattle.recode.specs.Job.{input_pieces, input_text, target_of, whole_trace}
 use Rattle.recode.specs.Policy.{reference_form}

@@ -4,11 +4,11 @@ use Rattle.std.proofs.lemmas.Grind.{flat_map-append}
 use Rattle.encoding_mem.specs.Coding.{Coding, last_set, lost_count, reference_bytes, unmapped_count}
 use Rattle.encoding_mem.specs.Items.{Item, Byte, MalformedAt, LostAt, form_items, open_items, trace_from}
 use Rattle.encoding_mem.specs.Piece.{Piece, malformed, malformed_count, text, well_formed}
-use Rattle.encoding_mem.specs.declared.form.EscapeState.{EscapeState}
-use Rattle.encoding_mem.specs.declared.form.EscapeState.TheVariants.{Ascii}
-use Rattle.encoding_mem.specs.declared.form.Form.{Form}
-use Rattle.encoding_mem.specs.declared.form.Form.TheVariants.{Mapped, Unmapped}
-use Rattle.encoding_mem.specs.declared.reference.Reference.{Reference}
+use Rattle.encoding_mem.specs.declared.codec.form.EscapeState.{EscapeState}
+use Rattle.encoding_mem.specs.declared.codec.form.EscapeState.TheVariants.{Ascii}
+use Rattle.encoding_mem.specs.declared.codec.form.Form.{Form}
+use Rattle.encoding_mem.specs.declared.codec.form.Form.TheVariants.{Mapped, Unmapped}
+use Rattle.encoding_mem.specs.declared.codec.reference.Reference.{Reference}
 use Rattle.recode.specs.Policy.{up_to_loss, written_under}
 use Rattle.recode.specs.TaggedByte.{IsPrefix, Line, Out, TaggedByte, log_bytes, output_bytes, tagged, tagged_item}
 use Rattle.recode.specs.WrittenItems.{AreCounted, IsSpared, bad_line_count, lost_line_count}

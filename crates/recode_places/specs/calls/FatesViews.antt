@@ -1,7 +1,7 @@
 -- What contracts say of `Fates`, and of what a `Choice` asks.
 use Rattle.std.specs.Prelude.{◌≡◌, ◌⊎◌, ℕ, true, List, [], ◌∷◌, ◌++◌, Option, Some, None, IfSome, is_some, option_map, take}
 use Rattle.encoding_mem.specs.Coding.{IsMapped, output}
-use Rattle.encoding_mem.specs.declared.reference.Reference.TheVariants.{Decimal}
+use Rattle.encoding_mem.specs.declared.codec.reference.Reference.TheVariants.{Decimal}
 use Rattle.encoding_front.specs.Encodings.{coding_of}
 use Rattle.recode_places.specs.Fates.{AreAllKept, Target}
 use Rattle.recode_places.specs.Findings.{Asked, fate_asked, told_by_fate}

@@ -1,5 +1,5 @@
 use Rattle.std.proofs.Common.{refl}
-use Rattle.encoding_mem.specs.declared.encoder_result.EncoderResult.{EncoderResult}
+use Rattle.encoding_mem.specs.declared.codec.encoder_result.EncoderResult.{EncoderResult}
 use Rattle.encoding_front.specs.laws.Calls.{wrote_mapped, wrote_replaced}
 use Rattle.encoding_front.specs.declared.coder_result.CoderResult.{CoderResult}
 use Rattle.encoding_front.proofs.laws.last_calls_write_all_bytes.Goals as goal

@@ -1,5 +1,5 @@
 use Rattle.std.proofs.Common.{refl}
-use Rattle.encoding_mem.specs.declared.decoder_result.DecoderResult.{DecoderResult}
+use Rattle.encoding_mem.specs.declared.codec.decoder_result.DecoderResult.{DecoderResult}
 use Rattle.encoding_front.specs.calls.DecoderCall.{HasText}
 use Rattle.encoding_front.specs.laws.Calls.{wrote_scalars, wrote_text}
 use Rattle.encoding_front.specs.declared.coder_result.CoderResult.{CoderResult}

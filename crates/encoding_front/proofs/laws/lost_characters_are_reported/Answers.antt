@@ -1,5 +1,5 @@
 use Rattle.std.proofs.Common.{refl}
-use Rattle.encoding_mem.specs.declared.encoder_result.EncoderResult.{EncoderResult}
+use Rattle.encoding_mem.specs.declared.codec.encoder_result.EncoderResult.{EncoderResult}
 use Rattle.encoding_front.specs.laws.Calls.{none_reported, one_reported}
 use Rattle.encoding_front.proofs.laws.lost_characters_are_reported.Goals as goal
 

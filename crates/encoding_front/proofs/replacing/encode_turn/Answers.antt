@@ -1,6 +1,6 @@
 use Rattle.std.proofs.Common.{◌≡◌, ◌-◌, ◌++◌, ◌∙◌, length, take, drop, sym, ap, arith, length-append, length-drop, rules}
 use Rattle.std.proofs.lemmas.List.{append-nil, length-take-le, take-append-le}
-use Rattle.encoding_mem.specs.declared.encoder_result.EncoderResult.TheVariants.{Unmappable}
+use Rattle.encoding_mem.specs.declared.codec.encoder_result.EncoderResult.TheVariants.{Unmappable}
 use Rattle.encoding_front.specs.calls.Encoder.{kept_back, referred}
 use Rattle.encoding_front.proofs.EncoderCallLemmas.{behind_part, behind_put, nothing_referred, turned, unmappable_keeps}
 use Rattle.encoding_front.proofs.replacing.encode_turn.Goals as goal

@@ -1,7 +1,7 @@
 use Rattle.std.proofs.Common.{◌++◌, ◌∙◌, ap, sym}
 use Rattle.encoding_mem.specs.Coding.{last_set}
-use Rattle.encoding_mem.specs.declared.form.EscapeState.TheVariants.{Ascii}
-use Rattle.encoding_mem.specs.declared.reference.Reference.TheVariants.{Decimal}
+use Rattle.encoding_mem.specs.declared.codec.form.EscapeState.TheVariants.{Ascii}
+use Rattle.encoding_mem.specs.declared.codec.reference.Reference.TheVariants.{Decimal}
 use Rattle.encoding_mem.specs.laws.EncoderCalls.{mapped_open}
 use Rattle.recode.specs.Job.{target_of}
 use Rattle.recode.proofs.TraceLemmas.{first_lost, log_at_loss}

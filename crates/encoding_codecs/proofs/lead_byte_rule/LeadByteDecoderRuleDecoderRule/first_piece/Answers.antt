@@ -5,8 +5,8 @@ use Rattle.encoding_codecs.specs.declared.lead_byte_rule.FirstByte.{FirstByte}
 use Rattle.encoding_codecs.specs.declared.lead_byte_rule.FirstByte.TheVariants.{Lead}
 use Rattle.encoding_mem.specs.Pieces.{pieces_by}
 use Rattle.encoding_mem.specs.calls.DecoderRule.{TellsFirstPiece}
-use Rattle.encoding_mem.specs.declared.first_piece.FirstPiece.{FirstPiece}
-use Rattle.encoding_mem.specs.declared.first_piece.FirstPiece.TheVariants.{One, Malformed}
+use Rattle.encoding_mem.specs.declared.codec.first_piece.FirstPiece.{FirstPiece}
+use Rattle.encoding_mem.specs.declared.codec.first_piece.FirstPiece.TheVariants.{One, Malformed}
 use Rattle.encoding_codecs.specs.TwoByte.{first_piece_by_lead}
 use Rattle.encoding_codecs.specs.laws.TwoByte.{rule_first_piece}
 use Rattle.encoding_codecs.specs.laws.TwoByteDecide.{decide_by_lead}

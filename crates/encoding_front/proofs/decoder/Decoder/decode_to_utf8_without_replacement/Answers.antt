@@ -1,5 +1,5 @@
 use Rattle.std.proofs.Common.{◌-◌, length, ap, arith}
-use Rattle.encoding_mem.specs.declared.room.OutputUnit.TheVariants.{Bytes}
+use Rattle.encoding_mem.specs.declared.codec.room.OutputUnit.TheVariants.{Bytes}
 use Rattle.encoding_front.specs.calls.Seeking.{sought_needs}
 use Rattle.encoding_front.specs.calls.VariantDecoders.{state_of}
 use Rattle.encoding_front.proofs.DecodedLengthLemmas.{asked_covers, asked_never_full}

@@ -1,5 +1,5 @@
 use Rattle.std.proofs.Common.{◌≡◌, ◌+◌, ◌∙◌, List, ℕ, length, drop, refl, ap, arith, rules}
-use Rattle.encoding_mem.specs.declared.decoder_result.DecoderResult.TheVariants.{InputEmpty, OutputFull, Malformed}
+use Rattle.encoding_mem.specs.declared.codec.decoder_result.DecoderResult.TheVariants.{InputEmpty, OutputFull, Malformed}
 use Rattle.encoding_front.specs.calls.VariantDecoders.{state_of}
 use Rattle.encoding_front.proofs.BomLemmas.{law_held, law_none, reports_held, suffices_held, takes_well_formed, takes_then, none_left, ends_none, suffices_none, suffices_then}
 use Rattle.encoding_front.proofs.variant_decoder.VariantDecoder.decode_held.Goals as goal

@@ -1,7 +1,7 @@
 use Rattle.std.proofs.Common.{subst, length, lit<}
 use Rattle.encoding_mem.specs.calls.DecoderRule.{TellsFirstPiece}
 use Rattle.encoding_mem.specs.laws.DecodedLength.{roomy_basic}
-use Rattle.encoding_mem.specs.declared.first_piece.FirstPiece.TheVariants.{One}
+use Rattle.encoding_mem.specs.declared.codec.first_piece.FirstPiece.TheVariants.{One}
 use Rattle.encoding_tables.specs.laws.EachByte.{first_piece_of_byte, first_piece_by_first}
 use Rattle.encoding_tables.specs.UserDefined.{user_char_of_byte, pieces_user_defined}
 use Rattle.encoding_tables.specs.laws.UserDefined.{scalars_user_defined}

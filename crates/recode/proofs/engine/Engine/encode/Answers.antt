@@ -6,7 +6,7 @@ use Rattle.recode.specs.declared.job.Policy.{Policy}
 use Rattle.encoding_mem.specs.calls.EncoderRule.{EncoderParts}
 use Rattle.encoding_mem.specs.laws.EncoderCalls.{encoded_items}
 use Rattle.encoding_mem.specs.calls.EncoderCalls.{TextGoesOn, reported_item}
-use Rattle.encoding_mem.specs.declared.encoder_result.EncoderResult.TheVariants.{Unmappable}
+use Rattle.encoding_mem.specs.declared.codec.encoder_result.EncoderResult.TheVariants.{Unmappable}
 use Rattle.encoding_mem.specs.Items.{Byte, whole_items}
 use Rattle.encoding_mem.specs.calls.ReadCalls.{IsNotUnmappable}
 use Rattle.recode.specs.Work.{ended_count}

@@ -1,5 +1,5 @@
 use Rattle.std.proofs.Common.{◌≡◌, ◌<◌, length, None, arith, length-drop, refl, rules}
-use Rattle.encoding_mem.specs.declared.decoder_result.DecoderResult.TheVariants.{OutputFull}
+use Rattle.encoding_mem.specs.declared.codec.decoder_result.DecoderResult.TheVariants.{OutputFull}
 use Rattle.recode.specs.calls.EngineView.{chars_between, standing}
 use Rattle.recode.specs.declared.job.Policy.{Policy}
 use Rattle.recode.proofs.TurnLemmas.{between_is, decode_turn_from, holds_between, none_open, open_after}

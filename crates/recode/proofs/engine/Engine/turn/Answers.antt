@@ -1,7 +1,7 @@
 use Rattle.std.proofs.Common.{append-nil, ◌∷◌, ◌-◌, ◌++◌, ◌∙◌, ◌≡◌, [], Some, arith, refl, sym, ap, map, take, drop, subst}
 use Rattle.encoding_mem.specs.Items.{Byte, MalformedAt}
 use Rattle.encoding_mem.specs.calls.EncoderCalls.{reported_item}
-use Rattle.encoding_mem.specs.declared.decoder_result.DecoderResult.TheVariants.{InputEmpty, Malformed, OutputFull}
+use Rattle.encoding_mem.specs.declared.codec.decoder_result.DecoderResult.TheVariants.{InputEmpty, Malformed, OutputFull}
 use Rattle.recode.specs.Policy.{reference_form}
 use Rattle.recode.specs.calls.CodecCalls.{writes_all}
 use Rattle.recode.specs.calls.EngineView.{standing}

@@ -1,6 +1,6 @@
 use Rattle.std.proofs.Common.{◌≡◌, ◌∙◌, false, ◌<◌, length, ap, arith, length-append, refl, sym}
 use Rattle.std.proofs.lemmas.List.{take_rest}
-use Rattle.encoding_mem.specs.declared.decoder_result.DecoderResult.TheVariants.{OutputFull}
+use Rattle.encoding_mem.specs.declared.codec.decoder_result.DecoderResult.TheVariants.{OutputFull}
 use Rattle.recode.specs.calls.PivotText.{pivot_chars}
 use Rattle.recode.proofs.WriterLemmas.{room_on, room_start}
 use Rattle.recode.proofs.VerdictLemmas.{compares_differing, compares_end, compares_malformed, compares_more, compares_start, counted_more}

@@ -1,9 +1,0 @@
-use Rattle.std.proofs.Common.{arith}
-use Rattle.encoding_mem.proofs.UnitCopyLemmas.{copied_more}
-use Rattle.encoding_mem.proofs.ascii_copies.copy_blocks.Goals as goal
-
-pub wide-preserved : goal.wide-preserved
-wide-preserved c =
-    let e = c.copy_block.ensures in
-    copied_more c.args.src.now c.args.dst.now c.wide.at c.wide.dst c.copy_block.new.dst 64 c.wide.invariant c.requires
-    (omega (arith, c.wide-test.true, c.wide.invariant.within)) c.copy_block.auto.dst (e.low c.if-not-copy_block.false) (e.copied c.if-not-copy_block.false) e.behind

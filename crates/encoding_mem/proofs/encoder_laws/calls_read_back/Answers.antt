@@ -1,5 +1,0 @@
-use Rattle.encoding_mem.specs.laws.ReadCalls.{reads_call}
-use Rattle.encoding_mem.proofs.encoder_laws.calls_read_back.Goals as goal
-
-pub returns : goal.returns
-returns c = reads_call

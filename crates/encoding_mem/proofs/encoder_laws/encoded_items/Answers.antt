@@ -1,5 +1,0 @@
-use Rattle.encoding_mem.specs.laws.EncoderCalls.{encoded_items}
-use Rattle.encoding_mem.proofs.encoder_laws.encoded_items.Goals as goal
-
-pub returns : goal.returns
-returns c need e k ref last outcome before text written after rest = encoded_items ref e last outcome before text written after rest k
