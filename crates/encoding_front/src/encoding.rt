@@ -244,6 +244,8 @@ impl Encoding {
         ensures ready { IsTrue result ↔ IsReady tables.now self }
         ensures accepted { AreAcceptedTables tables.now }
     {
+        // Callers know of a type with an invariant what its contracts say, no more. This one says
+        // that tables are accepted, so a valid job needs no other test of that.
         tables.accepted();
         are_there(self.needs(), tables)
     }

@@ -85,6 +85,8 @@ pub use decoder::room_rule::RoomRule;
 pub use decoder::{Decoder, StreamDecoder};
 pub use encoder::Encoder;
 pub use encoding::Encoding;
+// What calls return is handed on. `Tables`, which they take, is not: it would have a path in each
+// crate above it.
 pub use encoding_mem::{DecoderResult, EncoderResult, Reference};
 pub use mark::Mark;
 pub use one_shot_fault::OneShotFault;

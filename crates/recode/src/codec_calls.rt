@@ -27,6 +27,8 @@ use encoding_mem::utf16_sink::Utf16Sink;
 use encoding_mem::{DecoderResult, EncoderResult, RawEncoder};
 use std::simd::prelude::*;
 
+// The form is chosen when the program runs. An enum keeps it in this file, so that all above speaks
+// of text and is proved once. With a trait in its place the engine would be generic over the form.
 /// Text that stands in a pivot, in either form.
 #[derive(Clone, Copy)]
 pub enum PivotText<'p> {

@@ -108,7 +108,9 @@ trait Viewed {
 pub struct Converter<'t> {
     engine: Engine<Decoder<'t>, VariantEncoder<'t>>,
     job: Job<'t>,
-    // The text that waits, in UTF-8, stands in it.
+    // The text that waits between two calls, in UTF-8, stands in it. It is not lent, as that of a
+    // session is: each call would want the pivot of the call before it, and a handle of C, which
+    // keeps both, would lend to itself.
     text: [u8; ROOM],
     // Whether the end was read, and its text waits.
     ended: bool,

@@ -63,6 +63,7 @@ mod writers;
 pub use conversion::{FAITHFUL, FAULT, NOT_FAITHFUL, convert};
 pub use converter::{Converter, ConverterResult};
 pub use counts::Counts;
+// What calls take is handed on as well as what they return: a job is made from this crate alone.
 pub use encoding_front::{DecoderResult, EncoderResult, Encoding, Mark, Reference};
 pub use encoding_tables::Tables;
 pub use entry::{NOT_STARTED, REFUSED, program};

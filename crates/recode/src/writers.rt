@@ -19,6 +19,8 @@ pub struct MalformedLine {
     pub length: u8,
 }
 
+// Bytes are held here, not by a writer with a buffer of its own: that would have to know of the log
+// to write the bytes that come before a line ahead of it.
 /// Where a conversion writes: its output, and the log of what is lost.
 ///
 /// What is to be written is held first: the line of a malformed sequence, and behind it bytes of

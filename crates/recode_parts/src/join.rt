@@ -35,6 +35,8 @@ pub enum JoinFault {
     NotALog,
 }
 
+// Lines are read and written again: a log has one reading as lines, so what is written is the log
+// of the whole. To add to the digits where they stand would be faster, and its contract its code.
 /// Joins the log of a part to that of what stands before it: reads the lines of the first to its
 /// end, and writes them to the second, with the bytes and the characters before the part added to
 /// their offsets and indexes. It holds 4 KiB of each, however long the log is.

@@ -3,6 +3,8 @@
 ghost use Rattle.std.specs.Prelude.{◌≡◌, ℕ, ◌+◌, ◌^◌, ◌<◌, ◌≤◌, List, [], ◌∷◌, ◌++◌, length};
 ghost use Rattle.std.specs.Str.{chars};
 
+// The log has no lines and columns: each run would count them, and programs read the log's form. A
+// column counts characters, as an index of the log does.
 /// Where a character stands in a text. A line ends with U+000A, and with nothing else.
 #[derive(Clone, Copy, PartialEq, Eq, Debug)]
 pub struct Place {

@@ -17,7 +17,7 @@ pub(crate) enum Cell {
 
 // Whether a character is shown by its number: a control, or one that can't be seen. These are what
 // Unicode says a display may ignore (Default_Ignorable_Code_Point), among them what turns the
-// direction of a text, the separators of lines and paragraphs, and the marks of annotations.
+// direction of a text, the separators of lines and paragraphs, and those of annotations.
 pub(crate) fn is_shown_by_number(c: char) -> bool
     ensures { result ≡ (is_control c || is_unseen c) }
 {

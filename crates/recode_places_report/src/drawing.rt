@@ -38,8 +38,8 @@ pub(crate) fn draw(
     Ok(Drawing { text, start, width })
 }
 
-// Where the caret stands, and how wide it is, for what is shown from one column to another. A mark
-// that is drawn on the character before it takes no column: the caret is then under that one.
+// Where the caret stands, and how wide it is, for what is shown from one column to another. What is
+// drawn on the character before it takes no column: the caret is then under that one.
 fn caret(start: usize, end: usize) -> (usize, usize)
     ensures some { 1 ≤ result.1 }
     ensures column { start < end → (result.0 ≡ start) × (result.0 + result.1 ≡ end) }

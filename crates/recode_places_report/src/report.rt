@@ -1,4 +1,4 @@
-//! What is lost in an input, place by place, as a compiler tells faults.
+//! What is lost in an input, place by place, as a compiler tells errors.
 
 ghost use Rattle.std.specs.Prelude.{◌≤◌, None};
 ghost use Rattle.std.specs.VecDeque.{deque_len};

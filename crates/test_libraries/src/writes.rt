@@ -63,7 +63,7 @@ fn calls_of_writers(
 }
 
 #[test]
-fn a_fault_takes_two_calls_of_the_writers(rt: HostRuntime) {
+fn a_loss_takes_two_calls_of_the_writers(rt: HostRuntime) {
     let tables = Tables::new(rt.alloc());
     // All bytes between two lines of the log are written by one call. U+FFFD and references are
     // among the bytes after their line.
