@@ -17,7 +17,7 @@ use Rattle.encoding_front.specs.Codecs.{codec_of}
 use Rattle.encoding_front.specs.EncodingTable.{codec_kind_of}
 use Rattle.encoding_front.specs.Encodings.{IsUtf8Encoding, coding_of, output_encoding_of}
 use Rattle.encoding_front.specs.Marks.{marked_text}
-use Rattle.encoding_front.specs.calls.DecoderCall.{TextCall}
+use Rattle.encoding_front.specs.calls.DecoderCall.{RoomLeft, TextCall}
 use Rattle.encoding_front.specs.calls.Encoder.{EncoderState, Replaces, coding_in, new_state}
 use Rattle.encoding_front.specs.calls.Stream.{DecoderView, IsNewDecoder}
 use Rattle.encoding_front.specs.declared.coder_result.CoderResult.{CoderResult}
@@ -42,11 +42,11 @@ all_read CoderResult.InputEmpty never = refl
 all_read CoderResult.OutputFull never = absurd (never refl)
 
 -- a call that does not end for lack of room writes the text at the start of it
-pub decodes_straight : (v v' : DecoderView) (t : IndexLists) (mark : Mark) (e : Encoding) (src old new : List ℕ) (outcome : CoderResult) (read w free room least : ℕ) (had : Bool) (status : ℕ)
-    → IsNewDecoder v t mark e → outcome ≢ CoderResult.OutputFull → TextCall v v' src true read (λ (l : List ℕ). Adds old 0 (encode_utf8_all l) new w) free room least outcome had
+pub decodes_straight : (v v' : DecoderView) (t : IndexLists) (mark : Mark) (e : Encoding) (src old new : List ℕ) (outcome : CoderResult) (read w : ℕ) (left : RoomLeft) (had : Bool) (status : ℕ)
+    → IsNewDecoder v t mark e → outcome ≢ CoderResult.OutputFull → TextCall v v' src true read (λ (l : List ℕ). Adds old 0 (encode_utf8_all l) new w) left outcome had
     → length new ≡ length old → status ≡ verdict_of had → DecodesWhole IsPut t e mark src old new w status
-decodes_straight v v' t mark e src old new outcome read w free room least had status begins never call same told =
-    let wrote = wrote_text v v' src read (λ (l : List ℕ). Adds old 0 (encode_utf8_all l) new w) free room least outcome had call (all_read outcome never) in
+decodes_straight v v' t mark e src old new outcome read w left had status begins never call same told =
+    let wrote = wrote_text v v' src read (λ (l : List ℕ). Adds old 0 (encode_utf8_all l) new w) left outcome had call (all_read outcome never) in
     let made : List ℕ = encode_utf8_all (text (v.state.pieces src)) in
     let adds : Adds old 0 made new w = wrote.0 in
     record {
