@@ -892,7 +892,7 @@ uint8_t jillapun_encoder_encode_from_utf8_without_replacement(jillapun_encoder *
  * are no tables; `JILLAPUN_UNKNOWN`, no encoding or no handling of marks has the number;
  * `JILLAPUN_NOT_READY`, the tables lack an index of the encoding; `JILLAPUN_NO_MEMORY`, memory
  * was refused, which is not asked for if `dst` is as long as `jillapun_decoder_max_utf8_length`
- * tells of a new decoder.
+ * tells of `src_len` bytes and a new decoder of this encoding with this `mark`.
  */
 uint8_t jillapun_decode(jillapun_tables tables, uint8_t encoding, uint8_t mark, const uint8_t *src,
     size_t src_len, uint8_t *dst, size_t dst_len, size_t *written);

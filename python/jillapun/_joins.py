@@ -25,8 +25,8 @@ def join_losses(before: Report, losses: Iterable[Loss]) -> List[Loss]:
 
 
 def join_reports(before: Report, part: Report) -> Report:
-    """What is told of a part, added to what is told of all parts before it, which is `Report()` before the first. Nothing
-    was lost of all of them if nothing was lost of any.
+    """What is told of a part, added to what is told of all parts before it, which is `Report()` before the first.
+    `faithful` is true if it is true of both.
 
     Raises `OverflowError` if a number is below 0, or a sum 2^64 or more, which is so of no conversion."""
     told = _record_of(before)

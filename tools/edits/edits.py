@@ -7,7 +7,7 @@ its whole crate.
     python3 tools/edits/edits.py --readable | --runs [--jobs N] [CRATE[/NAME]..]
 
 With a name, those of the crate whose names begin with it. An edit that was refused on the code as it is, by the record of
-edit_record.py, is not tried again, unless `--anew` says so. With `--new` none is that was tried, on whatever code. What came
+edit_record.py, is not tried again, unless `--anew` says so. With `--new` only those are tried that never were, on whatever code. What came
 of an edit is recorded as soon as it is known, so a run that was cut off goes on with the edits that are left; docs/STATUS.md
 is written from the record. `--jobs` checks or runs are made at a time, by default two, in at most as many copies of a crate.
 All crates take about 6 hours of processor time from nothing.

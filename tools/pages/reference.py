@@ -124,7 +124,7 @@ def comment(lines, index):
 
 
 def parts(lines, place, trait):
-    """The public functions of an implementation, or all functions and ghosts of a trait."""
+    """The public functions and constants of an implementation, or all functions and ghosts of a trait."""
     index = 0
     while index < len(lines):
         text = lines[index].strip()
@@ -137,6 +137,9 @@ def parts(lines, place, trait):
             yield Item("ghost" if ghost else "fn", name, comment(lines, index), code, place)
             index = behind
             continue
+        constant = None if trait else re.match(r"(pub const (\w+): .+?) = ", text)
+        if constant:
+            yield Item("const", constant[2], comment(lines, index), [constant[1] + ";"], place)
         index += 1
 
 
@@ -389,6 +392,11 @@ def entry(item, crate):
         if part.doc:
             yield "- `%s`: %s" % (part.name, " ".join(part.doc))
     if any(part.doc for part in shown):
+        yield ""
+    constants = [part for part in item.members if part.kind == "const"]
+    for part in constants:
+        yield "- `%s`: %s" % (part.code[0].rstrip(";"), " ".join(part.doc))
+    if constants:
         yield ""
     for part in item.members:
         if part.kind == "ghost":

@@ -42,7 +42,7 @@ use std::str;
 /// and `written` is 0: `CLOSED`, there are no tables; `UNKNOWN`, no encoding or no handling of
 /// marks has the number; `NOT_READY`, the tables lack an index of the encoding; `NO_MEMORY`, memory
 /// was refused, which is not asked for if `dst` is as long as `jillapun_decoder_max_utf8_length`
-/// tells of a new decoder.
+/// tells of `src_len` bytes and a new decoder of this encoding with this `mark`.
 #[unsafe(no_mangle)]
 pub extern "C" fn jillapun_decode(
     alloc: Global,
@@ -130,6 +130,7 @@ fn decode_into(
     ensures memory { HasRoomAsked (room_at_start mark encoding Replaced (length src.now))
         (length dst.old) → result ≢ NO_MEMORY }
 {
+    // What the tables hold is accepted: their type's invariant, which only a call tells.
     tables.accepted();
     let mut decoder = Decoder::new(encoding, mark, tables);
     if is_enough(&decoder, src.len(), dst.len()) {

@@ -11,8 +11,8 @@ use std::ptr;
 /// Why a call panics that is handed an input of nearly 2^64 bytes.
 const TOO_LONG: &str = "the room for this input passes a usize";
 
-/// How long a text may be, in bytes, that is encoded in one call: the library makes its bytes beside the caller's room, and
-/// copies them.
+/// How long an input may be, in bytes, that is decoded or encoded in one call: room for all that it may become is taken at
+/// first, and the library makes the bytes of a text beside that room, and copies them.
 const SHORT: usize = 256;
 
 /// How an encoding writes ASCII.
@@ -151,7 +151,8 @@ impl Encoding {
     ///
     /// If the room that the text may need passes a `usize`, or memory is refused.
     ///
-    /// Proved: `jillapun_for_bom`, `jillapun_decode`, `jillapun_utf8_valid_up_to` and its kin.
+    /// Proved: `jillapun_for_bom`, `jillapun_decode`, `jillapun_decoder_decode_to_utf8`, `jillapun_utf8_valid_up_to` and
+    /// its kin.
     pub fn decode<'a>(&'static self, bytes: &'a [u8]) -> (Cow<'a, str>, &'static Encoding, bool) {
         let (encoding, length) = Encoding::for_bom(bytes).unwrap_or((self, 0));
         let (text, had_errors) = encoding.decode_without_bom_handling(&bytes[length..]);
@@ -182,9 +183,34 @@ impl Encoding {
             Ok(text) => return (Cow::Borrowed(text), false),
             Err(parts) => parts,
         };
+        let (text, had_errors) = match rest.len() {
+            0..=SHORT => self.decode_short(start, rest),
+            _ => self.decode_long(start, rest),
+        };
+        (Cow::Owned(text), had_errors)
+    }
+
+    /// The text of a start, which is its own, and of a short input behind it; and whether something was malformed.
+    fn decode_short(&self, start: &str, rest: &[u8]) -> (String, bool) {
         let mut text = begun(start, self.text_room(rest.len()));
         let had_errors = sys::decode_to_string((self.tables)(), self.number, rest, &mut text);
-        (Cow::Owned(text), had_errors)
+        (text, had_errors)
+    }
+
+    /// The same of any input.
+    fn decode_long(&'static self, start: &str, mut rest: &[u8]) -> (String, bool) {
+        let mut decoder = self.new_decoder_without_bom_handling();
+        let mut text = begun(start, decoder.max_utf8_buffer_length_without_replacement(rest.len()));
+        let mut had_errors = false;
+        loop {
+            let (result, read, errors) = decoder.decode_to_string(rest, &mut text, true);
+            rest = &rest[read..];
+            had_errors |= errors;
+            if result == CoderResult::InputEmpty {
+                return (text, had_errors);
+            }
+            text.reserve(decoder.max_utf8_buffer_length(rest.len()).expect(TOO_LONG));
+        }
     }
 
     /// Decodes a whole input in this encoding, if nothing is malformed: else returns `None`. A byte order mark is
