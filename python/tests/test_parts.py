@@ -296,7 +296,7 @@ class Joins(unittest.TestCase):
     def test_random_inputs(self) -> None:
         chance = random.Random(21)
         seen = set()
-        for _ in range(150):
+        for _ in range(500):
             source, target = chance.choice(SOURCES), chance.choice(SOURCES + ["utf-16le"])
             data = input_of(chance, source)
             later = jillapun.part_encoding(data, source, target)
