@@ -227,7 +227,7 @@ def all_encodings_in_code():
 
 
 def all_kinds_in_code():
-    lines = ["/// All kinds, as they are listed above."]
+    lines = ["/// All kinds, in the order of the variants of `IndexKind`."]
     lines += array("ALL", "IndexKind", ["IndexKind::" + kind for kind in KINDS], "pub ")
     return ["    " + line for line in lines]
 

@@ -12,8 +12,8 @@
 //! character is. How a call cuts, waits, writes and stops is written and proved once for all rules.
 //!
 //! The sources stand in three folders: `mem` has the checks and conversions, `codec` what every
-//! decoder and encoder stands on, and `utf8` the codec of UTF-8. Callers name a module without its
-//! folder, as in `first_piece::DecoderRule`.
+//! decoder and encoder stands on, and `utf8` the codec of UTF-8. Callers name a module of `mem` or
+//! `codec` without its folder, as in `first_piece::DecoderRule`.
 //!
 //! # Use
 //!

@@ -50,7 +50,7 @@ pub enum IndexKind {
 
 impl IndexKind {
     // Written by tools/generate_encodings.py from tools/encodings.toml; do not edit.
-    /// All kinds, as they are listed above.
+    /// All kinds, in the order of the variants of `IndexKind`.
     pub const ALL: [IndexKind; 34] = [
         IndexKind::Ibm866,
         IndexKind::Iso8859_2,
