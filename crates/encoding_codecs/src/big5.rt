@@ -2,6 +2,7 @@
 
 ghost use Rattle.std.specs.Prelude.{◌≡◌, ◌+◌, ◌-◌, ◌*◌, ◌/◌, ◌%◌, ◌<◌, [], true, IfSome};
 ghost use Rattle.encoding_mem.specs.calls.Decoding.{IsFreshDecoder};
+ghost use Rattle.encoding_mem.specs.calls.Resuming.{resumed_plain};
 ghost use Rattle.encoding_mem.specs.calls.DecodedLength.{decoded_length_multibyte};
 ghost use Rattle.encoding_mem.specs.calls.EncoderRule.{IsFreshEncoder};
 ghost use Rattle.encoding_mem.specs.calls.EncodedLength.{encoded_length_two_byte};
@@ -27,6 +28,7 @@ use encoding_mem::encode::StatelessRule;
 use encoding_mem::first_piece::{FirstPiece, cut_short};
 use encoding_mem::form::{Bytes, Form};
 use encoding_mem::room::EncodedLength;
+use encoding_mem::sink_decoder::SinkDecoder;
 use encoding_mem::source_encoder::SourceEncoder;
 use encoding_tables::{Flat, IndexKind, Tables};
 
@@ -140,8 +142,11 @@ impl<'a> CodecDecoder<LeadByteDecoderRule<Big5<'a>>> {
     /// `Tables::has`.
     pub fn new(tables: &'a Tables) -> Self
         requires { has tables.now IndexKind.Big5 ≡ true }
-        ensures { IsFreshDecoder (⟦<Big5Decoder<'a> as RawDecoder>⟧.state result)
+        ensures fresh { IsFreshDecoder (⟦<Big5Decoder<'a> as RawDecoder>⟧.state result)
             (pieces_big5 (index_entries tables.now IndexKind.Big5)) decoded_length_multibyte }
+        ensures resumed { ⟦<Big5Decoder<'a> as SinkDecoder>⟧.resumed result
+            ≡ resumed_plain (pieces_big5 (index_entries tables.now IndexKind.Big5))
+            decoded_length_multibyte }
     {
         CodecDecoder::of_rule(LeadByteDecoderRule::new(Big5 {
             flat: tables.flat(IndexKind::Big5),

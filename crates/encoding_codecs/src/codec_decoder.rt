@@ -1,10 +1,13 @@
 //! The one type of this crate's decoders, with the rule of each encoding inside.
 
+ghost use Rattle.std.specs.Prelude.{◌≡◌};
 ghost use Rattle.encoding_mem.specs.calls.Decoding.{IsFreshDecoder, ReadsByRule};
+ghost use Rattle.encoding_mem.specs.calls.Resuming.{resumed_by};
 
 use encoding_mem::DecoderResult;
 use encoding_mem::first_piece::DecoderRule;
 use encoding_mem::room::DecodedLength;
+use encoding_mem::saved_pieces::SavedPieces;
 use encoding_mem::sink::Sink;
 use encoding_mem::sink_decoder::{Buffered, SinkDecoder};
 
@@ -18,8 +21,10 @@ pub struct CodecDecoder<R: DecoderRule> {
 impl<R: DecoderRule> CodecDecoder<R> {
     // Nothing is pending.
     pub(crate) fn of_rule(rule: R) -> Self
-        ensures { IsFreshDecoder (⟦<CodecDecoder<R> as SinkDecoder>⟧.state result)
+        ensures fresh { IsFreshDecoder (⟦<CodecDecoder<R> as SinkDecoder>⟧.state result)
             (R.pieces rule) (R.limits rule) }
+        ensures resumed { ⟦<CodecDecoder<R> as SinkDecoder>⟧.resumed result
+            ≡ resumed_by R.pieces R.needs R.limits R.in_mode rule }
     {
         CodecDecoder {
             inner: Buffered::new(rule),
@@ -38,6 +43,8 @@ impl<R: DecoderRule> CodecDecoder<R> {
 impl<R: DecoderRule> SinkDecoder for CodecDecoder<R> {
     ghost state = { λ d. ⟦<Buffered<R> as SinkDecoder>⟧.state d.inner };
 
+    ghost resumed = { λ d. ⟦<Buffered<R> as SinkDecoder>⟧.resumed d.inner };
+
     // A function for each encoding: all loops in one would take registers from each other.
     #[inline(never)]
     fn decode_into<S: Sink>(
@@ -55,5 +62,13 @@ impl<R: DecoderRule> SinkDecoder for CodecDecoder<R> {
 
     fn room(&self) -> DecodedLength {
         self.inner.room()
+    }
+
+    fn saved(&self) -> SavedPieces {
+        self.inner.saved()
+    }
+
+    fn resume(&mut self, saved: SavedPieces) {
+        self.inner.resume(saved)
     }
 }

@@ -2,6 +2,7 @@
 
 ghost use Rattle.std.specs.Prelude.{◌≡◌, ◌≢◌, ◌<◌, true};
 ghost use Rattle.encoding_mem.specs.calls.Decoding.{IsFreshDecoder};
+ghost use Rattle.encoding_mem.specs.calls.Resuming.{resumed_plain};
 ghost use Rattle.encoding_mem.specs.calls.DecodedLength.{decoded_length_multibyte};
 ghost use Rattle.encoding_mem.specs.calls.EncoderRule.{IsFreshEncoder};
 ghost use Rattle.encoding_mem.specs.calls.EncodedLength.{encoded_length_two_byte};
@@ -24,6 +25,7 @@ use encoding_mem::encode::StatelessRule;
 use encoding_mem::first_piece::{FirstPiece, cut_short};
 use encoding_mem::form::{Bytes, Form};
 use encoding_mem::room::EncodedLength;
+use encoding_mem::sink_decoder::SinkDecoder;
 use encoding_mem::source_encoder::SourceEncoder;
 use encoding_tables::{Flat, IndexKind, Tables};
 
@@ -138,10 +140,13 @@ impl<'a> CodecDecoder<LeadByteDecoderRule<EucJpLeads<'a>>> {
     pub fn new(tables: &'a Tables) -> Self
         requires jis0208 { has tables.now IndexKind.Jis0208 ≡ true }
         requires jis0212 { has tables.now IndexKind.Jis0212 ≡ true }
-        ensures { IsFreshDecoder (⟦<EucJpDecoder<'a> as RawDecoder>⟧.state result)
+        ensures fresh { IsFreshDecoder (⟦<EucJpDecoder<'a> as RawDecoder>⟧.state result)
             (pieces_euc_jp (index_entries tables.now IndexKind.Jis0208)
             (index_entries tables.now IndexKind.Jis0212))
             decoded_length_multibyte }
+        ensures resumed { ⟦<EucJpDecoder<'a> as SinkDecoder>⟧.resumed result
+            ≡ resumed_plain (pieces_euc_jp (index_entries tables.now IndexKind.Jis0208)
+            (index_entries tables.now IndexKind.Jis0212)) decoded_length_multibyte }
     {
         CodecDecoder::of_rule(LeadByteDecoderRule::new(EucJpLeads {
             jis0208: tables.flat(IndexKind::Jis0208),

@@ -2,6 +2,7 @@
 
 ghost use Rattle.std.specs.Prelude.{◌≡◌, ◌+◌, ◌-◌, ◌*◌, ◌/◌, ◌%◌, ◌<◌, [], true};
 ghost use Rattle.encoding_mem.specs.calls.Decoding.{IsFreshDecoder};
+ghost use Rattle.encoding_mem.specs.calls.Resuming.{resumed_plain};
 ghost use Rattle.encoding_mem.specs.calls.DecodedLength.{decoded_length_multibyte};
 ghost use Rattle.encoding_mem.specs.calls.EncoderRule.{IsFreshEncoder};
 ghost use Rattle.encoding_mem.specs.calls.EncodedLength.{encoded_length_two_byte};
@@ -25,6 +26,7 @@ use encoding_mem::encode::StatelessRule;
 use encoding_mem::first_piece::{FirstPiece, cut_short};
 use encoding_mem::form::{Bytes, Form};
 use encoding_mem::room::EncodedLength;
+use encoding_mem::sink_decoder::SinkDecoder;
 use encoding_mem::source_encoder::SourceEncoder;
 use encoding_tables::{Flat, IndexKind, Tables};
 
@@ -87,8 +89,11 @@ impl<'a> CodecDecoder<LeadByteDecoderRule<EucKr<'a>>> {
     /// `Tables::has`.
     pub fn new(tables: &'a Tables) -> Self
         requires { has tables.now IndexKind.EucKr ≡ true }
-        ensures { IsFreshDecoder (⟦<EucKrDecoder<'a> as RawDecoder>⟧.state result)
+        ensures fresh { IsFreshDecoder (⟦<EucKrDecoder<'a> as RawDecoder>⟧.state result)
             (pieces_euc_kr (index_entries tables.now IndexKind.EucKr)) decoded_length_multibyte }
+        ensures resumed { ⟦<EucKrDecoder<'a> as SinkDecoder>⟧.resumed result
+            ≡ resumed_plain (pieces_euc_kr (index_entries tables.now IndexKind.EucKr))
+            decoded_length_multibyte }
     {
         CodecDecoder::of_rule(LeadByteDecoderRule::new(EucKr {
             flat: tables.flat(IndexKind::EucKr),

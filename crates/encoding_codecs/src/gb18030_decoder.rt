@@ -4,6 +4,7 @@
 ghost use Rattle.std.specs.Prelude.{◌≡◌, ◌≤◌, ◌||◌, true};
 ghost use Rattle.std.specs.Int.{IsInRange, is_in_range};
 ghost use Rattle.encoding_mem.specs.calls.Decoding.{IsFreshDecoder};
+ghost use Rattle.encoding_mem.specs.calls.Resuming.{resumed_plain};
 ghost use Rattle.encoding_mem.specs.calls.DecodedLength.{decoded_length_multibyte};
 ghost use Rattle.encoding_tables.specs.IndexLists.{has, index_entries, range_rows};
 ghost use Rattle.encoding_codecs.specs.Gb18030.{gb18030_first, gb18030_pair, gb18030_pair_pointer};
@@ -18,6 +19,7 @@ use crate::lead_byte_rule::{FirstByte, LeadByteDecoderRule, LeadByteRule};
 use crate::two_byte::{PairValue, decide_trail, value_of_entry};
 use encoding_mem::RawDecoder;
 use encoding_mem::first_piece::{FirstPiece, cut_short};
+use encoding_mem::sink_decoder::SinkDecoder;
 use encoding_tables::{Flat, IndexKind, Ranges, Tables};
 
 /// The rule by which `Gb18030Decoder` decodes: the leads of gb18030, and what its tables make of
@@ -203,9 +205,12 @@ impl<'a> CodecDecoder<LeadByteDecoderRule<Gb18030Rule<'a>>> {
     pub fn new(tables: &'a Tables) -> Self
         requires index { has tables.now IndexKind.Gb18030 ≡ true }
         requires ranges { has tables.now IndexKind.Gb18030Ranges ≡ true }
-        ensures { IsFreshDecoder (⟦<Gb18030Decoder<'a> as RawDecoder>⟧.state result)
+        ensures fresh { IsFreshDecoder (⟦<Gb18030Decoder<'a> as RawDecoder>⟧.state result)
             (pieces_gb18030 (index_entries tables.now IndexKind.Gb18030) (range_rows tables.now))
             decoded_length_multibyte }
+        ensures resumed { ⟦<Gb18030Decoder<'a> as SinkDecoder>⟧.resumed result
+            ≡ resumed_plain (pieces_gb18030 (index_entries tables.now IndexKind.Gb18030)
+            (range_rows tables.now)) decoded_length_multibyte }
     {
         CodecDecoder::of_rule(LeadByteDecoderRule::new(Gb18030Rule {
             index: tables.flat(IndexKind::Gb18030),

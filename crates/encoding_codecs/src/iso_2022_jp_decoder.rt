@@ -13,6 +13,7 @@ ghost use Rattle.encoding_tables.specs.declared.index_kind.IndexKind.{IndexKind}
 ghost use Rattle.encoding_codecs.specs.Iso2022Jp.{escape_of, escape_at, ascii_piece};
 ghost use Rattle.encoding_codecs.specs.Iso2022Jp.{katakana_piece, pieces_in_mode};
 ghost use Rattle.encoding_codecs.specs.Iso2022Jp.{pieces_iso_2022_jp, IsNeutral};
+ghost use Rattle.encoding_codecs.specs.calls.Iso2022JpModes.{mode_at, resumed_iso_2022_jp};
 ghost use Rattle.encoding_codecs.specs.laws.Iso2022JpDecide.{escape_first_piece, char_first_piece};
 ghost use Rattle.encoding_codecs.specs.laws.Iso2022JpDecide.{jis_pair_first_piece};
 ghost use Rattle.encoding_codecs.specs.laws.Iso2022JpDecide.{first_piece_iso_2022_jp, mode_after};
@@ -25,6 +26,7 @@ use crate::codec_decoder::CodecDecoder;
 use encoding_mem::ascii::ascii_prefix;
 use encoding_mem::first_piece::{DecoderRule, FirstPiece};
 use encoding_mem::room::DecodedLength;
+use encoding_mem::sink_decoder::SinkDecoder;
 use encoding_mem::{RawDecoder, iso_2022_jp_ascii_valid_up_to};
 use encoding_tables::{Flat, IndexKind, Tables};
 
@@ -74,6 +76,10 @@ impl<'a> DecoderRule for Iso2022JpRule<'a> {
 
     ghost steady = { λ _ _. refl };
 
+    ghost in_mode = { λ s number. record s { mode = mode_at number } };
+
+    ghost modes_stay = { λ _ _. refl };
+
     #[inline(always)]
     fn first_piece(&self, bytes: &[u8], last: bool) -> FirstPiece {
         decide(&self.jis0208.flat, self.mode, bytes, last)
@@ -102,6 +108,38 @@ impl<'a> DecoderRule for Iso2022JpRule<'a> {
 
     fn room(&self) -> DecodedLength {
         DecodedLength::multibyte()
+    }
+
+    fn mode(&self) -> u8 {
+        mode_number(self.mode)
+    }
+
+    fn enter_mode(&mut self, mode: u8) {
+        self.mode = mode_at(mode);
+    }
+}
+
+// The number by which a mode is saved.
+fn mode_number(mode: Mode) -> u8
+    ensures { mode_at result ≡ mode }
+{
+    match mode {
+        Mode::Ascii => 0,
+        Mode::Roman => 1,
+        Mode::Katakana => 2,
+        Mode::Jis => 3,
+    }
+}
+
+// The mode with a number: ASCII, if no other has it.
+fn mode_at(number: u8) -> Mode
+    ensures { result ≡ mode_at number }
+{
+    match number {
+        1 => Mode::Roman,
+        2 => Mode::Katakana,
+        3 => Mode::Jis,
+        _ => Mode::Ascii,
     }
 }
 
@@ -323,9 +361,11 @@ impl<'a> CodecDecoder<Iso2022JpRule<'a>> {
     /// by `Tables::has`.
     pub fn new(tables: &'a Tables) -> Self
         requires { has tables.now IndexKind.Jis0208 ≡ true }
-        ensures { IsFreshDecoder (⟦<Iso2022JpDecoder<'a> as RawDecoder>⟧.state result)
+        ensures fresh { IsFreshDecoder (⟦<Iso2022JpDecoder<'a> as RawDecoder>⟧.state result)
             (pieces_iso_2022_jp (index_entries tables.now IndexKind.Jis0208))
             decoded_length_multibyte }
+        ensures resumed { ⟦<Iso2022JpDecoder<'a> as SinkDecoder>⟧.resumed result
+            ≡ resumed_iso_2022_jp (index_entries tables.now IndexKind.Jis0208) }
     {
         CodecDecoder::of_rule(Iso2022JpRule {
             jis0208: Jis0208 {

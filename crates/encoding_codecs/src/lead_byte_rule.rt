@@ -85,6 +85,10 @@ impl<T: LeadByteRule> DecoderRule for LeadByteDecoderRule<T> {
 
     ghost steady = { λ _ _. refl };
 
+    ghost in_mode = { λ s _. s };
+
+    ghost modes_stay = { λ _ _. refl };
+
     #[inline(always)]
     fn first_piece(&self, bytes: &[u8], last: bool) -> FirstPiece {
         match bytes {
@@ -114,6 +118,12 @@ impl<T: LeadByteRule> DecoderRule for LeadByteDecoderRule<T> {
     fn room(&self) -> DecodedLength {
         DecodedLength::multibyte()
     }
+
+    fn mode(&self) -> u8 {
+        0
+    }
+
+    fn enter_mode(&mut self, _mode: u8) {}
 }
 
 impl<T: LeadByteRule> CodecDecoder<LeadByteDecoderRule<T>> {

@@ -2,6 +2,7 @@
 
 ghost use Rattle.std.specs.Prelude.{◌≡◌, ◌+◌, ◌<◌, ◌≤◌, true, IfSome};
 ghost use Rattle.encoding_mem.specs.calls.Decoding.{IsFreshDecoder};
+ghost use Rattle.encoding_mem.specs.calls.Resuming.{resumed_plain};
 ghost use Rattle.encoding_mem.specs.calls.DecodedLength.{decoded_length_multibyte};
 ghost use Rattle.encoding_mem.specs.calls.EncoderRule.{IsFreshEncoder};
 ghost use Rattle.encoding_mem.specs.calls.EncodedLength.{encoded_length_two_byte};
@@ -30,6 +31,7 @@ use encoding_mem::first_piece::{FirstPiece, cut_short};
 use encoding_mem::form::{Bytes, Form};
 use encoding_mem::room::EncodedLength;
 use encoding_mem::scalar::scalar_of;
+use encoding_mem::sink_decoder::SinkDecoder;
 use encoding_mem::source_encoder::SourceEncoder;
 use encoding_tables::{Flat, IndexKind, Tables};
 
@@ -188,8 +190,11 @@ impl<'a> CodecDecoder<LeadByteDecoderRule<ShiftJis<'a>>> {
     /// `Tables::has`.
     pub fn new(tables: &'a Tables) -> Self
         requires { has tables.now IndexKind.Jis0208 ≡ true }
-        ensures { IsFreshDecoder (⟦<ShiftJisDecoder<'a> as RawDecoder>⟧.state result)
+        ensures fresh { IsFreshDecoder (⟦<ShiftJisDecoder<'a> as RawDecoder>⟧.state result)
             (pieces_shift_jis (index_entries tables.now IndexKind.Jis0208))
+            decoded_length_multibyte }
+        ensures resumed { ⟦<ShiftJisDecoder<'a> as SinkDecoder>⟧.resumed result
+            ≡ resumed_plain (pieces_shift_jis (index_entries tables.now IndexKind.Jis0208))
             decoded_length_multibyte }
     {
         CodecDecoder::of_rule(LeadByteDecoderRule::new(ShiftJis {

@@ -51,6 +51,7 @@ text_into v v' src last n V Z in_units free free' outcome had f e h = record {
   ends = subst (λ (k : ℕ). EndsWith v'.state (drop n src) last k (two_in in_units) (replacement_len in_units) (raw_result outcome)) e h.ends;
   source = h.source;
   finished = h.finished;
+  made = h.made;
 }
 
 pub scalars_into : (v v' : DecoderView) (src : List ℕ) (last : Bool) (n : ℕ) (V Z : List ℕ → Type 0) (in_units : Bool) (free free' : ℕ) (outcome : DecoderResult)
@@ -60,6 +61,7 @@ scalars_into v v' src last n V Z in_units free free' outcome f e h = record {
   ends = subst (λ (k : ℕ). EndsWith v'.state (drop n src) last k (two_in in_units) (replacement_len in_units) outcome) e h.ends;
   source = h.source;
   finished = h.finished;
+  made = h.made;
 }
 
 -- text that was added to nothing

@@ -6,3 +6,4 @@ pub mod BomLemmas
 pub mod DecoderCallLemmas
 pub mod DecodedLengthLemmas
 pub mod HexadecimalLemmas
+pub mod ResumedLemmas

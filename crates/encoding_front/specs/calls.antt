@@ -5,11 +5,13 @@ pub mod Seeking
 pub mod BomDecoderState
 pub mod TakesMark
 pub mod Latin1Prefix
+pub mod Resumed
 pub mod Stream
 pub mod RoomRules
 pub mod VariantDecoders
 pub mod DecodedText
 pub mod DecoderCall
 pub mod DecoderViews
+pub mod SavedDecoders
 pub mod OneShot
 pub mod ReportedCharacter

@@ -8,3 +8,4 @@ pub mod Seeking
 pub mod Stream
 pub mod RoomRules
 pub mod ReportedCharacter
+pub mod SavedDecoders

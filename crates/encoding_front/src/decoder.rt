@@ -11,6 +11,7 @@ ghost use Rattle.encoding_mem.specs.calls.TextDestination.{Overwrites};
 ghost use Rattle.encoding_mem.specs.calls.Writing.{Adds, encode_utf16_all};
 ghost use Rattle.encoding_mem.specs.declared.codec.room.OutputUnit.TheVariants.{Units, Bytes};
 ghost use Rattle.encoding_mem.specs.declared.codec.room.OutputUnit.TheVariants.{Replaced};
+ghost use Rattle.encoding_tables.specs.IndexLists.{IndexLists};
 ghost use Rattle.encoding_front.specs.calls.BomDecoderState.{bom_decoder_state};
 ghost use Rattle.encoding_front.specs.calls.DecodedText.{NeverFull};
 ghost use Rattle.encoding_front.specs.calls.DecoderCall.{DecoderCall, IfRoomAsked, TextCall};
@@ -21,14 +22,15 @@ ghost use Rattle.encoding_front.specs.calls.Latin1Prefix.{latin1_rule};
 ghost use Rattle.encoding_front.specs.calls.Seeking.{find_mark, is_sought, mark_taken};
 ghost use Rattle.encoding_front.specs.calls.Stream.{IsNewDecoder, DecoderView, IsOpenedBy};
 ghost use Rattle.encoding_front.specs.calls.Stream.{TellsLatin1Prefix, ahead, encoding_after};
-ghost use Rattle.encoding_front.specs.calls.Stream.{finishes, greater_if, room_asked};
+ghost use Rattle.encoding_front.specs.calls.Stream.{IsMadeFrom, finishes, greater_if, room_asked};
 ghost use Rattle.encoding_front.specs.calls.TakesMark.{TakesMark};
-ghost use Rattle.encoding_front.specs.calls.VariantDecoders.{rule_of, state_of};
+ghost use Rattle.encoding_front.specs.calls.VariantDecoders.{resumed_of, rule_of, state_of};
 ghost use Rattle.encoding_front.specs.laws.Stream.{named_by, room_named, widest_by};
 ghost use Rattle.encoding_front.specs.declared.mark.Mark.{Mark};
 ghost use Rattle.encoding_front.specs.declared.seeking.BomMatch.{BomMatch};
 
 pub(crate) mod room_rule;
+pub(crate) mod saved_decoder;
 
 use crate::coder_result::CoderResult;
 use crate::encoder::fill_spare;
@@ -179,6 +181,7 @@ impl<'t> StreamDecoder for Decoder<'t> {
         pending = (state_of d.inner).pending;
       };
       own = state_of d.inner;
+      resumed = resumed_of d.inner;
       finished = d.is_finished;
     } };
 
@@ -251,6 +254,8 @@ impl<'t> Decoder<'t> {
         ensures source { (r : List ℕ) → (IsTrue last → r ≡ [])
             → (decoder_view self.old).source (src.now ++ r) ≡ (decoder_view self.new).source r }
         ensures finished { (decoder_view self.new).finished ≡ (decoder_view self.old).finished }
+        ensures made { (t : IndexLists) → IsMadeFrom t (decoder_view self.old)
+            → IsMadeFrom t (decoder_view self.new) }
     {
         if !self.sought.is_any() {
             return Some(0);

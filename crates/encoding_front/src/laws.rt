@@ -31,6 +31,7 @@ ghost use Rattle.encoding_front.specs.Encodings.{is_ascii_compatible_of};
 ghost use Rattle.encoding_front.specs.Encodings.{output_encoding_of, pieces_of};
 ghost use Rattle.encoding_front.specs.Encodings.{set_pieces_of};
 ghost use Rattle.encoding_front.specs.Marks.{marked_pieces, marked_text, source_of};
+ghost use Rattle.encoding_front.specs.calls.SavedDecoders.{ReadsAlike};
 ghost use Rattle.encoding_front.specs.calls.Stream.{DecoderView};
 ghost use Rattle.encoding_front.specs.declared.coder_result.CoderResult.{CoderResult};
 ghost use Rattle.encoding_front.specs.declared.mark.Mark.{Mark};
@@ -188,6 +189,21 @@ pub fn last_calls_write_all_text()
         → (there : Destination) (left : RoomLeft)
         → DecoderCall v v' src true read (HasText there) left DecoderResult.InputEmpty
         → AreWellFormed (v.state.pieces src) }
+{}
+
+/// A call of a decoder that reads alike, as one that goes on from what was saved
+/// (`Decoder::resumed`), is a call of the decoder that was saved: all that was said of this one's
+/// pieces, text and encoding holds of what both read together.
+pub fn resumed_decoders_go_on()
+    ensures reported { (v u after : DecoderView) (src : List ℕ) (last : Bool) (read : ℕ)
+        → (there : Destination) (free room mark : ℕ) (outcome : DecoderResult) → ReadsAlike v u
+        → DecoderCall u after src last read (HasText there) free room mark outcome
+        → DecoderCall v after src last read (HasText there) free room mark outcome }
+    ensures replaced { (v u after : DecoderView) (src : List ℕ) (last : Bool) (read : ℕ)
+        → (there : Destination) (free room mark : ℕ) (outcome : CoderResult) (had_errors : Bool)
+        → ReadsAlike v u
+        → TextCall u after src last read (HasText there) free room mark outcome had_errors
+        → TextCall v after src last read (HasText there) free room mark outcome had_errors }
 {}
 
 /// A last call of an encoder that read all wrote the bytes of the whole text, from the set that was

@@ -82,6 +82,7 @@ pub use constants::{
 };
 // end
 pub use decoder::room_rule::RoomRule;
+pub use decoder::saved_decoder::SavedDecoder;
 pub use decoder::{Decoder, StreamDecoder};
 pub use encoder::Encoder;
 pub use encoding::Encoding;

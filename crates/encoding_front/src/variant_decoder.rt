@@ -2,11 +2,15 @@
 
 ghost use Rattle.std.specs.Prelude.{◌≡◌, ◌+◌, ◌<◌, ◌≤◌, length};
 ghost use Rattle.encoding_mem.specs.calls.Decoding.{StateCall, sink_room};
+ghost use Rattle.encoding_mem.specs.calls.Resuming.{HoldsFew, reading_of, saved_pending};
+ghost use Rattle.encoding_tables.specs.IndexLists.{IndexLists};
 ghost use Rattle.encoding_front.specs.calls.BomDecoderState.{held_state};
 ghost use Rattle.encoding_front.specs.Encodings.{IsReady, pieces_of};
 ghost use Rattle.encoding_front.specs.calls.CodecBounds.{decoded_length_of};
 ghost use Rattle.encoding_front.specs.calls.Latin1Prefix.{TellsLatin1, latin1_rule};
+ghost use Rattle.encoding_front.specs.calls.Resumed.{resumed_in};
 ghost use Rattle.encoding_front.specs.calls.Seeking.{encoding_of_mark, pieces_after_mark};
+ghost use Rattle.encoding_front.specs.calls.Stream.{encoding_after};
 ghost use Rattle.encoding_front.specs.declared.variant_decoder.VariantDecoder.TheVariants as variant;
 
 use crate::codec_kind::CodecKind;
@@ -17,6 +21,7 @@ use encoding_codecs::{
 };
 use encoding_mem::pending::Pending;
 use encoding_mem::room::DecodedLength;
+use encoding_mem::saved_pieces::SavedPieces;
 use encoding_mem::sink::Sink;
 use encoding_mem::sink_decoder::SinkDecoder;
 use encoding_mem::{
@@ -75,7 +80,7 @@ macro_rules! dispatch {
 }
 
 impl<'t> VariantDecoder<'t> {
-    ghost use Rattle.encoding_front.specs.calls.VariantDecoders.{rule_of, state_of};
+    ghost use Rattle.encoding_front.specs.calls.VariantDecoders.{resumed_of, rule_of, state_of};
 
     /// A decoder of a new stream in `encoding`, with nothing pending.
     ///
@@ -87,6 +92,7 @@ impl<'t> VariantDecoder<'t> {
         ensures pieces { (state_of result).pieces ≡ pieces_of tables.now encoding }
         ensures room { (state_of result).room ≡ decoded_length_of encoding }
         ensures rule { rule_of result ≡ latin1_rule encoding }
+        ensures resumed { resumed_of result ≡ resumed_in tables.now encoding }
     {
         match encoding.codec_kind() {
             CodecKind::Utf8 => VariantDecoder::Utf8(Utf8Decoder::new()),
@@ -111,11 +117,31 @@ impl<'t> VariantDecoder<'t> {
         ensures pieces { (state_of result).pieces ≡ pieces_after_mark mark }
         ensures room { (state_of result).room ≡ decoded_length_of (encoding_of_mark mark) }
         ensures rule { rule_of result ≡ latin1_rule (encoding_of_mark mark) }
+        ensures resumed { (t : IndexLists)
+            → resumed_of result ≡ resumed_in t (encoding_of_mark mark) }
     {
         match mark {
             ByteOrderMark::Utf8 => VariantDecoder::Utf8(Utf8Decoder::new()),
             ByteOrderMark::Utf16Be => VariantDecoder::Utf16(Utf16Decoder::new(true)),
             ByteOrderMark::Utf16Le => VariantDecoder::Utf16(Utf16Decoder::new(false)),
+        }
+    }
+
+    /// The decoder of what follows a byte order mark that was taken, or, if none was, of a new
+    /// stream in `encoding`. Nothing is pending.
+    pub(crate) fn new_after(
+        encoding: Encoding,
+        taken: Option<ByteOrderMark>,
+        tables: &'t Tables,
+    ) -> Self
+        requires { IsReady tables.now encoding }
+        ensures rule { rule_of result ≡ latin1_rule (encoding_after encoding taken) }
+        ensures resumed { resumed_of result
+            ≡ resumed_in tables.now (encoding_after encoding taken) }
+    {
+        match taken {
+            Some(mark) => VariantDecoder::after_mark(mark),
+            None => VariantDecoder::new(encoding, tables),
         }
     }
 
@@ -125,6 +151,7 @@ impl<'t> VariantDecoder<'t> {
             (λ text. S.writes sink.old text sink.new)
             (sink_room S.is_units S.free sink.old sink.new) result.0 }
         ensures rule { rule_of self.new ≡ rule_of self.old }
+        ensures resumed { resumed_of self.new ≡ resumed_of self.old }
     {
         dispatch!(self, decoder => decoder.decode_into(src, sink, last))
     }
@@ -143,6 +170,7 @@ impl<'t> VariantDecoder<'t> {
             (λ text. S.writes sink.old text sink.new)
             (sink_room S.is_units S.free sink.old sink.new) result.0 }
         ensures rule { rule_of self.new ≡ rule_of self.old }
+        ensures resumed { resumed_of self.new ≡ resumed_of self.old }
         ensures few { 0 < length held.new → (state_of self.new).pending + length held.new ≤ 2 }
     {
         if held.len() == 0 {
@@ -157,6 +185,17 @@ impl<'t> VariantDecoder<'t> {
                 (DecoderResult::Malformed(a, b + held.len() as u8), 0)
             }
         }
+    }
+
+    /// The call `resume`. The rule stays as it is.
+    pub(crate) fn resume_on(&mut self, saved: SavedPieces)
+        requires { HoldsFew (resumed_of self.old saved.mode (saved_pending saved)) }
+        ensures same { reading_of (state_of self.new)
+            ≡ resumed_of self.old saved.mode (saved_pending saved) }
+        ensures rule { rule_of self.new ≡ rule_of self.old }
+        ensures resumed { resumed_of self.new ≡ resumed_of self.old }
+    {
+        dispatch!(self, decoder => decoder.resume(saved))
     }
 
     /// How far bytes that follow are their characters in Latin1; none if something is pending or a
@@ -200,6 +239,20 @@ impl<'t> SinkDecoder for VariantDecoder<'t> {
       | variant.Replacement d ↦ ⟦<ReplacementDecoder as SinkDecoder>⟧.state d
     ] };
 
+    ghost resumed = { elim [
+      | variant.Utf8 d ↦ ⟦<Utf8Decoder as SinkDecoder>⟧.resumed d
+      | variant.SingleByte d ↦ ⟦<SingleByteDecoder<'t> as SinkDecoder>⟧.resumed d
+      | variant.Big5 d ↦ ⟦<Big5Decoder<'t> as SinkDecoder>⟧.resumed d
+      | variant.EucKr d ↦ ⟦<EucKrDecoder<'t> as SinkDecoder>⟧.resumed d
+      | variant.EucJp d ↦ ⟦<EucJpDecoder<'t> as SinkDecoder>⟧.resumed d
+      | variant.ShiftJis d ↦ ⟦<ShiftJisDecoder<'t> as SinkDecoder>⟧.resumed d
+      | variant.Gb18030 d ↦ ⟦<Gb18030Decoder<'t> as SinkDecoder>⟧.resumed d
+      | variant.Iso2022Jp d ↦ ⟦<Iso2022JpDecoder<'t> as SinkDecoder>⟧.resumed d
+      | variant.UserDefined d ↦ ⟦<UserDefinedDecoder as SinkDecoder>⟧.resumed d
+      | variant.Utf16 d ↦ ⟦<Utf16Decoder as SinkDecoder>⟧.resumed d
+      | variant.Replacement d ↦ ⟦<ReplacementDecoder as SinkDecoder>⟧.resumed d
+    ] };
+
     fn decode_into<S: Sink>(
         &mut self,
         src: &[u8],
@@ -215,5 +268,13 @@ impl<'t> SinkDecoder for VariantDecoder<'t> {
 
     fn room(&self) -> DecodedLength {
         dispatch!(self, decoder => decoder.room())
+    }
+
+    fn saved(&self) -> SavedPieces {
+        dispatch!(self, decoder => decoder.saved())
+    }
+
+    fn resume(&mut self, saved: SavedPieces) {
+        self.resume_on(saved)
     }
 }

@@ -2,6 +2,7 @@
 pub mod Decoding
 pub mod DecoderRule
 pub mod Driver
+pub mod Resuming
 pub mod EncoderRule
 pub mod EncoderCalls
 pub mod DecodedLength

@@ -12,6 +12,7 @@ pub mod raw_decoder;
 pub mod raw_encoder;
 pub mod reference;
 pub mod room;
+pub mod saved_pieces;
 pub mod scalar;
 pub mod sink;
 pub mod sink_decoder;

@@ -46,8 +46,8 @@ pub use codec::utf8_sink::Utf8Sink;
 pub use codec::utf16_sink::Utf16Sink;
 pub use codec::{
     bytewise, decoder_result, encode, encoder_result, first_piece, form, pending, raw_decoder,
-    raw_encoder, reference, room, scalar, sink, sink_decoder, source, source_encoder, utf8_sink,
-    utf16_sink,
+    raw_encoder, reference, room, saved_pieces, scalar, sink, sink_decoder, source, source_encoder,
+    utf8_sink, utf16_sink,
 };
 pub use mem::ascii_copies::{
     copy_ascii_to_ascii, copy_ascii_to_basic_latin, copy_basic_latin_to_ascii,

@@ -3,3 +3,4 @@ pub mod Slots
 pub mod PackedLists
 pub mod SortedRows
 pub mod EntryCounts
+pub mod ReplacementModes

@@ -2,10 +2,12 @@
 
 ghost use Rattle.std.specs.Prelude.{◌≡◌};
 ghost use Rattle.encoding_mem.specs.calls.Decoding.{IsFreshDecoder};
+ghost use Rattle.encoding_mem.specs.calls.Resuming.{resumed_by, with_none_pending};
 
 use encoding_mem::DecoderResult;
 use encoding_mem::bytewise::{Bytewise, DecidedPiece};
 use encoding_mem::room::DecodedLength;
+use encoding_mem::saved_pieces::SavedPieces;
 use encoding_mem::sink::Sink;
 use encoding_mem::sink_decoder::SinkDecoder;
 
@@ -19,8 +21,10 @@ pub struct EachByteDecoder<R: DecidedPiece> {
 
 impl<R: DecidedPiece> EachByteDecoder<R> {
     pub(crate) fn of_rule(rule: R) -> Self
-        ensures { IsFreshDecoder (⟦<EachByteDecoder<R> as SinkDecoder>⟧.state result)
+        ensures fresh { IsFreshDecoder (⟦<EachByteDecoder<R> as SinkDecoder>⟧.state result)
             (R.pieces rule) (R.limits rule) }
+        ensures resumed { ⟦<EachByteDecoder<R> as SinkDecoder>⟧.resumed result
+            ≡ with_none_pending (resumed_by R.pieces R.needs R.limits R.in_mode rule) }
     {
         EachByteDecoder {
             inner: Bytewise::new(rule),
@@ -39,6 +43,8 @@ impl<R: DecidedPiece> EachByteDecoder<R> {
 impl<R: DecidedPiece> SinkDecoder for EachByteDecoder<R> {
     ghost state = { λ d. ⟦<Bytewise<R> as SinkDecoder>⟧.state d.inner };
 
+    ghost resumed = { λ d. ⟦<Bytewise<R> as SinkDecoder>⟧.resumed d.inner };
+
     #[inline(never)]
     fn decode_into<S: Sink>(
         &mut self,
@@ -55,5 +61,13 @@ impl<R: DecidedPiece> SinkDecoder for EachByteDecoder<R> {
 
     fn room(&self) -> DecodedLength {
         self.inner.room()
+    }
+
+    fn saved(&self) -> SavedPieces {
+        self.inner.saved()
+    }
+
+    fn resume(&mut self, saved: SavedPieces) {
+        self.inner.resume(saved)
     }
 }

@@ -2,9 +2,12 @@
 //! decoder").
 
 ghost use Rattle.std.proofs.Common.{refl};
+ghost use Rattle.std.specs.Prelude.{◌≡◌};
 ghost use Rattle.encoding_mem.specs.laws.Pieces.{pieces_in-nil, pieces_in-whole};
 ghost use Rattle.encoding_mem.specs.laws.Pieces.{pieces_in-are_pieces};
 ghost use Rattle.encoding_mem.specs.calls.Decoding.{IsFreshDecoder};
+ghost use Rattle.encoding_tables.specs.calls.ReplacementModes.{is_error_returned};
+ghost use Rattle.encoding_tables.specs.calls.ReplacementModes.{resumed_replacement};
 ghost use Rattle.encoding_mem.specs.calls.DecodedLength.{decoded_length_replacement};
 ghost use Rattle.encoding_mem.specs.laws.Shows.{decided_in};
 ghost use Rattle.encoding_tables.specs.Replacement.{pieces_replacement};
@@ -18,6 +21,7 @@ use encoding_mem::RawDecoder;
 use encoding_mem::bytewise::DecidedPiece;
 use encoding_mem::first_piece::{DecoderRule, FirstPiece};
 use encoding_mem::room::DecodedLength;
+use encoding_mem::sink_decoder::SinkDecoder;
 
 /// The rule by which `ReplacementDecoder` decodes: one error, and no text.
 #[derive(Clone, Copy)]
@@ -44,6 +48,10 @@ impl DecoderRule for ReplacementRule {
 
     ghost steady = { λ _ _. refl };
 
+    ghost in_mode = { λ s mode. record s { error_returned = is_error_returned mode } };
+
+    ghost modes_stay = { λ _ _. refl };
+
     fn first_piece(&self, _bytes: &[u8], _last: bool) -> FirstPiece {
         if self.error_returned {
             FirstPiece::Ignored(1)
@@ -63,6 +71,14 @@ impl DecoderRule for ReplacementRule {
     fn room(&self) -> DecodedLength {
         DecodedLength::replacement()
     }
+
+    fn mode(&self) -> u8 {
+        if self.error_returned { 1 } else { 0 }
+    }
+
+    fn enter_mode(&mut self, mode: u8) {
+        self.error_returned = mode == 1;
+    }
 }
 
 impl DecidedPiece for ReplacementRule {
@@ -77,8 +93,10 @@ pub type ReplacementDecoder = EachByteDecoder<ReplacementRule>;
 impl EachByteDecoder<ReplacementRule> {
     /// A decoder of a new stream.
     pub fn new() -> Self
-        ensures { IsFreshDecoder (⟦<ReplacementDecoder as RawDecoder>⟧.state result)
+        ensures fresh { IsFreshDecoder (⟦<ReplacementDecoder as RawDecoder>⟧.state result)
             pieces_replacement decoded_length_replacement }
+        ensures resumed { ⟦<ReplacementDecoder as SinkDecoder>⟧.resumed result
+            ≡ resumed_replacement }
     {
         EachByteDecoder::of_rule(ReplacementRule {
             error_returned: false,

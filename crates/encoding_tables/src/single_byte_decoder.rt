@@ -7,6 +7,7 @@ ghost use Rattle.std.specs.List.{position};
 ghost use Rattle.encoding_mem.specs.laws.Pieces.{pieces_by-nil, pieces_by-whole};
 ghost use Rattle.encoding_mem.specs.laws.Pieces.{pieces_by-are_pieces};
 ghost use Rattle.encoding_mem.specs.calls.Decoding.{IsFreshDecoder};
+ghost use Rattle.encoding_mem.specs.calls.Resuming.{resumed_plain, with_none_pending};
 ghost use Rattle.encoding_mem.specs.calls.DecodedLength.{decoded_length};
 ghost use Rattle.encoding_mem.specs.calls.DecodedLength.{decoded_length_single_byte};
 ghost use Rattle.encoding_mem.specs.laws.Shows.{decided_by};
@@ -28,6 +29,7 @@ use encoding_mem::ascii::longer_ascii_prefix;
 use encoding_mem::bytewise::DecidedPiece;
 use encoding_mem::first_piece::{DecoderRule, FirstPiece};
 use encoding_mem::room::DecodedLength;
+use encoding_mem::sink_decoder::SinkDecoder;
 
 /// The rule by which `SingleByteDecoder` decodes: each byte is a piece.
 #[derive(Drop)]
@@ -97,6 +99,10 @@ impl<'a> DecoderRule for SingleByteRule<'a> {
 
     ghost steady = { λ _ _. refl };
 
+    ghost in_mode = { λ s _. s };
+
+    ghost modes_stay = { λ _ _. refl };
+
     #[inline(always)]
     fn first_piece(&self, bytes: &[u8], _last: bool) -> FirstPiece {
         prefix_of(self.char_of(bytes[0]))
@@ -113,6 +119,12 @@ impl<'a> DecoderRule for SingleByteRule<'a> {
     fn room(&self) -> DecodedLength {
         DecodedLength::single_byte()
     }
+
+    fn mode(&self) -> u8 {
+        0
+    }
+
+    fn enter_mode(&mut self, _mode: u8) {}
 }
 
 impl<'a> DecidedPiece for SingleByteRule<'a> {
@@ -142,8 +154,11 @@ impl<'a> EachByteDecoder<SingleByteRule<'a>> {
     pub fn new(tables: &'a Tables, kind: IndexKind) -> Self
         requires there { has tables.now kind ≡ true }
         requires single { is_single_byte_kind kind ≡ true }
-        ensures { IsFreshDecoder (⟦<SingleByteDecoder<'a> as RawDecoder>⟧.state result)
+        ensures fresh { IsFreshDecoder (⟦<SingleByteDecoder<'a> as RawDecoder>⟧.state result)
             (pieces_single_byte (index_entries tables.now kind)) decoded_length_single_byte }
+        ensures resumed { ⟦<SingleByteDecoder<'a> as SinkDecoder>⟧.resumed result
+            ≡ with_none_pending (resumed_plain (pieces_single_byte (index_entries tables.now kind))
+            decoded_length_single_byte) }
     {
         EachByteDecoder::of_rule(SingleByteRule {
             flat: tables.single_byte(kind),

@@ -5,6 +5,7 @@ ghost use Rattle.std.specs.Prelude.{◌≡◌, ◌<◌, Some};
 ghost use Rattle.encoding_mem.specs.laws.Pieces.{pieces_by-nil, pieces_by-whole};
 ghost use Rattle.encoding_mem.specs.laws.Pieces.{pieces_by-are_pieces};
 ghost use Rattle.encoding_mem.specs.calls.Decoding.{IsFreshDecoder};
+ghost use Rattle.encoding_mem.specs.calls.Resuming.{resumed_plain, with_none_pending};
 ghost use Rattle.encoding_mem.specs.calls.DecodedLength.{decoded_length};
 ghost use Rattle.encoding_mem.specs.calls.DecodedLength.{decoded_length_single_byte};
 ghost use Rattle.encoding_mem.specs.laws.Shows.{decided_by};
@@ -18,6 +19,7 @@ use encoding_mem::ascii::longer_ascii_prefix;
 use encoding_mem::bytewise::DecidedPiece;
 use encoding_mem::first_piece::{DecoderRule, FirstPiece};
 use encoding_mem::room::DecodedLength;
+use encoding_mem::sink_decoder::SinkDecoder;
 
 /// The rule by which `UserDefinedDecoder` decodes: each byte is a character.
 #[derive(Clone, Copy)]
@@ -42,6 +44,10 @@ impl DecoderRule for UserDefinedRule {
 
     ghost steady = { λ _ _. refl };
 
+    ghost in_mode = { λ s _. s };
+
+    ghost modes_stay = { λ _ _. refl };
+
     fn first_piece(&self, bytes: &[u8], _last: bool) -> FirstPiece {
         FirstPiece::One(char_of(bytes[0]), 1)
     }
@@ -55,6 +61,12 @@ impl DecoderRule for UserDefinedRule {
     fn room(&self) -> DecodedLength {
         DecodedLength::single_byte()
     }
+
+    fn mode(&self) -> u8 {
+        0
+    }
+
+    fn enter_mode(&mut self, _mode: u8) {}
 }
 
 impl DecidedPiece for UserDefinedRule {
@@ -81,8 +93,10 @@ pub type UserDefinedDecoder = EachByteDecoder<UserDefinedRule>;
 impl EachByteDecoder<UserDefinedRule> {
     /// A decoder of a new stream.
     pub fn new() -> Self
-        ensures { IsFreshDecoder (⟦<UserDefinedDecoder as RawDecoder>⟧.state result)
+        ensures fresh { IsFreshDecoder (⟦<UserDefinedDecoder as RawDecoder>⟧.state result)
             pieces_user_defined decoded_length_single_byte }
+        ensures resumed { ⟦<UserDefinedDecoder as SinkDecoder>⟧.resumed result
+            ≡ with_none_pending (resumed_plain pieces_user_defined decoded_length_single_byte) }
     {
         EachByteDecoder::of_rule(UserDefinedRule {})
     }

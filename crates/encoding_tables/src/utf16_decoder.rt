@@ -7,6 +7,7 @@ ghost use Rattle.std.specs.Char.Utf16.{is_high_surrogate, is_low_surrogate, surr
 ghost use Rattle.encoding_mem.specs.laws.Pieces.{pieces_by-nil, pieces_by-whole};
 ghost use Rattle.encoding_mem.specs.laws.Pieces.{pieces_by-are_pieces};
 ghost use Rattle.encoding_mem.specs.calls.Decoding.{IsFreshDecoder};
+ghost use Rattle.encoding_mem.specs.calls.Resuming.{resumed_plain};
 ghost use Rattle.encoding_mem.specs.calls.DecodedLength.{decoded_length, decoded_length_utf16};
 ghost use Rattle.encoding_tables.specs.Utf16.{AreUnitsOf, unit_of, first_piece_utf16, pieces_utf16};
 ghost use Rattle.encoding_tables.specs.laws.Utf16Decide.{decide_utf16, decide_unit, decide_pair};
@@ -15,6 +16,7 @@ ghost use Rattle.encoding_tables.specs.laws.Utf16.{cuts_utf16};
 use encoding_mem::first::units_below;
 use encoding_mem::first_piece::{DecoderRule, FirstPiece, UNIT_RUN, cut_short};
 use encoding_mem::room::DecodedLength;
+use encoding_mem::saved_pieces::SavedPieces;
 use encoding_mem::scalar::scalar_of;
 use encoding_mem::sink::Sink;
 use encoding_mem::sink_decoder::{Buffered, SinkDecoder};
@@ -80,6 +82,10 @@ impl<E: ByteOrder> DecoderRule for Utf16Rule<E> {
 
     ghost steady = { λ _ _. refl };
 
+    ghost in_mode = { λ s _. s };
+
+    ghost modes_stay = { λ _ _. refl };
+
     #[inline(always)]
     fn first_piece(&self, bytes: &[u8], last: bool) -> FirstPiece {
         decide::<E>(bytes, last)
@@ -106,6 +112,12 @@ impl<E: ByteOrder> DecoderRule for Utf16Rule<E> {
     fn room(&self) -> DecodedLength {
         DecodedLength::utf16()
     }
+
+    fn mode(&self) -> u8 {
+        0
+    }
+
+    fn enter_mode(&mut self, _mode: u8) {}
 }
 
 // The units that the first bytes are.
@@ -207,6 +219,11 @@ impl SinkDecoder for Ordered {
       | Little d ↦ ⟦<Buffered<Utf16Rule<LittleEndian>> as SinkDecoder>⟧.state d
     ] };
 
+    ghost resumed = { elim [
+      | Big d ↦ ⟦<Buffered<Utf16Rule<BigEndian>> as SinkDecoder>⟧.resumed d
+      | Little d ↦ ⟦<Buffered<Utf16Rule<LittleEndian>> as SinkDecoder>⟧.resumed d
+    ] };
+
     #[inline(always)]
     fn decode_into<S: Sink>(
         &mut self,
@@ -233,6 +250,20 @@ impl SinkDecoder for Ordered {
             Ordered::Little(decoder) => decoder.room(),
         }
     }
+
+    fn saved(&self) -> SavedPieces {
+        match self {
+            Ordered::Big(decoder) => decoder.saved(),
+            Ordered::Little(decoder) => decoder.saved(),
+        }
+    }
+
+    fn resume(&mut self, saved: SavedPieces) {
+        match self {
+            Ordered::Big(decoder) => decoder.resume(saved),
+            Ordered::Little(decoder) => decoder.resume(saved),
+        }
+    }
 }
 
 /// The decoder of UTF-16BE and UTF-16LE (the Encoding Standard, section 14.2.1), which needs no
@@ -246,8 +277,10 @@ pub struct Utf16Decoder {
 impl Utf16Decoder {
     /// A decoder of a new stream of UTF-16BE if `big_endian` is true, and else of UTF-16LE.
     pub fn new(big_endian: bool) -> Self
-        ensures { IsFreshDecoder (⟦<Utf16Decoder as RawDecoder>⟧.state result)
+        ensures fresh { IsFreshDecoder (⟦<Utf16Decoder as RawDecoder>⟧.state result)
             (pieces_utf16 big_endian) decoded_length_utf16 }
+        ensures resumed { ⟦<Utf16Decoder as SinkDecoder>⟧.resumed result
+            ≡ resumed_plain (pieces_utf16 big_endian) decoded_length_utf16 }
     {
         let inner = if big_endian {
             Ordered::Big(Buffered::new(Utf16Rule {
@@ -273,6 +306,8 @@ impl Utf16Decoder {
 impl SinkDecoder for Utf16Decoder {
     ghost state = { λ d. ⟦<Ordered as SinkDecoder>⟧.state d.inner };
 
+    ghost resumed = { λ d. ⟦<Ordered as SinkDecoder>⟧.resumed d.inner };
+
     #[inline(never)]
     fn decode_into<S: Sink>(
         &mut self,
@@ -289,5 +324,13 @@ impl SinkDecoder for Utf16Decoder {
 
     fn room(&self) -> DecodedLength {
         self.inner.room()
+    }
+
+    fn saved(&self) -> SavedPieces {
+        self.inner.saved()
+    }
+
+    fn resume(&mut self, saved: SavedPieces) {
+        self.inner.resume(saved)
     }
 }

@@ -64,6 +64,7 @@ text_over v v' src last n old mid new w free outcome had puts size h = record {
   ends = subst (λ (k : ℕ). EndsWith v'.state (drop n src) last k (two_in false) (replacement_len false) (raw_result outcome)) size h.ends;
   source = h.source;
   finished = h.finished;
+  made = h.made;
 }
 
 scalars_over : (v v' : DecoderView) (src : List ℕ) (last : Bool) (n : ℕ) (old mid new : List ℕ) (w free : ℕ) (outcome : DecoderResult) → PutsOver mid new w
@@ -81,6 +82,7 @@ scalars_over v v' src last n old mid new w free outcome puts size h = record {
   ends = subst (λ (k : ℕ). EndsWith v'.state (drop n src) last k (two_in false) (replacement_len false) outcome) size h.ends;
   source = h.source;
   finished = h.finished;
+  made = h.made;
 }
 
 -- ---- of the decoder of a handle

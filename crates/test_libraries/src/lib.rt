@@ -27,4 +27,6 @@ mod programs;
 #[cfg(test)]
 mod reports;
 #[cfg(test)]
+mod saved;
+#[cfg(test)]
 mod writes;

@@ -6,8 +6,9 @@ use Rattle.encoding_mem.specs.calls.TextDestination.{Overwrites}
 use Rattle.encoding_mem.specs.calls.Writing.{Adds}
 use Rattle.encoding_mem.specs.declared.codec.decoder_result.DecoderResult.{DecoderResult}
 use Rattle.encoding_mem.specs.declared.codec.room.OutputUnit.{OutputUnit}
+use Rattle.encoding_tables.specs.IndexLists.{IndexLists}
 use Rattle.encoding_front.specs.calls.DecodedText.{TakesText, raw_result}
-use Rattle.encoding_front.specs.calls.Stream.{DecoderView, finishes, room_asked}
+use Rattle.encoding_front.specs.calls.Stream.{DecoderView, IsMadeFrom, finishes, room_asked}
 use Rattle.encoding_front.specs.declared.coder_result.CoderResult.{CoderResult}
 
 -- The room that is left after what a call wrote: whether it is counted in units of UTF-16, not in bytes of UTF-8, and
@@ -30,12 +31,14 @@ free_in_sink in_units free = record { in_units = in_units; free = free }
 
 -- Up to a malformed sequence: which pieces it took, whose scalars Writes says were written, and why it ended. How much
 -- has to be free for any character, and what U+FFFD takes, follows from what `left` counts (`two_in`,
--- `replacement_len`). The encoding that the input turns out to be in does not depend on how it is cut.
+-- `replacement_len`). The encoding that the input turns out to be in does not depend on how it is cut. It is still of
+-- the indexes that it was made from.
 pub record DecoderCall (before after : DecoderView) (src : List ℕ) (last : Bool) (read : ℕ) (Writes : List ℕ → Type 0) (left : RoomLeft) (outcome : DecoderResult) : Type 0 where
   pub law : StateLaw before.state after.state src last read Writes outcome
   pub ends : EndsWith after.state (drop read src) last left.free (two_in left.in_units) (replacement_len left.in_units) outcome
   pub source : (r : List ℕ) → (IsTrue last → r ≡ []) → before.source (src ++ r) ≡ after.source (drop read src ++ r)
   pub finished : after.finished ≡ finishes last outcome
+  pub made : (t : IndexLists) → IsMadeFrom t before → IsMadeFrom t after
 
 -- What a call that writes U+FFFD for each malformed sequence does, and why it ended.
 pub record TextCall (before after : DecoderView) (src : List ℕ) (last : Bool) (read : ℕ) (Writes : List ℕ → Type 0) (left : RoomLeft) (outcome : CoderResult) (had_errors : Bool) : Type 0 where
@@ -43,6 +46,7 @@ pub record TextCall (before after : DecoderView) (src : List ℕ) (last : Bool) 
   pub ends : EndsWith after.state (drop read src) last left.free (two_in left.in_units) (replacement_len left.in_units) (raw_result outcome)
   pub source : (r : List ℕ) → (IsTrue last → r ≡ []) → before.source (src ++ r) ≡ after.source (drop read src ++ r)
   pub finished : after.finished ≡ finishes last (raw_result outcome)
+  pub made : (t : IndexLists) → IsMadeFrom t before → IsMadeFrom t after
 
 -- a fact, if as much room is free as is asked for the text of so many bytes
 abbrev pub IfRoomAsked : DecoderView → OutputUnit → (size free : ℕ) → Type 0 → Type 0

@@ -1,6 +1,7 @@
 -- A decoder of a stream, as its callers know it.
 use Rattle.std.specs.Prelude.{◌≡◌, ℕ, ◌+◌, ◌||◌, ◌&&◌, nat_lt, Bool, true, false, if◌then◌else◌, IsTrue, Option, None, Some, List, [], ◌∷◌, ◌++◌, length}
 use Rattle.encoding_mem.specs.calls.Decoding.{DecoderState}
+use Rattle.encoding_mem.specs.calls.Resuming.{Reading}
 use Rattle.encoding_mem.specs.calls.DecodedLength.{queried, decoded_length_utf8, decoded_length_utf16}
 use Rattle.encoding_mem.specs.declared.codec.decoder_result.DecoderResult.{DecoderResult}
 use Rattle.encoding_mem.specs.declared.codec.decoder_result.DecoderResult.TheVariants.{InputEmpty, OutputFull, Malformed}
@@ -10,6 +11,7 @@ use Rattle.encoding_tables.specs.IndexLists.{IndexLists}
 use Rattle.encoding_front.specs.Encodings.{pieces_of}
 use Rattle.encoding_front.specs.calls.CodecBounds.{decoded_length_of}
 use Rattle.encoding_front.specs.calls.Latin1Prefix.{latin1_rule, IsAtRest, IsLatin1Prefix}
+use Rattle.encoding_front.specs.calls.Resumed.{resumed_in}
 use Rattle.encoding_front.specs.Marks.{marked_pieces, source_of}
 use Rattle.encoding_front.specs.calls.Seeking.{can_be, encoding_of_mark, find_mark, is_sought, mark_taken, sought_by, sought_pieces}
 use Rattle.encoding_front.specs.declared.encoding.Encoding.{Encoding}
@@ -67,12 +69,13 @@ finishes last outcome = last && is_input_empty outcome
 
 -- A decoder: the pieces of what is to come, the encoding that an input which goes on so turns out to be in, what the
 -- room that is enough depends on, the state of the decoder of the encoding in force, without marks and without what is
--- held, and whether it came to its end.
+-- held, how that one reads if a mode, by its number, and pending bytes are resumed, and whether it came to its end.
 pub record DecoderView : Type 0 where
   pub state : DecoderState
   pub source : List ℕ → Encoding
   pub opening : Opening
   pub own : DecoderState
+  pub resumed : ℕ → List ℕ → Reading
   pub finished : Bool
 
 -- The pieces of what is to come are those of what is held and of what follows, in the encoding in force or after a
@@ -98,6 +101,10 @@ abbrev pub TellsLatin1Prefix : DecoderView → List ℕ → Option ℕ → Type 
 TellsLatin1Prefix v bytes None = ¬ (SeeksNoMark v.opening × IsAtRest (latin1_rule (v.source [])) v.own)
 TellsLatin1Prefix v bytes (Some n) = SeeksNoMark v.opening × IsAtRest (latin1_rule (v.source [])) v.own × IsLatin1Prefix (latin1_rule (v.source [])) v.own.pieces bytes n
 
+-- a decoder was made from these indexes: so it reads by them, in the encoding in force, also after it is resumed
+abbrev pub IsMadeFrom : IndexLists → DecoderView → Type 0
+IsMadeFrom t v = v.resumed ≡ resumed_in t (v.source [])
+
 -- one that has read nothing
 pub record IsNewDecoder (v : DecoderView) (t : IndexLists) (mark : Mark) (e : Encoding) : Type 0 where
   pub pieces : (x : List ℕ) → v.state.pieces x ≡ marked_pieces t mark e x
@@ -105,4 +112,5 @@ pub record IsNewDecoder (v : DecoderView) (t : IndexLists) (mark : Mark) (e : En
   pub source : (x : List ℕ) → v.source x ≡ (source_of mark e x).0
   pub opening : v.opening ≡ record { sought = sought_by mark e; held = []; room = decoded_length_of e; pending = 0 }
   pub own : v.own.pieces ≡ pieces_of t e
+  pub made : IsMadeFrom t v
   pub open_ : v.finished ≡ false

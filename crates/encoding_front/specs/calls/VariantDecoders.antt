@@ -1,13 +1,20 @@
 -- The words for the decoder of any encoding, without mark handling.
+use Rattle.std.specs.Prelude.{ℕ, List}
 use Rattle.encoding_mem.specs.calls.Decoding.{DecoderState}
+use Rattle.encoding_mem.specs.calls.Resuming.{Reading}
 use Rattle.encoding_front.specs.calls.Latin1Prefix.{Latin1Rule, by_ascii, by_index, by_mode, untold}
-use Rattle.encoding_front.specs.contracts.variant_decoder.VariantDecoderSinkDecoder.TheImpl.{state-value}
+use Rattle.encoding_front.specs.contracts.variant_decoder.VariantDecoderSinkDecoder.TheImpl.{resumed-value, state-value}
 use Rattle.encoding_front.specs.declared.variant_decoder.VariantDecoder.{VariantDecoder}
 use Rattle.encoding_front.specs.declared.variant_decoder.VariantDecoder.TheVariants.{Iso2022Jp, Replacement, SingleByte, Utf16}
 
 -- the state of the decoder of any encoding, without mark handling
 abbrev pub state_of : VariantDecoder → DecoderState
 state_of d = (state-value).it d
+
+-- how the decoder of any encoding reads the bytes to come, without mark handling, if a mode, by its
+-- number, and pending bytes are resumed
+abbrev pub resumed_of : VariantDecoder → ℕ → List ℕ → Reading
+resumed_of d = (resumed-value).it d
 
 -- by which rule it says how far bytes are their characters in Latin1
 abbrev pub rule_of : VariantDecoder → Latin1Rule

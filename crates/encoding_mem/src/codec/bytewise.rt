@@ -3,6 +3,7 @@
 ghost use Rattle.std.specs.Prelude.{◌≡◌, ◌<◌, ℕ, List, [], length};
 ghost use Rattle.encoding_mem.specs.calls.Decoding.{IsFreshDecoder};
 ghost use Rattle.encoding_mem.specs.calls.Driver.{buffered};
+ghost use Rattle.encoding_mem.specs.calls.Resuming.{resumed_by, with_none_pending};
 ghost use Rattle.encoding_mem.specs.Decided.{IsUndecided};
 
 use crate::codec::decoder_result::DecoderResult;
@@ -10,6 +11,7 @@ use crate::codec::driver::decode_detached;
 use crate::codec::first_piece::DecoderRule;
 use crate::codec::pending::Pending;
 use crate::codec::room::DecodedLength;
+use crate::codec::saved_pieces::{SavedBytes, SavedPieces};
 use crate::codec::sink::Sink;
 use crate::codec::sink_decoder::SinkDecoder;
 
@@ -29,8 +31,10 @@ pub struct Bytewise<F: DecidedPiece> {
 impl<F: DecidedPiece> Bytewise<F> {
     /// A decoder by this rule.
     pub fn new(rule: F) -> Self
-        ensures { IsFreshDecoder (⟦<Bytewise<F> as SinkDecoder>⟧.state result)
+        ensures fresh { IsFreshDecoder (⟦<Bytewise<F> as SinkDecoder>⟧.state result)
             (F.pieces rule) (F.limits rule) }
+        ensures resumed { ⟦<Bytewise<F> as SinkDecoder>⟧.resumed result
+            ≡ with_none_pending (resumed_by F.pieces F.needs F.limits F.in_mode rule) }
     {
         Bytewise { rule }
     }
@@ -46,6 +50,9 @@ impl<F: DecidedPiece> Bytewise<F> {
 impl<F: DecidedPiece> SinkDecoder for Bytewise<F> {
     ghost state = { λ d. buffered (F.pieces d.rule) (F.whole d.rule) (F.are_pieces d.rule)
         (F.needs d.rule) (F.limits d.rule) (F.covers d.rule) [] };
+
+    ghost resumed = { λ d. with_none_pending
+        (resumed_by F.pieces F.needs F.limits F.in_mode d.rule) };
 
     #[inline(always)]
     fn decode_into<S: Sink>(
@@ -63,5 +70,16 @@ impl<F: DecidedPiece> SinkDecoder for Bytewise<F> {
 
     fn room(&self) -> DecodedLength {
         self.rule.room()
+    }
+
+    fn saved(&self) -> SavedPieces {
+        SavedPieces {
+            mode: self.rule.mode(),
+            pending: SavedBytes::new(&[]),
+        }
+    }
+
+    fn resume(&mut self, saved: SavedPieces) {
+        self.rule.enter_mode(saved.mode);
     }
 }

@@ -39,6 +39,7 @@ fn take_piece<F: DecoderRule, S: Sink>(
     ensures room { IsRoomyStep (F.needs codec.old) (F.needs codec.new) S.is_units last
         (length bytes.now) (S.free sink.old) (S.free sink.new) result }
     ensures limits { F.limits codec.new ≡ F.limits codec.old }
+    ensures modes { F.in_mode codec.new ≡ F.in_mode codec.old }
 {
     match codec.first_piece(bytes, last) {
         FirstPiece::More => Step::Wait,
@@ -84,6 +85,7 @@ fn take_pairs<F: DecoderRule, S: Sink>(codec: &mut F, src: &[u8], sink: &mut S) 
     ensures enough { PartSuffices (F.needs codec.old) (F.needs codec.new) false (length src.now)
         (length src.now - result) (sink_room S.is_units S.free sink.old sink.new) None }
     ensures limits { F.limits codec.new ≡ F.limits codec.old }
+    ensures modes { F.in_mode codec.new ≡ F.in_mode codec.old }
 {
     if src.is_empty() || !codec.seeks_pairs(src[0]) {
         return 0;
@@ -135,6 +137,7 @@ pub(crate) fn finish_pending<F: DecoderRule, S: Sink>(
         (λ text. S.writes sink.old text sink.new) (sink_room S.is_units S.free sink.old sink.new)
         result.0 }
     ensures limits { F.limits codec.new ≡ F.limits codec.old }
+    ensures modes { F.in_mode codec.new ≡ F.in_mode codec.old }
 {
     let mut read = 0;
     'pieces: while pending.len() > 0 {
@@ -179,6 +182,7 @@ fn decode_pieces<F: DecoderRule, S: Sink, const OWN: bool>(
         (λ text. S.writes sink.old text sink.new) (sink_room S.is_units S.free sink.old sink.new)
         (Some result.0) }
     ensures limits { F.limits codec.new ≡ F.limits codec.old }
+    ensures modes { F.in_mode codec.new ≡ F.in_mode codec.old }
     ensures waits { Remains (F.pieces codec.new) pending.new }
 {
     let mut rest = src;
@@ -234,6 +238,7 @@ pub(crate) fn decode_detached<F: DecoderRule, S: Sink>(
         (λ text. S.writes sink.old text sink.new) (sink_room S.is_units S.free sink.old sink.new)
         (Some result.0) }
     ensures limits { F.limits codec.new ≡ F.limits codec.old }
+    ensures modes { F.in_mode codec.new ≡ F.in_mode codec.old }
     ensures waits { Remains (F.pieces codec.new) pending.new }
 {
     match sink.detach() {

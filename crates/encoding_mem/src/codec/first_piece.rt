@@ -61,6 +61,12 @@ pub trait DecoderRule {
     /// The numbers of the length queries stay as the rule goes on.
     ghost steady: { (s : Self) (x : List ℕ) → limits (after s x) ≡ limits s };
 
+    /// The rule in a mode, by the mode's number. A rule without modes stays as it is.
+    ghost in_mode: { Self → ℕ → Self };
+
+    /// The modes stay as the rule goes on: only which one is in force changes.
+    ghost modes_stay: { (s : Self) (x : List ℕ) → in_mode (after s x) ≡ in_mode s };
+
     /// The first piece of these bytes, or `More` if what follows decides it; `last` says that
     /// nothing follows. The condition is that there is a byte.
     fn first_piece(&self, bytes: &[u8], last: bool) -> FirstPiece
@@ -113,6 +119,17 @@ pub trait DecoderRule {
     /// The numbers by which the length queries are computed.
     fn room(&self) -> DecodedLength
         ensures { result ≡ limits self.now };
+
+    /// The number of the mode in force: `enter_mode` of it leaves the rule as it is. A rule without
+    /// modes returns any number, as 0.
+    fn mode(&self) -> u8
+        ensures { in_mode self.now result ≡ self.now };
+
+    /// Takes the mode with this number as the one in force, as if the bytes so far had led to it. A
+    /// number that is no mode's is taken as one of the modes.
+    fn enter_mode(&mut self, mode: u8)
+        ensures mode { self.new ≡ in_mode self.old mode }
+        ensures modes { in_mode self.new ≡ in_mode self.old };
 }
 
 /// What `size` bytes are that begin a longer sequence: malformed if they are the last of the input,

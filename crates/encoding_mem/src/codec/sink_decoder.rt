@@ -1,9 +1,11 @@
 //! A decoder into any destination, and how a rule becomes one.
 
-ghost use Rattle.std.specs.Prelude.{◌≡◌, ◌<◌, ◌+◌, ◌-◌, length};
+ghost use Rattle.std.specs.Prelude.{◌≡◌, ℕ, ◌<◌, ◌+◌, ◌-◌, List, length};
 ghost use Rattle.encoding_mem.specs.calls.Decoding.{DecoderState, StateCall};
 ghost use Rattle.encoding_mem.specs.calls.Decoding.{IsFreshDecoder, ReadsByRule, sink_room};
 ghost use Rattle.encoding_mem.specs.calls.Driver.{IsNear, buffered};
+ghost use Rattle.encoding_mem.specs.calls.Resuming.{HoldsFew, Reading, reading_of, resumed_by};
+ghost use Rattle.encoding_mem.specs.calls.Resuming.{saved_pending};
 ghost use Rattle.encoding_mem.specs.calls.DecodedLength.{queried};
 
 use crate::codec::decoder_result::DecoderResult;
@@ -12,6 +14,7 @@ use crate::codec::first_piece::DecoderRule;
 use crate::codec::pending::Pending;
 use crate::codec::raw_decoder::RawDecoder;
 use crate::codec::room::{DecodedLength, OutputUnit};
+use crate::codec::saved_pieces::{SavedBytes, SavedPieces};
 use crate::codec::sink::Sink;
 use crate::codec::utf8_sink::Utf8Sink;
 use crate::codec::utf16_sink::Utf16Sink;
@@ -23,6 +26,10 @@ pub trait SinkDecoder {
     /// are pending, and the room that is enough.
     ghost state: { Self → DecoderState };
 
+    /// How the bytes to come are read after `resume`, by the number of the mode and the pending
+    /// bytes that are taken. Calls leave it as it is: by it decoders of one encoding are known.
+    ghost resumed: { Self → ℕ → List ℕ → Reading };
+
     /// Decodes bytes into a destination up to the first malformed sequence. Returns how the call
     /// ended, and how many bytes of `src` were read.
     fn decode_into<S: Sink>(
@@ -31,9 +38,10 @@ pub trait SinkDecoder {
         sink: &mut S,
         last: bool,
     ) -> (DecoderResult, usize)
-        ensures { StateCall (state self.old) (state self.new) src.now last result.1
+        ensures call { StateCall (state self.old) (state self.new) src.now last result.1
             (λ text. S.writes sink.old text sink.new)
-            (sink_room S.is_units S.free sink.old sink.new) result.0 };
+            (sink_room S.is_units S.free sink.old sink.new) result.0 }
+        ensures resumed { resumed self.new ≡ resumed self.old };
 
     /// How many bytes are pending: read, but in no piece that is decided.
     fn held_len(&self) -> usize
@@ -42,6 +50,21 @@ pub trait SinkDecoder {
     /// The numbers by which the length queries are computed.
     fn room(&self) -> DecodedLength
         ensures { result ≡ (state self.now).room };
+
+    /// What changes as a decoder goes on, to be resumed (`resume`) in one of the same encoding.
+    fn saved(&self) -> SavedPieces
+        ensures same { resumed self.now result.mode (saved_pending result)
+            ≡ reading_of (state self.now) }
+        ensures few { HoldsFew (reading_of (state self.now)) };
+
+    /// Goes on from where a decoder was saved (`saved`): bytes to come are read as that decoder
+    /// would have read them, if it is one of the same encoding. The condition holds of what it
+    /// saved.
+    fn resume(&mut self, saved: SavedPieces)
+        requires { HoldsFew (resumed self.old saved.mode (saved_pending saved)) }
+        ensures same { reading_of (state self.new)
+            ≡ resumed self.old saved.mode (saved_pending saved) }
+        ensures resumed { resumed self.new ≡ resumed self.old };
 }
 
 // The room that is enough for the text of what is pending and of `n` more bytes.
@@ -108,8 +131,10 @@ pub struct Buffered<F: DecoderRule> {
 impl<F: DecoderRule> Buffered<F> {
     /// A decoder by this rule, with nothing pending.
     pub fn new(rule: F) -> Self
-        ensures { IsFreshDecoder (⟦<Buffered<F> as SinkDecoder>⟧.state result)
+        ensures fresh { IsFreshDecoder (⟦<Buffered<F> as SinkDecoder>⟧.state result)
             (F.pieces rule) (F.limits rule) }
+        ensures resumed { ⟦<Buffered<F> as SinkDecoder>⟧.resumed result
+            ≡ resumed_by F.pieces F.needs F.limits F.in_mode rule }
     {
         Buffered {
             rule,
@@ -129,6 +154,8 @@ impl<F: DecoderRule> Buffered<F> {
 impl<F: DecoderRule> SinkDecoder for Buffered<F> {
     ghost state = { λ d. buffered (F.pieces d.rule) (F.whole d.rule) (F.are_pieces d.rule)
         (F.needs d.rule) (F.limits d.rule) (F.covers d.rule) d.pending };
+
+    ghost resumed = { λ d. resumed_by F.pieces F.needs F.limits F.in_mode d.rule };
 
     #[inline(always)]
     fn decode_into<S: Sink>(
@@ -157,5 +184,17 @@ impl<F: DecoderRule> SinkDecoder for Buffered<F> {
 
     fn room(&self) -> DecodedLength {
         self.rule.room()
+    }
+
+    fn saved(&self) -> SavedPieces {
+        SavedPieces {
+            mode: self.rule.mode(),
+            pending: SavedBytes::new(self.pending.as_slice()),
+        }
+    }
+
+    fn resume(&mut self, saved: SavedPieces) {
+        self.rule.enter_mode(saved.mode);
+        self.pending.fill(saved.pending.as_slice());
     }
 }

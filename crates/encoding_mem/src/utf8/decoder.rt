@@ -8,6 +8,7 @@ ghost use Rattle.std.specs.Str.Lossy.{utf8_valid_len};
 ghost use Rattle.encoding_mem.specs.calls.DecoderRule.{IsNotLonger};
 ghost use Rattle.encoding_mem.specs.calls.Decoding.{IsFreshDecoder};
 ghost use Rattle.encoding_mem.specs.calls.DecodedLength.{decoded_length, decoded_length_utf8};
+ghost use Rattle.encoding_mem.specs.calls.Resuming.{resumed_plain};
 ghost use Rattle.encoding_mem.specs.laws.Pieces.{pieces_by-nil, pieces_by-whole};
 ghost use Rattle.encoding_mem.specs.laws.Pieces.{pieces_by-are_pieces};
 ghost use Rattle.encoding_mem.specs.Utf8.{first_piece_utf8, pieces_utf8, second_min, second_max};
@@ -19,6 +20,7 @@ use crate::codec::decoder_result::DecoderResult;
 use crate::codec::first_piece::{DecoderRule, FirstPiece, cut_short};
 use crate::codec::raw_decoder::RawDecoder;
 use crate::codec::room::DecodedLength;
+use crate::codec::saved_pieces::SavedPieces;
 use crate::codec::scalar::scalar_of;
 use crate::codec::sink::Sink;
 use crate::codec::sink_decoder::{Buffered, SinkDecoder};
@@ -46,6 +48,10 @@ impl DecoderRule for Utf8Rule {
 
     ghost steady = { λ _ _. refl };
 
+    ghost in_mode = { λ s _. s };
+
+    ghost modes_stay = { λ _ _. refl };
+
     fn first_piece(&self, bytes: &[u8], last: bool) -> FirstPiece {
         decide(bytes, last)
     }
@@ -61,6 +67,12 @@ impl DecoderRule for Utf8Rule {
     fn room(&self) -> DecodedLength {
         DecodedLength::utf8()
     }
+
+    fn mode(&self) -> u8 {
+        0
+    }
+
+    fn enter_mode(&mut self, _mode: u8) {}
 }
 
 // How many bytes are tested for text at a time: few, and more if these are text. Each test reads
@@ -261,8 +273,10 @@ pub struct Utf8Decoder {
 impl Utf8Decoder {
     /// A decoder of a new stream.
     pub fn new() -> Self
-        ensures { IsFreshDecoder (⟦<Utf8Decoder as RawDecoder>⟧.state result)
+        ensures fresh { IsFreshDecoder (⟦<Utf8Decoder as RawDecoder>⟧.state result)
             pieces_utf8 decoded_length_utf8 }
+        ensures resumed { ⟦<Utf8Decoder as SinkDecoder>⟧.resumed result
+            ≡ resumed_plain pieces_utf8 decoded_length_utf8 }
     {
         Utf8Decoder {
             inner: Buffered::new(Utf8Rule {}),
@@ -280,6 +294,8 @@ impl Utf8Decoder {
 impl SinkDecoder for Utf8Decoder {
     ghost state = { λ d. ⟦<Buffered<Utf8Rule> as SinkDecoder>⟧.state d.inner };
 
+    ghost resumed = { λ d. ⟦<Buffered<Utf8Rule> as SinkDecoder>⟧.resumed d.inner };
+
     fn decode_into<S: Sink>(
         &mut self,
         src: &[u8],
@@ -295,5 +311,13 @@ impl SinkDecoder for Utf8Decoder {
 
     fn room(&self) -> DecodedLength {
         self.inner.room()
+    }
+
+    fn saved(&self) -> SavedPieces {
+        self.inner.saved()
+    }
+
+    fn resume(&mut self, saved: SavedPieces) {
+        self.inner.resume(saved)
     }
 }

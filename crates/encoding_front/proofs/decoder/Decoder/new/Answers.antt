@@ -1,5 +1,9 @@
-use Rattle.std.proofs.Common.{length, arith, refl, ap}
+use Rattle.std.proofs.Common.{None, length, arith, refl, sym, ap, ◌∙◌}
+use Rattle.encoding_front.specs.calls.Resumed.{resumed_in}
+use Rattle.encoding_front.specs.calls.Seeking.{find_mark}
+use Rattle.encoding_front.specs.calls.Stream.{encoding_after}
 use Rattle.encoding_front.specs.calls.VariantDecoders.{state_of}
+use Rattle.encoding_front.specs.laws.Stream.{held_taken}
 use Rattle.encoding_front.proofs.BomLemmas.{begun_pieces, begun_source, begun_opening}
 use Rattle.encoding_front.proofs.decoder.Decoder.new.Goals as goal
 
@@ -15,6 +19,7 @@ returns c =
         source = begun_source c.args.mark c.args.encoding c.new-2.result _ c.new-3.result sought refl held;
         opening = begun_opening c.args.mark c.args.encoding c.new-2.result c.new-3.result own.room own.pending sought held c.new.ensures.room c.new.ensures.pending;
         own = c.new.ensures.pieces;
+        made = c.new.ensures.resumed ∙ ap (λ m. resumed_in c.args.tables.now (encoding_after c.args.encoding m)) (sym (held_taken c.new-2.result None c.new-3.result (λ _. ap (find_mark c.new-2.result) held)));
         open_ = refl;
       };
     }

@@ -1,6 +1,7 @@
 use Rattle.std.proofs.Common.{rules, arith, ◌≡◌, ℕ, ◌-◌, ◌++◌, List, length, true, false, sym, ◌∙◌, ap, subst, [], Some}
 use Rattle.encoding_front.specs.calls.Seeking.{mark_len, is_sought, find_mark, sought_pieces, sought_needs}
-use Rattle.encoding_front.specs.laws.Stream.{room_after_is}
+use Rattle.encoding_front.specs.laws.Stream.{held_taken, room_after_is}
+use Rattle.encoding_front.specs.calls.Resumed.{resumed_in}
 use Rattle.encoding_front.specs.calls.Stream.{encoding_after}
 use Rattle.encoding_front.specs.calls.TakesMark.{LeavesRoom}
 use Rattle.encoding_front.specs.calls.VariantDecoders.{state_of}
@@ -85,3 +86,21 @@ returns-in_default-clause-source c =
       | in_default-via-in-Prefix+else-not-last w ↦ (let ended : c.args.last ≡ true = search rules in λ r h. ap (encoding_after d.encoding) (taken_ended d.sought d.taken d.held c.args.src.now window r e c.prefix_of-window.ensures (shown ∙ w.in-Prefix.is) (h ended) ∙ sym (untaken now d.taken (d.held ++ r) settled)))
       | in_default-via-in_default w ↦ λ r h. ap (encoding_after d.encoding) (taken_other d.sought d.taken d.held c.args.src.now window r e c.prefix_of-window.ensures (shown ∙ w.in_default.is) ∙ sym (untaken now d.taken (d.held ++ r) settled))
     ]
+
+pub returns-in-Prefix-clause-made : goal.returns-in-Prefix-clause-made
+returns-in-Prefix-clause-made c =
+    let d = c.args.self.now in
+    let window = c.prefix_of-window.result in
+    let f : find_mark d.sought window ≡ Prefix = ap (find_mark d.sought) (sym c.as_slice.ensures) ∙ sym c.find_mark.ensures ∙ c.in-Prefix.is in
+    λ t is_made. is_made ∙ ap (λ m. resumed_in t (encoding_after d.encoding m)) (held_taken d.sought d.taken d.held d.prefix ∙ sym (held_taken d.sought d.taken window (λ _. f)))
+
+pub returns-in-Whole-clause-made : goal.returns-in-Whole-clause-made
+returns-in-Whole-clause-made c =
+    let d = c.args.self.now in
+    λ t _. c.after_mark-self.ensures.resumed t ∙ ap (λ m. resumed_in t (encoding_after d.encoding m)) (sym (untaken c.nothing-self.result (Some c.in-Whole.mark) (c.new-self.result ++ []) (ap is_sought c.nothing-self.ensures)))
+
+pub returns-in_default-clause-made : goal.returns-in_default-clause-made
+returns-in_default-clause-made c =
+    let d = c.args.self.now in
+    let now = c.nothing-self-in_default.result in
+    λ t is_made. is_made ∙ ap (λ m. resumed_in t (encoding_after d.encoding m)) (held_taken d.sought d.taken d.held d.prefix ∙ sym (untaken now d.taken (d.held ++ []) (ap is_sought c.nothing-self-in_default.ensures)))

@@ -10,6 +10,7 @@ pub pieces-init : goal.pieces-init
 pieces-init g c = record {
   none = c.requires;
   limits = refl;
+  modes = refl;
   so_far = come_none _ _ _ _ _ _ _ (g.met.S.Sink.writes_none c.args.sink.now);
 }
 
@@ -25,6 +26,7 @@ pieces-preserved-then-not-is_empty g c =
     record {
       none = i.none;
       limits = i.limits;
+      modes = i.modes;
       so_far = come_more _ P P _ _ _ g.S.Sink.is_units c.args.last c.args.src.now rest _ _ _ (λ t. g.S.Sink.writes c.args.sink.now t c.pieces.sink) W _ (length text) i.so_far
           (text_taken P rest text W e.prefix c.text_at-text.utf8 e.pieces c.put_text.ensures.writes)
           (run_room (g.F.DecoderRule.needs c.pieces.codec) g.S.Sink.is_units (length rest) (length text) (λ t. text_len t text) (g.S.Sink.free c.pieces.sink) (g.S.Sink.free c.put_text.new.self) fits e.room c.put_text.ensures.free)
@@ -44,6 +46,7 @@ pieces-preserved-then-count-gt0 g c =
     record {
       none = i.none;
       limits = i.limits;
+      modes = i.modes;
       so_far = come_more _ P P _ _ _ g.S.Sink.is_units c.args.last c.args.src.now rest _ _ _ (λ t. g.S.Sink.writes c.args.sink.now t c.pieces.sink) W _ (2 * count) i.so_far
           (subst (λ n. Takes AreWellFormed P P rest false 0 0 (2 * n) W) size (units_taken P rest units W e.units c.put_units.ensures.writes))
           (run_room (g.F.DecoderRule.needs c.pieces.codec) g.S.Sink.is_units (length rest) (2 * count) (λ t. text_len t (encode_utf8_all units)) (g.S.Sink.free c.pieces.sink) (g.S.Sink.free c.put_units.new.self) (omega (arith, size, e.units.within)) e.room c.put_units.ensures.free)
@@ -65,6 +68,7 @@ pieces-preserved g c =
     record {
       none = i.none;
       limits = pairs.ensures.limits ∙ c.take_piece.ensures.limits ∙ i.limits;
+      modes = pairs.ensures.modes ∙ c.take_piece.ensures.modes ∙ i.modes;
       so_far = come_more _ P (g.F.DecoderRule.pieces pairs.new.codec) _ _ _ g.S.Sink.is_units c.args.last c.args.src.now (take (length rest - n) (drop n rest)) _ _ _ W (λ t. g.S.Sink.writes c.take_piece.new.sink t pairs.new.sink) _ pairs.result piece
           pairs.ensures.law pairs.ensures.enough (λ t u h k. g.met.S.Sink.writes_more _ _ _ t u h k);
     }

@@ -18,6 +18,7 @@ pieces-preserved g c =
     let ends : IsTrue c.if-last.take_piece → IsTrue c.args.last × (length c.args.src.now ≤ c.pieces.read) = λ t. elim c.if-last.branch [ then-last w ↦ (w.if-last.true, let same : c.pieces.read ≡ length c.args.src.now = eqb-true _ _ (sym w.take_piece-is ∙ t) in omega (arith, same)) | else-last w ↦ (let no : ⊥ = cc in absurd no) ] in
     record {
       limits = c.take_piece.ensures.limits ∙ c.pieces.invariant.limits;
+      modes = c.take_piece.ensures.modes ∙ c.pieces.invariant.modes;
       enough = λ k m units stops h. pending_room (g.F.DecoderRule.needs c.pieces.codec) c.if-last.take_piece c.args.last g.S.Sink.is_units (length c.args.src.now) c.pieces.read (g.S.Sink.free c.pieces.sink) c.as_slice.result.now c.pieces.pending c.remove_prefix.new.self c.in-Took.n
           (λ k x. g.F.DecoderRule.needs c.take_piece.new.codec k x ≤ g.S.Sink.free c.take_piece.new.sink) c.as_slice.ensures c.remove_prefix.ensures (omega (arith, s.2, s.3.within, ap length c.as_slice.ensures)) ends c.in-Took.ensures.room k m units stops (c.pieces.invariant.enough k m units stops h);
       near = near_few (g.F.DecoderRule.pieces c.take_piece.new.codec) c.remove_prefix.new.self (left_few (g.F.DecoderRule.pieces c.pieces.codec) (g.F.DecoderRule.pieces c.take_piece.new.codec) c.as_slice.result.now c.pieces.pending _ c.if-last.take_piece s.0 c.in-Took.n s.2 c.as_slice.ensures c.remove_prefix.ensures c.pieces.invariant.near s.3);

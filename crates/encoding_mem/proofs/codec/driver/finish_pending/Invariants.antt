@@ -10,6 +10,7 @@ abbrev pub invariant-pieces : goal.invariant-pieces
 invariant-pieces g l = record {
   short : length l.pending < 7;
   limits : g.F.DecoderRule.limits l.codec ≡ g.F.DecoderRule.limits l.initial.codec;
+  modes : g.F.DecoderRule.in_mode l.codec ≡ g.F.DecoderRule.in_mode l.initial.codec;
   enough : (k : OutputUnit) (m : ℕ) → is_units k ≡ g.S.Sink.is_units → (IsTrue l.last → m ≡ 0) → g.F.DecoderRule.needs l.initial.codec k (length l.initial.pending + (length l.src + m)) ≤ g.S.Sink.free l.initial.sink → g.F.DecoderRule.needs l.codec k (length l.pending + ((length l.src - l.read) + m)) ≤ g.S.Sink.free l.sink;
   near : IsNear (g.F.DecoderRule.pieces l.codec) l.pending;
   takes : Takes AreWellFormed (λ x. g.F.DecoderRule.pieces l.initial.codec (l.initial.pending ++ x)) (λ x. g.F.DecoderRule.pieces l.codec (l.pending ++ x)) l.src l.last (length l.initial.pending) (length l.pending) l.read (λ t. g.S.Sink.writes l.initial.sink t l.sink);

@@ -10,6 +10,7 @@ pairs-init g c = record {
   bytes = omega (arith, c.min-pairs_left.ensures);
   room = omega (arith, c.min-pairs_left.ensures, c.free_len.ensures);
   limits = refl;
+  modes = refl;
   so_far = come_none _ _ _ _ _ _ _ (g.met.S.Sink.writes_none c.args.sink.now);
 }
 
@@ -33,6 +34,7 @@ pairs-preserved-in-One-default-eq2 g c =
       bytes = omega (arith, i.bytes, some, c.pairs-test.true);
       room = omega (arith, i.room, c.put.ensures.free, cheap);
       limits = ap g.F.DecoderRule.limits c.pass.ensures ∙ g.F.DecoderRule.steady c.pairs.codec (take 2 rest) ∙ i.limits;
+      modes = ap g.F.DecoderRule.in_mode c.pass.ensures ∙ g.F.DecoderRule.modes_stay c.pairs.codec (take 2 rest) ∙ i.modes;
       so_far = come_character _ P P' _ _ _ g.S.Sink.is_units c.args.src.now rest _ _ _ (λ t. g.S.Sink.writes c.args.sink.now t c.pairs.sink) _ one.c 2 i.so_far first (omega (arith, some)) room (omega (arith, c.put.ensures.free, cost))
           (λ t w. g.met.S.Sink.writes_more _ _ _ t (one.c ∷ []) w c.put.ensures.writes);
     }
@@ -57,6 +59,7 @@ pairs-preserved g c =
       bytes = omega (arith, i.bytes, some, c.pairs-test.true);
       room = omega (arith, i.room, c.put-in-One-default-eq1.ensures.free, cheap);
       limits = ap g.F.DecoderRule.limits c.pass-in-One-default-eq1.ensures ∙ g.F.DecoderRule.steady c.pairs.codec (take 2 rest) ∙ i.limits;
+      modes = ap g.F.DecoderRule.in_mode c.pass-in-One-default-eq1.ensures ∙ g.F.DecoderRule.modes_stay c.pairs.codec (take 2 rest) ∙ i.modes;
       so_far = come_character _ P P' _ _ _ g.S.Sink.is_units c.args.src.now rest _ _ _ (λ t. g.S.Sink.writes c.args.sink.now t c.pairs.sink) _ one.c 1 i.so_far first (omega (arith, some)) room (omega (arith, c.put-in-One-default-eq1.ensures.free, cost))
           (λ t w. g.met.S.Sink.writes_more _ _ _ t (one.c ∷ []) w c.put-in-One-default-eq1.ensures.writes);
     }

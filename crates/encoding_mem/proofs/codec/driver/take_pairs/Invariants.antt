@@ -7,6 +7,7 @@ invariant-pairs g l = record {
   bytes : 2 * l.pairs_left ≤ length l.rest;
   room : 3 * l.pairs_left ≤ g.S.Sink.free l.sink;
   limits : g.F.DecoderRule.limits l.codec ≡ g.F.DecoderRule.limits l.initial.codec;
+  modes : g.F.DecoderRule.in_mode l.codec ≡ g.F.DecoderRule.in_mode l.initial.codec;
   so_far : HasCome (g.F.DecoderRule.pieces l.initial.codec) (g.F.DecoderRule.pieces l.codec) (g.F.DecoderRule.needs l.initial.codec) (g.F.DecoderRule.needs l.codec)
       g.S.Sink.is_units false l.src l.rest (g.S.Sink.free l.initial.sink) (g.S.Sink.free l.sink) (λ t. g.S.Sink.writes l.initial.sink t l.sink);
 }

@@ -14,7 +14,7 @@ parts-init c = record {
   same = refl;
   has = record {
     taken = [];
-    whole = ap (λ f. f c.args.src.now) (sym c.new-decoder.ensures.pieces);
+    whole = ap (λ f. f c.args.src.now) (sym c.new-decoder.ensures.fresh.pieces);
     adds = adds_none c.args.sink.now.units.now c.args.sink.now.written c.args.sink.now.within;
   };
 }
@@ -23,7 +23,7 @@ pub parts-preserved : goal.parts-preserved
 parts-preserved c =
     let i = c.parts.invariant in
     let d = c.decode_into-outcome in
-    let law = d.ensures.law in
+    let law = d.ensures.call.law in
     let well_formed = subst (λ o. Reports o (ghosts.state d.new.self).pending law.taken) c.in-Malformed.is law.well_formed in
     let size = ap length (take_rest c.args.src.now c.parts.read) in
     record {
@@ -37,7 +37,7 @@ pub parts-smaller : goal.parts-smaller
 parts-smaller c =
     let i = c.parts.invariant in
     let d = c.decode_into-outcome in
-    let law = d.ensures.law in
+    let law = d.ensures.call.law in
     let well_formed = subst (λ o. Reports o (ghosts.state d.new.self).pending law.taken) c.in-Malformed.is law.well_formed in
     let size = ap length (take_rest c.args.src.now c.parts.read) in
     let part : List ℕ = take (length c.args.src.now - c.parts.read) (drop c.parts.read c.args.src.now) in
@@ -49,9 +49,9 @@ pub returns-in-InputEmpty : goal.returns-in-InputEmpty
 returns-in-InputEmpty c =
     let i = c.parts.invariant in
     let d = c.decode_into-outcome in
-    let law = d.ensures.law in
+    let law = d.ensures.call.law in
     let well_formed = subst (λ o. Reports o (ghosts.state d.new.self).pending law.taken) c.in-InputEmpty.is law.well_formed in
-    let ends = subst (λ o. EndsWith (ghosts.state d.new.self) (drop d.result.1 (take (length c.args.src.now - c.parts.read) (drop c.parts.read c.args.src.now))) true (length d.new.sink.units.now - d.new.sink.written) 2 (len_utf16 0xFFFD) o) c.in-InputEmpty.is d.ensures.ends in
+    let ends = subst (λ o. EndsWith (ghosts.state d.new.self) (drop d.result.1 (take (length c.args.src.now - c.parts.read) (drop c.parts.read c.args.src.now))) true (length d.new.sink.units.now - d.new.sink.written) 2 (len_utf16 0xFFFD) o) c.in-InputEmpty.is d.ensures.call.ends in
     let read = sym (drop-drop d.result.1 c.parts.read c.args.src.now) ∙ ap (drop d.result.1) (sym (take_rest c.args.src.now c.parts.read)) ∙ ends.0 in
     let none : (ghosts.state d.new.self).pieces (drop (c.parts.read + d.result.1) c.args.src.now) ≡ [] =
     ap (ghosts.state d.new.self).pieces read ∙ elim ends.1 [ inl all ↦ all.1 | inr more ↦ absurd (let e = more.0 in cc) ] in (
@@ -64,10 +64,10 @@ pub unreachable-requires : goal.unreachable-requires
 unreachable-requires c =
     let i = c.parts.invariant in
     let d = c.decode_into-outcome in
-    let law = d.ensures.law in
+    let law = d.ensures.call.law in
     let well_formed = subst (λ o. Reports o (ghosts.state d.new.self).pending law.taken) c.in-OutputFull.is law.well_formed in
     let part : List ℕ = take (length c.args.src.now - c.parts.read) (drop c.parts.read c.args.src.now) in
-    let ends = subst (λ o. EndsWith (ghosts.state d.new.self) (drop d.result.1 part) true (length d.new.sink.units.now - d.new.sink.written) 2 (len_utf16 0xFFFD) o) c.in-OutputFull.is d.ensures.ends in
+    let ends = subst (λ o. EndsWith (ghosts.state d.new.self) (drop d.result.1 part) true (length d.new.sink.units.now - d.new.sink.written) 2 (len_utf16 0xFFFD) o) c.in-OutputFull.is d.ensures.call.ends in
     let has = goes_on c.args.src.now _ _ (ghosts.state c.parts.decoder).pieces (ghosts.state d.new.self).pieces c.parts.read d.result.1 _ _ _ _ law.taken i.has well_formed (law.rest [] (λ _. refl)) law.writes.1 in
     let unread : drop d.result.1 part ++ [] ≡ drop (c.parts.read + d.result.1) c.args.src.now =
     append-nil (drop d.result.1 part) ∙ ap (drop d.result.1) (take_rest c.args.src.now c.parts.read) ∙ drop-drop d.result.1 c.parts.read c.args.src.now in

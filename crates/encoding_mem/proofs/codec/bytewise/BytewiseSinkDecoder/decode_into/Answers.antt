@@ -3,8 +3,8 @@ use Rattle.encoding_mem.specs.calls.Decoding.{sink_room}
 use Rattle.encoding_mem.proofs.DecoderCallLemmas.{nothing_remains, state_call}
 use Rattle.encoding_mem.proofs.codec.bytewise.BytewiseSinkDecoder.decode_into.Goals as goal
 
-pub returns : goal.returns
-returns g c =
+pub returns-clause-call : goal.returns-clause-call
+returns-clause-call g c =
     let F = g.F.DecoderRule in
     let S = g.S.Sink in
     let old = c.args.self.now.rule in

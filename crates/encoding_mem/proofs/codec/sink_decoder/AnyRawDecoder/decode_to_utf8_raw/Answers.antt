@@ -8,11 +8,11 @@ returns-clause-enough g c h =
     let s = g.D.SinkDecoder.state in
     let sink = c.new-sink.result in
     let d = c.decode_into-outcome.new in
-    never_full (s c.args.self.now) (s d.self) Bytes c.args.last (length c.args.src.now) _ (length sink.bytes.now - sink.written) (length d.sink.bytes.now - d.sink.written) c.decode_into-outcome.result.0 c.decode_into-outcome.ensures.enough (omega (arith, h, c.new-sink.ensures.written, ap length c.new-sink.ensures.bytes))
+    never_full (s c.args.self.now) (s d.self) Bytes c.args.last (length c.args.src.now) _ (length sink.bytes.now - sink.written) (length d.sink.bytes.now - d.sink.written) c.decode_into-outcome.result.0 c.decode_into-outcome.ensures.call.enough (omega (arith, h, c.new-sink.ensures.written, ap length c.new-sink.ensures.bytes))
 
 pub returns-clause-replaced : goal.returns-clause-replaced
 returns-clause-replaced g c h =
     let s = g.D.SinkDecoder.state in
     let sink = c.new-sink.result in
     let d = c.decode_into-outcome.new in
-    never_full (s c.args.self.now) (s d.self) Replaced c.args.last (length c.args.src.now) _ (length sink.bytes.now - sink.written) (length d.sink.bytes.now - d.sink.written) c.decode_into-outcome.result.0 c.decode_into-outcome.ensures.enough (omega (arith, h, c.new-sink.ensures.written, ap length c.new-sink.ensures.bytes))
+    never_full (s c.args.self.now) (s d.self) Replaced c.args.last (length c.args.src.now) _ (length sink.bytes.now - sink.written) (length d.sink.bytes.now - d.sink.written) c.decode_into-outcome.result.0 c.decode_into-outcome.ensures.call.enough (omega (arith, h, c.new-sink.ensures.written, ap length c.new-sink.ensures.bytes))

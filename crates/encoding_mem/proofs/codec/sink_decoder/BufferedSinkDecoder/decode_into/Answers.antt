@@ -5,8 +5,8 @@ use Rattle.encoding_mem.specs.calls.Driver.{driver_state}
 use Rattle.encoding_mem.proofs.DecoderCallLemmas.{calls_join, state_call}
 use Rattle.encoding_mem.proofs.codec.sink_decoder.BufferedSinkDecoder.decode_into.Goals as goal
 
-pub returns-in-Some : goal.returns-in-Some
-returns-in-Some g c =
+pub returns-in-Some-clause-call : goal.returns-in-Some-clause-call
+returns-in-Some-clause-call g c =
     let F = g.F.DecoderRule in
     let old = c.args.self.now in
     let first = c.finish_pending-ended in
@@ -15,8 +15,8 @@ returns-in-Some g c =
     old.pending first.new.pending c.args.src.now c.args.last first.result.1 (λ text. g.S.Sink.writes c.args.sink.now text first.new.sink) (sink_room g.S.Sink.is_units g.S.Sink.free c.args.sink.now first.new.sink) c.in-Some.outcome
     (F.ends rule) first.ensures.limits (rw c.in-Some.is at first.ensures.call)
 
-pub returns : goal.returns
-returns g c =
+pub returns-clause-call : goal.returns-clause-call
+returns-clause-call g c =
     let F = g.F.DecoderRule in
     let S = g.S.Sink in
     let old = c.args.self.now in

@@ -1,0 +1,47 @@
+-- A decoder that goes on from what was saved of another.
+use Rattle.std.proofs.Common.{◌≡◌, ℕ, ◌+◌, ◌≤◌, ◌<◌, IsTrue, List, [], ◌++◌, length, arith, sym, ◌∙◌, ap}
+use Rattle.encoding_mem.specs.calls.Decoding.{DecoderState}
+use Rattle.encoding_mem.specs.calls.Resuming.{HoldsFew, Reading, reading_of, saved_bytes, saved_pending}
+use Rattle.encoding_tables.specs.IndexLists.{IndexLists}
+use Rattle.encoding_front.specs.calls.Resumed.{resumed_in}
+use Rattle.encoding_front.specs.calls.CodecBounds.{decoded_length_of}
+use Rattle.encoding_front.specs.calls.SavedDecoders.{Saves}
+use Rattle.encoding_front.specs.calls.Seeking.{find_mark, is_sought}
+use Rattle.encoding_front.specs.calls.Stream.{DecoderView, IsMadeFrom, encoding_after}
+use Rattle.encoding_front.specs.laws.Stream.{held_taken}
+use Rattle.encoding_front.specs.declared.decoder.saved_decoder.SavedDecoder.{SavedDecoder}
+use Rattle.encoding_front.specs.declared.seeking.BomMatch.TheVariants.{Prefix}
+
+-- the encoding in force is that of the mark that was taken, or the one that the decoder was made for
+pub in_force : (w : SavedDecoder) (v : DecoderView) → Saves w v → v.source [] ≡ encoding_after w.encoding w.taken
+in_force w v h = h.source [] ∙ ap (encoding_after w.encoding) (held_taken w.sought w.taken (saved_bytes w.held) h.prefix)
+
+-- the decoder of that encoding reads alike if it is resumed
+pub resumes : (t : IndexLists) (w : SavedDecoder) (v : DecoderView) → Saves w v → IsMadeFrom t v
+    → v.resumed ≡ resumed_in t (encoding_after w.encoding w.taken)
+resumes t w v h made = made ∙ ap (resumed_in t) (in_force w v h)
+
+pub own_resumed : (t : IndexLists) (w : SavedDecoder) (v : DecoderView) (resumed : ℕ → List ℕ → Reading) → Saves w v → IsMadeFrom t v
+    → resumed ≡ resumed_in t (encoding_after w.encoding w.taken) → reading_of v.own ≡ resumed w.pieces.mode (saved_pending w.pieces)
+own_resumed t w v resumed h made is =
+    sym h.own ∙ ap (λ (f : ℕ → List ℕ → Reading). f w.pieces.mode (saved_pending w.pieces)) (resumes t w v h made ∙ sym is)
+
+-- what a decoder promises of the bytes that it holds, and of its room, holds of one that goes on
+pub resumed_few : (w : SavedDecoder) (v : DecoderView) (own : DecoderState) (held : List ℕ) → Saves w v → reading_of v.own ≡ reading_of own → held ≡ saved_bytes w.held
+    → 0 < length held → own.pending + length held ≤ 2
+resumed_few w v own held h is held_is some =
+    let size : length held ≡ length (saved_bytes w.held) = ap length held_is in
+    let pending : v.own.pending ≡ own.pending = ap (λ (r : Reading). r.pending) is in
+    omega (arith, h.short (omega (arith, some, size)), size, pending)
+
+pub resumed_fresh : (w : SavedDecoder) (v : DecoderView) (own : DecoderState) → Saves w v → reading_of v.own ≡ reading_of own
+    → IsTrue (is_sought w.sought) → own.pending ≡ 0
+resumed_fresh w v own h is sought = sym (ap (λ (r : Reading). r.pending) is) ∙ h.fresh sought
+
+pub resumed_prefix : (w : SavedDecoder) (v : DecoderView) (held : List ℕ) → Saves w v → held ≡ saved_bytes w.held
+    → IsTrue (is_sought w.sought) → find_mark w.sought held ≡ Prefix
+resumed_prefix w v held h held_is sought = ap (find_mark w.sought) held_is ∙ h.prefix sought
+
+pub resumed_room : (w : SavedDecoder) (v : DecoderView) (own : DecoderState) → Saves w v → reading_of v.own ≡ reading_of own
+    → own.room ≡ decoded_length_of (encoding_after w.encoding w.taken)
+resumed_room w v own h is = sym (ap (λ (r : Reading). r.room) is) ∙ h.room

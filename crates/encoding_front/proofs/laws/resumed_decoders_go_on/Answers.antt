@@ -1,0 +1,9 @@
+use Rattle.encoding_front.specs.calls.DecoderCall.{HasText}
+use Rattle.encoding_front.specs.laws.SavedDecoders.{call_alike, text_alike}
+use Rattle.encoding_front.proofs.laws.resumed_decoders_go_on.Goals as goal
+
+pub returns : goal.returns
+returns c = record {
+  reported = λ v u after src last read there free room mark outcome alike call. call_alike v u after src last read (HasText there) free room mark outcome alike call;
+  replaced = λ v u after src last read there free room mark outcome had_errors alike call. text_alike v u after src last read (HasText there) free room mark outcome had_errors alike call;
+}

@@ -1,0 +1,47 @@
+-- What was saved of a decoder, and a decoder that goes on from it.
+use Rattle.std.specs.Prelude.{◌≡◌, ℕ, ◌+◌, ◌≤◌, ◌<◌, IsTrue, List, [], ◌++◌, length}
+use Rattle.encoding_mem.specs.calls.Resuming.{HoldsFew, Reading, reading_of, saved_bytes, saved_pending}
+use Rattle.encoding_front.specs.calls.CodecBounds.{decoded_length_of}
+use Rattle.encoding_front.specs.calls.Seeking.{find_mark, is_sought, mark_taken, room_widest, sought_needs, sought_pieces}
+use Rattle.encoding_front.specs.calls.Stream.{DecoderView, encoding_after}
+use Rattle.encoding_front.specs.declared.encoding.Encoding.{Encoding}
+use Rattle.encoding_front.specs.declared.decoder.saved_decoder.SavedDecoder.{SavedDecoder}
+use Rattle.encoding_front.specs.declared.seeking.BomMatch.{BomMatch}
+use Rattle.encoding_front.specs.declared.seeking.BomSet.{BomSet}
+
+-- the encoding that a saved decoder was made for
+abbrev pub saved_encoding : SavedDecoder → Encoding
+saved_encoding w = w.encoding
+
+-- how a decoder reads that looks for some marks, and that holds some bytes before those to come, by
+-- how the decoder of the encoding in force reads
+abbrev pub sought_reading : BomSet → (own : Reading) → (held : List ℕ) → Reading
+sought_reading s own held = record {
+  pieces = λ x. sought_pieces s own.pieces (held ++ x);
+  pending = own.pending + length held;
+  needs = sought_needs s own.needs held;
+  room = room_widest;
+}
+
+-- What was saved is that of a decoder: the encoding and the mark that was taken, the marks that are
+-- sought with the bytes that are held, the mode and the pending bytes, and whether it is finished.
+pub record Saves (w : SavedDecoder) (v : DecoderView) : Type 0 where
+  pub own : v.resumed w.pieces.mode (saved_pending w.pieces) ≡ reading_of v.own
+  pub few : HoldsFew (reading_of v.own)
+  pub state : reading_of v.state ≡ sought_reading w.sought (reading_of v.own) (saved_bytes w.held)
+  pub opening : v.opening ≡ record { sought = w.sought; held = saved_bytes w.held; room = v.own.room; pending = v.own.pending }
+  pub source : (x : List ℕ) → v.source x ≡ encoding_after w.encoding (mark_taken w.sought w.taken (saved_bytes w.held ++ x))
+  pub room : v.own.room ≡ decoded_length_of (encoding_after w.encoding w.taken)
+  pub finished : v.finished ≡ w.is_finished
+  pub short : 0 < length (saved_bytes w.held) → v.own.pending + length (saved_bytes w.held) ≤ 2
+  pub fresh : IsTrue (is_sought w.sought) → v.own.pending ≡ 0
+  pub prefix : IsTrue (is_sought w.sought) → find_mark w.sought (saved_bytes w.held) ≡ BomMatch.Prefix
+
+-- two decoders read the bytes to come alike: so what calls do from now on is the same
+pub record ReadsAlike (v u : DecoderView) : Type 0 where
+  pub state : reading_of v.state ≡ reading_of u.state
+  pub own : reading_of v.own ≡ reading_of u.own
+  pub source : (x : List ℕ) → v.source x ≡ u.source x
+  pub opening : v.opening ≡ u.opening
+  pub resumed : v.resumed ≡ u.resumed
+  pub finished : v.finished ≡ u.finished

@@ -1,0 +1,80 @@
+//! What a decoder keeps between calls, as plain words, and a decoder that goes on from them.
+
+ghost use Rattle.std.specs.Prelude.{◌≡◌};
+ghost use Rattle.encoding_front.specs.Encodings.{IsReady};
+ghost use Rattle.encoding_front.specs.calls.DecoderViews.{decoder_view};
+ghost use Rattle.encoding_front.specs.calls.SavedDecoders.{ReadsAlike, Saves, saved_encoding};
+ghost use Rattle.encoding_front.specs.calls.Stream.{DecoderView, IsMadeFrom};
+
+use crate::decoder::Decoder;
+use crate::encoding::Encoding;
+use crate::seeking::{BomSet, ByteOrderMark};
+use crate::variant_decoder::VariantDecoder;
+use encoding_mem::pending::Pending;
+use encoding_mem::saved_pieces::{SavedBytes, SavedPieces};
+use encoding_mem::sink_decoder::SinkDecoder;
+use encoding_tables::Tables;
+
+/// What a `Decoder` keeps between calls, as plain words that can be copied, without the indexes.
+/// [`Decoder::saved`] returns it, and [`Decoder::resumed`] makes a decoder of it that goes on.
+#[derive(Clone, Copy)]
+pub struct SavedDecoder {
+    encoding: Encoding,
+    sought: BomSet,
+    held: SavedBytes,
+    taken: Option<ByteOrderMark>,
+    is_finished: bool,
+    pieces: SavedPieces,
+}
+
+impl SavedDecoder {
+    /// The encoding that the decoder was made for: one that a byte order mark named is not meant.
+    pub fn made_for(&self) -> Encoding
+        ensures { result ≡ saved_encoding self.now }
+    {
+        self.encoding
+    }
+}
+
+impl<'t> Decoder<'t> {
+    /// What this decoder keeps between calls, as it stands. The decoder itself stays as it is.
+    pub fn saved(&self) -> SavedDecoder
+        ensures { Saves result (decoder_view self.now) }
+    {
+        SavedDecoder {
+            encoding: self.encoding,
+            sought: self.sought,
+            held: SavedBytes::new(self.held.as_slice()),
+            taken: self.taken,
+            is_finished: self.is_finished,
+            pieces: self.inner.saved(),
+        }
+    }
+
+    /// A decoder that goes on where one was saved: its calls do what those of the saved decoder
+    /// would have done.
+    ///
+    /// The conditions are that the indexes of the encoding that it was made for are in `tables`
+    /// (`SavedDecoder::made_for`, `Encoding::is_ready`), and that the saved decoder was made from
+    /// these `tables`, which its caller knows.
+    pub fn resumed(saved: SavedDecoder, tables: &'t Tables) -> Self
+        requires ready { IsReady tables.now (saved_encoding saved) }
+        requires saved { (v : DecoderView) × Saves saved v × IsMadeFrom tables.now v }
+        ensures alike { (v : DecoderView) → Saves saved v → IsMadeFrom tables.now v
+            → ReadsAlike v (decoder_view result) }
+        ensures made { IsMadeFrom tables.now (decoder_view result) }
+    {
+        let mut inner = VariantDecoder::new_after(saved.encoding, saved.taken, tables);
+        inner.resume_on(saved.pieces);
+        let mut held = Pending::new();
+        held.fill(saved.held.as_slice());
+        Decoder {
+            inner,
+            encoding: saved.encoding,
+            sought: saved.sought,
+            held,
+            taken: saved.taken,
+            is_finished: saved.is_finished,
+        }
+    }
+}

@@ -1,0 +1,114 @@
+//! Decoders that are saved between two calls, and go on as others.
+
+use encoding_front::{
+    CoderResult, Decoder, Encoding, GB18030, ISO_2022_JP, Mark, REPLACEMENT, UTF_8, UTF_16LE,
+    WINDOWS_1252,
+};
+use encoding_tables::{IndexKind, TableFault, Tables};
+
+// Returns whether two decoders write the text of `bytes`, the second of which goes on from what was
+// saved of the first, wherever the bytes are cut.
+fn goes_on(tables: &Tables, encoding: Encoding, bytes: &[u8], text: &str) -> bool {
+    for at in 0..=bytes.len() {
+        if !encoding.is_ready(tables) {
+            return false;
+        }
+        let mut first = Decoder::new(encoding, Mark::Sniff, tables);
+        let (begin, rest) = bytes.split_at(at);
+        let mut room = [0; 64];
+        let (result, _, start, _) = first.decode_to_utf8(begin, &mut room, false);
+        let saved = first.saved();
+        if !saved.made_for().is_ready(tables) {
+            return false;
+        }
+        let mut second = Decoder::resumed(saved, tables);
+        if second.is_finished() || second.encoding() != first.encoding() {
+            return false;
+        }
+        let (last, _, more, _) = second.decode_to_utf8(rest, &mut room[start..], true);
+        if result != CoderResult::InputEmpty
+            || last != CoderResult::InputEmpty
+            || &room[..start + more] != text.as_bytes()
+        {
+            return false;
+        }
+    }
+    true
+}
+
+// Takes a list of one entry.
+fn insert_row(tables: &mut Tables, kind: IndexKind, row: (u32, u32)) -> Result<(), TableFault> {
+    let rows = [row];
+    if kind.is_ranges()
+        || (row.0 as usize) >= kind.size()
+        || !rows.windows(2).all(|pair| pair[0].0 < pair[1].0)
+        || !rows.iter().all(|row| (row.0 as usize) < kind.size())
+    {
+        return Err(TableFault::Size);
+    }
+    tables.insert_rows(kind, &rows)
+}
+
+// Tables with the Japanese character U+3042, and the first character of four bytes in gb18030.
+fn insert_few(tables: &mut Tables) -> Result<(), TableFault> {
+    insert_row(tables, IndexKind::Jis0208, (283, 0x3042))?;
+    insert_row(tables, IndexKind::Iso2022JpKatakana, (0, 0x3002))?;
+    insert_row(tables, IndexKind::Gb18030, (6555, 0x3042))?;
+    tables.insert_ranges(&[(0, 0x80), (189000, 0x10000)])
+}
+
+#[test]
+fn without_an_index(rt: HostRuntime) {
+    let tables = Tables::new(rt.alloc());
+    let text = "a\u{E9}\u{3042}\u{1F600}\u{FFFD}b";
+    let bytes = b"a\xC3\xA9\xE3\x81\x82\xF0\x9F\x98\x80\xF0\x9F\x98b";
+    assert!(rt; goes_on(&tables, UTF_8, bytes, text));
+    assert!(rt; goes_on(&tables, UTF_8, b"\xEF\xBB\xBFa", "a"));
+    assert!(rt; goes_on(&tables, UTF_8, b"\xEF\xBBa", "\u{FFFD}a"));
+    assert!(rt; goes_on(&tables, UTF_8, b"\xFF\xFEa\0\x3D\xD8\0\xDE", "a\u{1F600}"));
+    assert!(rt;
+        goes_on(
+            &tables,
+            UTF_16LE,
+            b"a\0\x3D\xD8\0\xDEb",
+            "a\u{1F600}\u{FFFD}"
+        )
+    );
+    assert!(rt; goes_on(&tables, UTF_16LE, b"\xFE\xFF\0a", "a"));
+    assert!(rt; goes_on(&tables, REPLACEMENT, b"abc", "\u{FFFD}"));
+    assert!(rt; goes_on(&tables, REPLACEMENT, b"\xEF\xBB\xBFabc", "abc"));
+}
+
+#[test]
+fn with_indexes(rt: HostRuntime) {
+    let mut tables = Tables::new(rt.alloc());
+    assert!(rt; insert_few(&mut tables).is_ok());
+    let bytes = b"a\x1B$B$\"\x1B(J\\~\x1B(I1\x1B(Ba";
+    let text = "a\u{3042}\u{A5}\u{203E}\u{FF71}a";
+    assert!(rt; goes_on(&tables, ISO_2022_JP, bytes, text));
+    assert!(rt; goes_on(&tables, ISO_2022_JP, b"\x1B$B\x1B(J\\", "\u{FFFD}\u{A5}"));
+    assert!(rt;
+        goes_on(
+            &tables,
+            GB18030,
+            b"a\x81\x30\x81\x30\x810\x81",
+            "a\u{80}\u{FFFD}"
+        )
+    );
+}
+
+// A finished decoder is saved as finished, and one of an encoding whose index is missing is not
+// made.
+#[test]
+fn finished_and_not_ready(rt: HostRuntime) {
+    let tables = Tables::new(rt.alloc());
+    let mut decoder = UTF_8.new_decoder(&tables);
+    let mut room = [0; 8];
+    let answer = decoder.decode_to_utf8(b"a", &mut room, true);
+    assert_eq!(rt; answer, (CoderResult::InputEmpty, 1, 1, false));
+    let saved = decoder.saved();
+    assert!(rt; saved.made_for() == UTF_8);
+    assert!(rt; saved.made_for().is_ready(&tables));
+    assert!(rt; Decoder::resumed(saved, &tables).is_finished());
+    assert!(rt; !goes_on(&tables, WINDOWS_1252, b"a", "a"));
+}
