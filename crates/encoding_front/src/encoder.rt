@@ -18,6 +18,7 @@ use crate::coder_result::CoderResult;
 use crate::encoding::Encoding;
 use crate::replacing::encode_replacing;
 use crate::variant_encoder::VariantEncoder;
+use encoding_mem::form::EscapeState;
 use encoding_mem::room::EncodedLength;
 use encoding_mem::source::{Source, Utf8Source, Utf16Source};
 use encoding_mem::source_encoder::SourceEncoder;
@@ -382,8 +383,12 @@ impl<'t> SourceEncoder for Encoder<'t> {
         self.variant.encoded_length()
     }
 
-    fn is_in_other_set(&self) -> bool {
-        self.variant.is_in_other_set()
+    fn current_set(&self) -> EscapeState {
+        self.variant.current_set()
+    }
+
+    fn enter(&mut self, next: EscapeState) {
+        self.variant.enter(next);
     }
 }
 

@@ -196,14 +196,14 @@ pub fn last_calls_write_all_text()
 /// pieces, text and encoding holds of what both read together.
 pub fn resumed_decoders_go_on()
     ensures reported { (v u after : DecoderView) (src : List ℕ) (last : Bool) (read : ℕ)
-        → (there : Destination) (free room mark : ℕ) (outcome : DecoderResult) → ReadsAlike v u
-        → DecoderCall u after src last read (HasText there) free room mark outcome
-        → DecoderCall v after src last read (HasText there) free room mark outcome }
+        → (there : Destination) (left : RoomLeft) (outcome : DecoderResult) → ReadsAlike v u
+        → DecoderCall u after src last read (HasText there) left outcome
+        → DecoderCall v after src last read (HasText there) left outcome }
     ensures replaced { (v u after : DecoderView) (src : List ℕ) (last : Bool) (read : ℕ)
-        → (there : Destination) (free room mark : ℕ) (outcome : CoderResult) (had_errors : Bool)
+        → (there : Destination) (left : RoomLeft) (outcome : CoderResult) (had_errors : Bool)
         → ReadsAlike v u
-        → TextCall u after src last read (HasText there) free room mark outcome had_errors
-        → TextCall v after src last read (HasText there) free room mark outcome had_errors }
+        → TextCall u after src last read (HasText there) left outcome had_errors
+        → TextCall v after src last read (HasText there) left outcome had_errors }
 {}
 
 /// A last call of an encoder that read all wrote the bytes of the whole text, from the set that was

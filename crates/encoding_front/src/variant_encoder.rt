@@ -19,6 +19,7 @@ use crate::encoding::Encoding;
 use encoding_codecs::{
     Big5Encoder, EucJpEncoder, EucKrEncoder, Gb18030Encoder, Iso2022JpEncoder, ShiftJisEncoder,
 };
+use encoding_mem::form::EscapeState;
 use encoding_mem::room::EncodedLength;
 use encoding_mem::source::Source;
 use encoding_mem::source_encoder::SourceEncoder;
@@ -136,7 +137,11 @@ impl<'t> SourceEncoder for VariantEncoder<'t> {
         dispatch!(self, encoder => SourceEncoder::encoded_length(encoder))
     }
 
-    fn is_in_other_set(&self) -> bool {
-        dispatch!(self, encoder => encoder.is_in_other_set())
+    fn current_set(&self) -> EscapeState {
+        dispatch!(self, encoder => SourceEncoder::current_set(encoder))
+    }
+
+    fn enter(&mut self, next: EscapeState) {
+        dispatch!(self, encoder => SourceEncoder::enter(encoder, next))
     }
 }

@@ -16,6 +16,6 @@ IsOneError = (b : ℕ) (x : List ℕ) → (malformed_count (pieces_replacement (
 
 -- after replacement's error was returned, no call of a decoder ends for lack of room
 abbrev pub NeedsRoomOnce : Type 0
-NeedsRoomOnce = (s : DecoderState) (unread : List ℕ) (last : Bool) (free room mark : ℕ)
+NeedsRoomOnce = (s : DecoderState) (unread : List ℕ) (last : Bool) (free room replacing : ℕ)
     → ((r : List ℕ) → (IsTrue last → r ≡ []) → s.pieces (unread ++ r) ≡ map (λ _. well_formed 1 []) (unread ++ r))
-    → EndsWith s unread last free room mark OutputFull → ⊥
+    → EndsWith s unread last free room replacing OutputFull → ⊥

@@ -5,7 +5,7 @@ use Rattle.encoding_mem.specs.calls.Resuming.{Reading}
 use Rattle.encoding_mem.specs.declared.codec.decoder_result.DecoderResult.{DecoderResult}
 use Rattle.encoding_tables.specs.IndexLists.{IndexLists}
 use Rattle.encoding_front.specs.calls.DecodedText.{TakesText}
-use Rattle.encoding_front.specs.calls.DecoderCall.{DecoderCall, TextCall}
+use Rattle.encoding_front.specs.calls.DecoderCall.{DecoderCall, RoomLeft, TextCall}
 use Rattle.encoding_front.specs.calls.Resumed.{resumed_in}
 use Rattle.encoding_front.specs.calls.SavedDecoders.{ReadsAlike}
 use Rattle.encoding_front.specs.calls.Stream.{DecoderView, IsMadeFrom}
@@ -16,9 +16,9 @@ pub made_alike : (t : IndexLists) (v u : DecoderView) → ReadsAlike v u → IsM
 made_alike t v u h made = sym h.resumed ∙ made ∙ ap (resumed_in t) (h.source [])
 
 -- what a call of one does is what it does of the other
-pub call_alike : (v u after : DecoderView) (src : List ℕ) (last : Bool) (read : ℕ) (W : List ℕ → Type 0) (free room mark : ℕ) (outcome : DecoderResult) → ReadsAlike v u
-    → DecoderCall u after src last read W free room mark outcome → DecoderCall v after src last read W free room mark outcome
-call_alike v u after src last read W free room mark outcome h call = record {
+pub call_alike : (v u after : DecoderView) (src : List ℕ) (last : Bool) (read : ℕ) (W : List ℕ → Type 0) (left : RoomLeft) (outcome : DecoderResult) → ReadsAlike v u
+    → DecoderCall u after src last read W left outcome → DecoderCall v after src last read W left outcome
+call_alike v u after src last read W left outcome h call = record {
   law = subst (λ (r : Reading). Takes (Reports outcome after.state.pending) r.pieces after.state.pieces src last r.pending after.state.pending read W) (sym h.state) call.law;
   ends = call.ends;
   source = λ r e. h.source (src ++ r) ∙ call.source r e;
@@ -26,9 +26,9 @@ call_alike v u after src last read W free room mark outcome h call = record {
   made = λ t made. call.made t (made_alike t v u h made);
 }
 
-pub text_alike : (v u after : DecoderView) (src : List ℕ) (last : Bool) (read : ℕ) (W : List ℕ → Type 0) (free room mark : ℕ) (outcome : CoderResult) (had_errors : Bool) → ReadsAlike v u
-    → TextCall u after src last read W free room mark outcome had_errors → TextCall v after src last read W free room mark outcome had_errors
-text_alike v u after src last read W free room mark outcome had_errors h call = record {
+pub text_alike : (v u after : DecoderView) (src : List ℕ) (last : Bool) (read : ℕ) (W : List ℕ → Type 0) (left : RoomLeft) (outcome : CoderResult) (had_errors : Bool) → ReadsAlike v u
+    → TextCall u after src last read W left outcome had_errors → TextCall v after src last read W left outcome had_errors
+text_alike v u after src last read W left outcome had_errors h call = record {
   law = subst (λ (r : Reading). TakesText r.pieces after.state.pieces src last r.pending after.state.pending read W had_errors) (sym h.state) call.law;
   ends = call.ends;
   source = λ r e. h.source (src ++ r) ∙ call.source r e;

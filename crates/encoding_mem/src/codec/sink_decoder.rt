@@ -55,6 +55,7 @@ pub trait SinkDecoder {
     fn saved(&self) -> SavedPieces
         ensures same { resumed self.now result.mode (saved_pending result)
             ≡ reading_of (state self.now) }
+        ensures pending { length (saved_pending result) ≡ (state self.now).pending }
         ensures few { HoldsFew (reading_of (state self.now)) };
 
     /// Goes on from where a decoder was saved (`saved`): bytes to come are read as that decoder

@@ -1,12 +1,11 @@
 //! An encoder of any source, and the two sources that a raw encoder is handed.
 
-ghost use Rattle.std.specs.Prelude.{◌≡◌, ◌≢◌, ◌↔◌, ◌-◌, ◌≤◌, IsTrue, length, take};
+ghost use Rattle.std.specs.Prelude.{◌≡◌, ◌≢◌, ◌-◌, ◌≤◌, length, take};
 ghost use Rattle.encoding_mem.specs.Coding.{IsCoding};
 ghost use Rattle.encoding_mem.specs.calls.DecodedLength.{bound_at};
 ghost use Rattle.encoding_mem.specs.calls.EncodedLength.{bound_for};
-ghost use Rattle.encoding_mem.specs.calls.EncoderRule.{EncoderCall, EncoderParts, WritesBytes};
-ghost use Rattle.encoding_mem.specs.calls.EncoderRule.{left};
-ghost use Rattle.encoding_mem.specs.declared.codec.form.EscapeState.TheVariants.{Ascii};
+ghost use Rattle.encoding_mem.specs.calls.EncoderRule.{EncoderCall, EncoderParts, Moves};
+ghost use Rattle.encoding_mem.specs.calls.EncoderRule.{WritesBytes, left};
 
 use crate::codec::encode::{EncoderRule, encode};
 use crate::codec::encoder_result::EncoderResult;
@@ -42,10 +41,16 @@ pub trait SourceEncoder {
     fn encoded_length(&self) -> EncodedLength
         ensures { result ≡ (parts self.now).limits };
 
-    /// Whether another set than ASCII is in force, so that an escape is still to be written at the
-    /// end.
-    fn is_in_other_set(&self) -> bool
-        ensures { IsTrue result ↔ ((parts self.now).set ≢ Ascii) };
+    /// The set that is in force.
+    fn current_set(&self) -> EscapeState
+        ensures { result ≡ (parts self.now).set };
+
+    /// Takes `next` as the set in force, if it is one that calls may leave (`EncoderRule::enter`).
+    /// Nothing but the set in force changes.
+    fn enter(&mut self, next: EscapeState)
+        ensures same { parts self.new ≡ record (parts self.old) { set = (parts self.new).set } }
+        ensures set { Moves (parts self.old).coding (parts self.old).set next
+            → (parts self.new).set ≡ next };
 
     /// That no escape and no character has more bytes than `need` of its parts, and what else is
     /// true of every target.
@@ -64,9 +69,9 @@ impl<R: EncoderRule> SourceEncoder for R {
         dst: &mut [u8],
         last: bool,
     ) -> (EncoderResult, usize) {
-        let mut set = self.current_set();
+        let mut set = EncoderRule::current_set(self);
         let (result, written) = encode(self, &mut set, source, dst, last);
-        self.enter(set);
+        EncoderRule::enter(self, set);
         (result, written)
     }
 
@@ -74,8 +79,12 @@ impl<R: EncoderRule> SourceEncoder for R {
         EncoderRule::encoded_length(self)
     }
 
-    fn is_in_other_set(&self) -> bool {
-        !matches!(self.current_set(), EscapeState::Ascii)
+    fn current_set(&self) -> EscapeState {
+        EncoderRule::current_set(self)
+    }
+
+    fn enter(&mut self, next: EscapeState) {
+        EncoderRule::enter(self, next);
     }
 }
 
@@ -115,6 +124,6 @@ impl<E: SourceEncoder> RawEncoder for E {
     }
 
     fn has_pending_state(&self) -> bool {
-        self.is_in_other_set()
+        !matches!(self.current_set(), EscapeState::Ascii)
     }
 }

@@ -1,4 +1,4 @@
-use Rattle.std.proofs.Common.{◌≡◌, sym, subst}
+use Rattle.std.proofs.Common.{◌≡◌, length, sym, subst}
 use Rattle.encoding_mem.specs.calls.Resuming.{reading_of, saved_pending}
 use Rattle.encoding_front.specs.calls.VariantDecoders.{resumed_of, state_of}
 use Rattle.encoding_front.specs.declared.variant_decoder.VariantDecoder.{VariantDecoder}
@@ -36,3 +36,36 @@ returns-in-Utf16-clause-same c = subst (λ (d : VariantDecoder). resumed_of d c.
 
 pub returns-in-Replacement-clause-same : goal.returns-in-Replacement-clause-same
 returns-in-Replacement-clause-same c = subst (λ (d : VariantDecoder). resumed_of d c.saved-in-Replacement.result.mode (saved_pending c.saved-in-Replacement.result) ≡ reading_of (state_of d)) (sym c.in-Replacement.is) c.saved-in-Replacement.ensures.same
+
+pub returns-in-Utf8-clause-pending : goal.returns-in-Utf8-clause-pending
+returns-in-Utf8-clause-pending c = subst (λ (d : VariantDecoder). length (saved_pending c.saved.result) ≡ (state_of d).pending) (sym c.in-Utf8.is) c.saved.ensures.pending
+
+pub returns-in-SingleByte-clause-pending : goal.returns-in-SingleByte-clause-pending
+returns-in-SingleByte-clause-pending c = subst (λ (d : VariantDecoder). length (saved_pending c.saved-in-SingleByte.result) ≡ (state_of d).pending) (sym c.in-SingleByte.is) c.saved-in-SingleByte.ensures.pending
+
+pub returns-in-Big5-clause-pending : goal.returns-in-Big5-clause-pending
+returns-in-Big5-clause-pending c = subst (λ (d : VariantDecoder). length (saved_pending c.saved-in-Big5.result) ≡ (state_of d).pending) (sym c.in-Big5.is) c.saved-in-Big5.ensures.pending
+
+pub returns-in-EucKr-clause-pending : goal.returns-in-EucKr-clause-pending
+returns-in-EucKr-clause-pending c = subst (λ (d : VariantDecoder). length (saved_pending c.saved-in-EucKr.result) ≡ (state_of d).pending) (sym c.in-EucKr.is) c.saved-in-EucKr.ensures.pending
+
+pub returns-in-EucJp-clause-pending : goal.returns-in-EucJp-clause-pending
+returns-in-EucJp-clause-pending c = subst (λ (d : VariantDecoder). length (saved_pending c.saved-in-EucJp.result) ≡ (state_of d).pending) (sym c.in-EucJp.is) c.saved-in-EucJp.ensures.pending
+
+pub returns-in-ShiftJis-clause-pending : goal.returns-in-ShiftJis-clause-pending
+returns-in-ShiftJis-clause-pending c = subst (λ (d : VariantDecoder). length (saved_pending c.saved-in-ShiftJis.result) ≡ (state_of d).pending) (sym c.in-ShiftJis.is) c.saved-in-ShiftJis.ensures.pending
+
+pub returns-in-Gb18030-clause-pending : goal.returns-in-Gb18030-clause-pending
+returns-in-Gb18030-clause-pending c = subst (λ (d : VariantDecoder). length (saved_pending c.saved-in-Gb18030.result) ≡ (state_of d).pending) (sym c.in-Gb18030.is) c.saved-in-Gb18030.ensures.pending
+
+pub returns-in-Iso2022Jp-clause-pending : goal.returns-in-Iso2022Jp-clause-pending
+returns-in-Iso2022Jp-clause-pending c = subst (λ (d : VariantDecoder). length (saved_pending c.saved-in-Iso2022Jp.result) ≡ (state_of d).pending) (sym c.in-Iso2022Jp.is) c.saved-in-Iso2022Jp.ensures.pending
+
+pub returns-in-UserDefined-clause-pending : goal.returns-in-UserDefined-clause-pending
+returns-in-UserDefined-clause-pending c = subst (λ (d : VariantDecoder). length (saved_pending c.saved-in-UserDefined.result) ≡ (state_of d).pending) (sym c.in-UserDefined.is) c.saved-in-UserDefined.ensures.pending
+
+pub returns-in-Utf16-clause-pending : goal.returns-in-Utf16-clause-pending
+returns-in-Utf16-clause-pending c = subst (λ (d : VariantDecoder). length (saved_pending c.saved-in-Utf16.result) ≡ (state_of d).pending) (sym c.in-Utf16.is) c.saved-in-Utf16.ensures.pending
+
+pub returns-in-Replacement-clause-pending : goal.returns-in-Replacement-clause-pending
+returns-in-Replacement-clause-pending c = subst (λ (d : VariantDecoder). length (saved_pending c.saved-in-Replacement.result) ≡ (state_of d).pending) (sym c.in-Replacement.is) c.saved-in-Replacement.ensures.pending
