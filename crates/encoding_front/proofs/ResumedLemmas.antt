@@ -1,16 +1,21 @@
 -- A decoder that goes on from what was saved of another.
-use Rattle.std.proofs.Common.{◌≡◌, ℕ, ◌+◌, ◌≤◌, ◌<◌, IsTrue, List, [], ◌++◌, length, arith, sym, ◌∙◌, ap}
+use Rattle.std.proofs.Common.{◌≡◌, ℕ, ◌+◌, ◌≤◌, ◌<◌, ◌||◌, IsTrue, List, [], ◌++◌, length, arith, sym, ◌∙◌, ap}
 use Rattle.encoding_mem.specs.calls.Decoding.{DecoderState}
 use Rattle.encoding_mem.specs.calls.Resuming.{HoldsFew, Reading, reading_of, saved_bytes, saved_pending}
 use Rattle.encoding_tables.specs.IndexLists.{IndexLists}
 use Rattle.encoding_front.specs.calls.Resumed.{resumed_in}
 use Rattle.encoding_front.specs.calls.CodecBounds.{decoded_length_of}
 use Rattle.encoding_front.specs.calls.SavedDecoders.{Saves}
-use Rattle.encoding_front.specs.calls.Seeking.{find_mark, is_sought}
-use Rattle.encoding_front.specs.calls.Stream.{DecoderView, IsMadeFrom, encoding_after}
+use Rattle.encoding_front.specs.calls.RoomRules.{room_rule_of}
+use Rattle.encoding_front.specs.calls.Seeking.{can_be, find_mark, is_sought}
+use Rattle.encoding_front.specs.calls.Stream.{DecoderView, IsMadeFrom, Opening, ahead, encoding_after}
 use Rattle.encoding_front.specs.laws.Stream.{held_taken}
+use Rattle.encoding_front.specs.declared.encoding.Encoding.{Encoding}
+use Rattle.encoding_front.specs.declared.decoder.room_rule.RoomRule.{RoomRule}
 use Rattle.encoding_front.specs.declared.decoder.saved_decoder.SavedDecoder.{SavedDecoder}
 use Rattle.encoding_front.specs.declared.seeking.BomMatch.TheVariants.{Prefix}
+use Rattle.encoding_front.specs.declared.seeking.BomSet.{BomSet}
+use Rattle.encoding_front.specs.declared.seeking.ByteOrderMark.TheVariants.{Utf8, Utf16Be, Utf16Le}
 
 -- the encoding in force is that of the mark that was taken, or the one that the decoder was made for
 pub in_force : (w : SavedDecoder) (v : DecoderView) → Saves w v → v.source [] ≡ encoding_after w.encoding w.taken
@@ -45,3 +50,12 @@ resumed_prefix w v held h held_is sought = ap (find_mark w.sought) held_is ∙ h
 pub resumed_room : (w : SavedDecoder) (v : DecoderView) (own : DecoderState) → Saves w v → reading_of v.own ≡ reading_of own
     → own.room ≡ decoded_length_of (encoding_after w.encoding w.taken)
 resumed_room w v own h is = sym (ap (λ (r : Reading). r.room) is) ∙ h.room
+
+-- what its length queries depend on, by what is sought and held
+rule_by : (e : Encoding) (s : BomSet) (held : List ℕ) (pending : ℕ) → RoomRule
+rule_by e s held pending = record { encoding = e; may_be_utf8 = can_be s held Utf8; may_be_utf16 = can_be s held Utf16Be || can_be s held Utf16Le; ahead = ahead held; pending = pending }
+
+pub rule_saved : (w : SavedDecoder) (v : DecoderView) → Saves w v → rule_by (v.source []) w.sought (saved_bytes w.held) (length (saved_pending w.pieces)) ≡ room_rule_of v
+rule_saved w v h =
+    ap (rule_by (v.source []) w.sought (saved_bytes w.held)) (sym h.pending)
+    ∙ ap (λ (o : Opening). rule_by (v.source []) o.sought o.held o.pending) (sym h.opening)

@@ -13,5 +13,6 @@ pub mod DecodedText
 pub mod DecoderCall
 pub mod DecoderViews
 pub mod SavedDecoders
+pub mod SavedEncoders
 pub mod OneShot
 pub mod ReportedCharacter

@@ -36,7 +36,7 @@ use crate::coder_result::CoderResult;
 use crate::encoder::fill_spare;
 use crate::encoding::Encoding;
 use crate::mark::Mark;
-use crate::seeking::{BomMatch, BomSet, ByteOrderMark, find_mark};
+use crate::seeking::{BomMatch, BomSet, ByteOrderMark, encoding_after, find_mark};
 use crate::variant_decoder::VariantDecoder;
 use encoding_mem::pending::Pending;
 use encoding_mem::room::{DecodedLength, OutputUnit};
@@ -218,10 +218,7 @@ impl<'t> StreamDecoder for Decoder<'t> {
     }
 
     fn encoding(&self) -> Encoding {
-        match self.taken {
-            Some(mark) => mark.encoding(),
-            None => self.encoding,
-        }
+        encoding_after(self.encoding, self.taken)
     }
 }
 

@@ -14,6 +14,8 @@ ghost use Rattle.encoding_front.specs.calls.Encoder.{room_without_reference, roo
 ghost use Rattle.encoding_front.specs.laws.Encoder.{coding_laws};
 ghost use Rattle.encoding_front.specs.Encodings.{IsReady, coding_of, output_encoding_of};
 
+pub mod saved_encoder;
+
 use crate::coder_result::CoderResult;
 use crate::encoding::Encoding;
 use crate::replacing::encode_replacing;

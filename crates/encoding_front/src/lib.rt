@@ -85,6 +85,7 @@ pub use decoder::room_rule::RoomRule;
 pub use decoder::saved_decoder::SavedDecoder;
 pub use decoder::{Decoder, StreamDecoder};
 pub use encoder::Encoder;
+pub use encoder::saved_encoder::SavedEncoder;
 pub use encoding::Encoding;
 // What calls return is handed on. `Tables`, which they take, is not: it would have a path in each
 // crate above it.

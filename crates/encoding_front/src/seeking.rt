@@ -4,6 +4,7 @@ ghost use Rattle.std.specs.Prelude.{◌≡◌, ◌||◌};
 ghost use Rattle.encoding_front.specs.calls.Seeking.{can_be, encoding_of_mark, find_end, find_mark};
 ghost use Rattle.encoding_front.specs.calls.Seeking.{find_second, mark_head, is_sought, mark_len};
 ghost use Rattle.encoding_front.specs.calls.Seeking.{nothing_sought, seeks, sought_by};
+ghost use Rattle.encoding_front.specs.calls.Stream.{encoding_after};
 ghost use Rattle.encoding_front.specs.declared.seeking.ByteOrderMark.TheVariants.{Utf16Be, Utf16Le};
 
 use crate::encoding::Encoding;
@@ -52,6 +53,17 @@ impl ByteOrderMark {
             ByteOrderMark::Utf16Be => Encoding::Utf16Be,
             ByteOrderMark::Utf16Le => Encoding::Utf16Le,
         }
+    }
+}
+
+/// The encoding of an input that was said to be in `encoding`, after this mark was taken from it,
+/// or none.
+pub(crate) fn encoding_after(encoding: Encoding, taken: Option<ByteOrderMark>) -> Encoding
+    ensures { result ≡ encoding_after encoding taken }
+{
+    match taken {
+        Some(mark) => mark.encoding(),
+        None => encoding,
     }
 }
 

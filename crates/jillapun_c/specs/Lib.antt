@@ -14,6 +14,7 @@ pub mod IndexFiles
 pub mod Losses
 pub mod Openings
 pub mod Ownership
+pub mod HeldTables
 pub mod Parts
 pub mod Room
 pub mod TextParts

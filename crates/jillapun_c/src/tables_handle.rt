@@ -6,9 +6,11 @@ ghost use Rattle.std.specs.declared.option.Option.{Option};
 ghost use Rattle.std.specs.declared.option.Option.TheVariants.{None, Some};
 ghost use Rattle.encoding_tables.specs.IndexLists.{IndexLists};
 ghost use Rattle.encoding_tables.specs.contracts.tables.Tables.{the_row};
+ghost use Rattle.jillapun_c.specs.HeldTables.{lists_in, no_lists};
 ghost use Rattle.jillapun_c.specs.Ownership.{tables_handle_owns};
 
 use encoding_tables::Tables;
+use std::alloc::Global;
 use std::marker::Model;
 use std::{mem, ptr};
 
@@ -44,6 +46,16 @@ impl TablesHandle {
         TablesHandle::closed(nowhere)
     }
 
+    /// The tables that it holds, which it goes on to hold.
+    pub(crate) fn lent(&self) -> Option<&'static Tables>
+        ensures { MatchOption result (self.now.tables ≡ None) (λ t. self.now.tables ≡ Some t.now) }
+    {
+        if !self.is_open {
+            return None;
+        }
+        Some(unsafe { &*(self.at as *const Tables) })
+    }
+
     /// The tables that it holds; it is closed then.
     pub(crate) fn take(&mut self) -> Option<&'static Tables>
         ensures closed { self.new.tables ≡ None }
@@ -64,6 +76,17 @@ impl TablesHandle {
         }
     }
 
+    /// The tables that it holds, and these, which have no index, if it holds none.
+    pub(crate) fn or<'a>(&self, none: &'a Tables) -> &'a Tables
+        requires { none.now ≡ no_lists }
+        ensures { result.now ≡ lists_in self.now.tables }
+    {
+        match self.lent() {
+            Some(tables) => tables,
+            None => none,
+        }
+    }
+
     /// The tables that it holds.
     pub(crate) fn get(self) -> Option<&'static Tables>
         ensures { MatchOption result (self.tables ≡ None) (λ t. self.tables ≡ Some t.now) }
@@ -74,4 +97,11 @@ impl TablesHandle {
         }
         Some(unsafe { &*(at as *const Tables) })
     }
+}
+
+/// Tables with no index, which take no memory: for a coder that needs none.
+pub(crate) fn no_tables(alloc: Global) -> Tables
+    ensures { result ≡ no_lists }
+{
+    Tables::new(alloc)
 }

@@ -4,14 +4,9 @@ use Rattle.encoding_mem.specs.calls.Resuming.{HoldsFew, Reading, reading_of, sav
 use Rattle.encoding_front.specs.calls.CodecBounds.{decoded_length_of}
 use Rattle.encoding_front.specs.calls.Seeking.{find_mark, is_sought, mark_taken, room_widest, sought_needs, sought_pieces}
 use Rattle.encoding_front.specs.calls.Stream.{DecoderView, encoding_after}
-use Rattle.encoding_front.specs.declared.encoding.Encoding.{Encoding}
 use Rattle.encoding_front.specs.declared.decoder.saved_decoder.SavedDecoder.{SavedDecoder}
 use Rattle.encoding_front.specs.declared.seeking.BomMatch.{BomMatch}
 use Rattle.encoding_front.specs.declared.seeking.BomSet.{BomSet}
-
--- the encoding that a saved decoder was made for
-abbrev pub saved_encoding : SavedDecoder → Encoding
-saved_encoding w = w.encoding
 
 -- how a decoder reads that looks for some marks, and that holds some bytes before those to come, by
 -- how the decoder of the encoding in force reads
@@ -27,6 +22,7 @@ sought_reading s own held = record {
 -- sought with the bytes that are held, the mode and the pending bytes, and whether it is finished.
 pub record Saves (w : SavedDecoder) (v : DecoderView) : Type 0 where
   pub own : v.resumed w.pieces.mode (saved_pending w.pieces) ≡ reading_of v.own
+  pub pending : v.own.pending ≡ length (saved_pending w.pieces)
   pub few : HoldsFew (reading_of v.own)
   pub state : reading_of v.state ≡ sought_reading w.sought (reading_of v.own) (saved_bytes w.held)
   pub opening : v.opening ≡ record { sought = w.sought; held = saved_bytes w.held; room = v.own.room; pending = v.own.pending }

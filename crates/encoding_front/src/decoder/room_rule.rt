@@ -6,11 +6,9 @@ ghost use Rattle.encoding_front.specs.calls.DecoderViews.{decoder_view};
 ghost use Rattle.encoding_front.specs.calls.RoomRules.{room_by, room_rule_of};
 ghost use Rattle.encoding_front.specs.calls.Stream.{room_asked};
 
-use crate::decoder::{Decoder, StreamDecoder, ahead, greater_if};
+use crate::decoder::{Decoder, greater_if};
 use crate::encoding::Encoding;
-use crate::seeking::ByteOrderMark;
 use encoding_mem::room::{DecodedLength, OutputUnit};
-use encoding_mem::sink_decoder::SinkDecoder;
 
 /// What the length queries of a decoder depend on, as it stands: for a caller that keeps these
 /// values, and asks them in place of the decoder. [`Decoder::room_rule`] returns them.
@@ -57,13 +55,6 @@ impl<'t> Decoder<'t> {
         ensures asked { (k : OutputUnit) (n : ℕ)
             → room_asked (decoder_view self.now).opening k n ≡ room_by result k n }
     {
-        let held = self.held.as_slice();
-        RoomRule {
-            encoding: self.encoding(),
-            may_be_utf8: self.sought.can_be(held, ByteOrderMark::Utf8),
-            may_be_utf16: self.sought.can_be_utf16(held),
-            ahead: ahead(held),
-            pending: self.inner.held_len(),
-        }
+        self.saved().room_rule()
     }
 }

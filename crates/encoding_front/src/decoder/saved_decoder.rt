@@ -3,12 +3,14 @@
 ghost use Rattle.std.specs.Prelude.{◌≡◌};
 ghost use Rattle.encoding_front.specs.Encodings.{IsReady};
 ghost use Rattle.encoding_front.specs.calls.DecoderViews.{decoder_view};
-ghost use Rattle.encoding_front.specs.calls.SavedDecoders.{ReadsAlike, Saves, saved_encoding};
+ghost use Rattle.encoding_front.specs.calls.RoomRules.{room_rule_of};
+ghost use Rattle.encoding_front.specs.calls.SavedDecoders.{ReadsAlike, Saves};
 ghost use Rattle.encoding_front.specs.calls.Stream.{DecoderView, IsMadeFrom};
 
-use crate::decoder::Decoder;
+use crate::decoder::room_rule::RoomRule;
+use crate::decoder::{Decoder, ahead};
 use crate::encoding::Encoding;
-use crate::seeking::{BomSet, ByteOrderMark};
+use crate::seeking::{BomSet, ByteOrderMark, encoding_after};
 use crate::variant_decoder::VariantDecoder;
 use encoding_mem::pending::Pending;
 use encoding_mem::saved_pieces::{SavedBytes, SavedPieces};
@@ -19,20 +21,40 @@ use encoding_tables::Tables;
 /// [`Decoder::saved`] returns it, and [`Decoder::resumed`] makes a decoder of it that goes on.
 #[derive(Clone, Copy)]
 pub struct SavedDecoder {
-    encoding: Encoding,
-    sought: BomSet,
-    held: SavedBytes,
-    taken: Option<ByteOrderMark>,
-    is_finished: bool,
-    pieces: SavedPieces,
+    /// The encoding that the decoder was made for: one that a byte order mark named is not meant.
+    pub encoding: Encoding,
+    /// The marks that it still looks for.
+    pub sought: BomSet,
+    /// The bytes that it holds meanwhile.
+    pub held: SavedBytes,
+    /// The byte order mark that was taken, if one was.
+    pub taken: Option<ByteOrderMark>,
+    /// Whether its stream has ended.
+    pub is_finished: bool,
+    /// What the decoder of the encoding in force keeps.
+    pub pieces: SavedPieces,
 }
 
 impl SavedDecoder {
-    /// The encoding that the decoder was made for: one that a byte order mark named is not meant.
-    pub fn made_for(&self) -> Encoding
-        ensures { result ≡ saved_encoding self.now }
+    /// The encoding in force, as [`Decoder::encoding`] of the decoder that was saved.
+    pub fn encoding_in_force(&self) -> Encoding
+        ensures { (v : DecoderView) → Saves self.now v → result ≡ v.source [] }
     {
-        self.encoding
+        encoding_after(self.encoding, self.taken)
+    }
+
+    /// What the length queries of the decoder that was saved depend on (`Decoder::room_rule`).
+    pub fn room_rule(&self) -> RoomRule
+        ensures { (v : DecoderView) → Saves self.now v → result ≡ room_rule_of v }
+    {
+        let held = self.held.as_slice();
+        RoomRule {
+            encoding: self.encoding_in_force(),
+            may_be_utf8: self.sought.can_be(held, ByteOrderMark::Utf8),
+            may_be_utf16: self.sought.can_be_utf16(held),
+            ahead: ahead(held),
+            pending: self.pieces.pending.as_slice().len(),
+        }
     }
 }
 
@@ -55,11 +77,11 @@ impl<'t> Decoder<'t> {
     /// would have done.
     ///
     /// The conditions are that the indexes of the encoding that it was made for are in `tables`
-    /// (`SavedDecoder::made_for`, `Encoding::is_ready`), and that the saved decoder was made from
-    /// these `tables`, which its caller knows.
+    /// (`Encoding::is_ready`), and that the saved decoder was made from these `tables`, which its
+    /// caller knows.
     pub fn resumed(saved: SavedDecoder, tables: &'t Tables) -> Self
-        requires ready { IsReady tables.now (saved_encoding saved) }
-        requires saved { (v : DecoderView) × Saves saved v × IsMadeFrom tables.now v }
+        requires ready { IsReady tables.now saved.encoding }
+        requires saved { ∥ (v : DecoderView) × Saves saved v × IsMadeFrom tables.now v ∥₁ }
         ensures alike { (v : DecoderView) → Saves saved v → IsMadeFrom tables.now v
             → ReadsAlike v (decoder_view result) }
         ensures made { IsMadeFrom tables.now (decoder_view result) }

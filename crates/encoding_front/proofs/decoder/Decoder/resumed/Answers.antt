@@ -1,5 +1,7 @@
 use Rattle.std.proofs.Common.{◌≡◌, ◌++◌, length, arith, sym, subst, ◌∙◌, ap}
 use Rattle.encoding_mem.specs.calls.Resuming.{HoldsFew, Reading, reading_of, saved_bytes}
+use Rattle.std.proofs.Props.{props}
+use Rattle.std.proofs.Math.Logic.{∥∥₁_elim}
 use Rattle.encoding_front.specs.calls.Resumed.{resumed_in}
 use Rattle.encoding_front.specs.calls.Seeking.{find_mark, mark_taken}
 use Rattle.encoding_front.specs.calls.SavedDecoders.{sought_reading}
@@ -10,9 +12,8 @@ use Rattle.encoding_front.proofs.ResumedLemmas.{own_resumed, resumed_few, resume
 use Rattle.encoding_front.proofs.decoder.Decoder.resumed.Goals as goal
 
 pub resume_on-requires : goal.resume_on-requires
-resume_on-requires c =
-    let s = c.requires.saved in
-    subst HoldsFew (own_resumed c.args.tables.now c.args.saved s.0 (resumed_of c.new_after-inner.result) s.1 s.2 c.new_after-inner.ensures.resumed) s.1.few
+resume_on-requires c = ∥∥₁_elim c.requires.saved (hlevel props) (λ s.
+    subst HoldsFew (own_resumed c.args.tables.now c.args.saved s.0 (resumed_of c.new_after-inner.result) s.1 s.2 c.new_after-inner.ensures.resumed) s.1.few)
 
 pub returns-clause-alike : goal.returns-clause-alike
 returns-clause-alike c v h made =
@@ -37,28 +38,24 @@ returns-clause-made c =
     let w = c.args.saved in
     let held : c.fill.new.self ≡ saved_bytes w.held = c.fill.ensures ∙ c.as_slice.ensures.bytes in
     c.resume_on.ensures.resumed ∙ c.new_after-inner.ensures.resumed
-    ∙ ap (λ m. resumed_in t (encoding_after w.encoding m)) (sym (held_taken w.sought w.taken c.fill.new.self (λ is. ap (find_mark w.sought) held ∙ c.requires.saved.1.prefix is)))
+    ∙ ap (λ m. resumed_in t (encoding_after w.encoding m)) (sym (held_taken w.sought w.taken c.fill.new.self (λ is. ap (find_mark w.sought) held ∙ ∥∥₁_elim c.requires.saved (hlevel props) (λ s. s.1.prefix is))))
 
 pub invariant_of-result-clause-few : goal.invariant_of-result-clause-few
 invariant_of-result-clause-few c =
-    let s = c.requires.saved in
     let w = c.args.saved in
-    resumed_few w s.0 (state_of c.resume_on.new.self) c.fill.new.self s.1 (own_resumed c.args.tables.now w s.0 (resumed_of c.new_after-inner.result) s.1 s.2 c.new_after-inner.ensures.resumed ∙ sym c.resume_on.ensures.same) (c.fill.ensures ∙ c.as_slice.ensures.bytes)
+    ∥∥₁_elim c.requires.saved (hlevel props) (λ s. resumed_few w s.0 (state_of c.resume_on.new.self) c.fill.new.self s.1 (own_resumed c.args.tables.now w s.0 (resumed_of c.new_after-inner.result) s.1 s.2 c.new_after-inner.ensures.resumed ∙ sym c.resume_on.ensures.same) (c.fill.ensures ∙ c.as_slice.ensures.bytes))
 
 pub invariant_of-result-clause-fresh : goal.invariant_of-result-clause-fresh
 invariant_of-result-clause-fresh c =
-    let s = c.requires.saved in
     let w = c.args.saved in
-    resumed_fresh w s.0 (state_of c.resume_on.new.self) s.1 (own_resumed c.args.tables.now w s.0 (resumed_of c.new_after-inner.result) s.1 s.2 c.new_after-inner.ensures.resumed ∙ sym c.resume_on.ensures.same)
+    ∥∥₁_elim c.requires.saved (hlevel props) (λ s. resumed_fresh w s.0 (state_of c.resume_on.new.self) s.1 (own_resumed c.args.tables.now w s.0 (resumed_of c.new_after-inner.result) s.1 s.2 c.new_after-inner.ensures.resumed ∙ sym c.resume_on.ensures.same))
 
 pub invariant_of-result-clause-prefix : goal.invariant_of-result-clause-prefix
 invariant_of-result-clause-prefix c =
-    let s = c.requires.saved in
     let w = c.args.saved in
-    resumed_prefix w s.0 c.fill.new.self s.1 (c.fill.ensures ∙ c.as_slice.ensures.bytes)
+    ∥∥₁_elim c.requires.saved (hlevel props) (λ s. resumed_prefix w s.0 c.fill.new.self s.1 (c.fill.ensures ∙ c.as_slice.ensures.bytes))
 
 pub invariant_of-result-clause-room : goal.invariant_of-result-clause-room
 invariant_of-result-clause-room c =
-    let s = c.requires.saved in
     let w = c.args.saved in
-    resumed_room w s.0 (state_of c.resume_on.new.self) s.1 (own_resumed c.args.tables.now w s.0 (resumed_of c.new_after-inner.result) s.1 s.2 c.new_after-inner.ensures.resumed ∙ sym c.resume_on.ensures.same)
+    ∥∥₁_elim c.requires.saved (hlevel props) (λ s. resumed_room w s.0 (state_of c.resume_on.new.self) s.1 (own_resumed c.args.tables.now w s.0 (resumed_of c.new_after-inner.result) s.1 s.2 c.new_after-inner.ensures.resumed ∙ sym c.resume_on.ensures.same))

@@ -3,7 +3,10 @@ use Rattle.encoding_front.specs.contracts.decoder.DecoderStreamDecoder.TheImpl a
 use Rattle.encoding_front.specs.laws.RoomRules.{asked_by_rule}
 use Rattle.encoding_front.proofs.decoder.Decoder.room_rule.Goals as goal
 
+pub returns-clause-rule : goal.returns-clause-rule
+returns-clause-rule c = c.room_rule.ensures (decoder_view c.args.self.now) c.saved.ensures
+
 pub returns-clause-asked : goal.returns-clause-asked
 returns-clause-asked c k n =
-    rw c.encoding.ensures (rw c.can_be.ensures (rw c.can_be_utf16.ensures (rw c.ahead.ensures (rw c.held_len.ensures (rw c.as_slice-held.ensures
-    (asked_by_rule (decoder_view c.args.self.now) (decoder.ghosts.opened c.args.self.now) k n))))))
+    rw c.room_rule.ensures (decoder_view c.args.self.now) c.saved.ensures
+    (asked_by_rule (decoder_view c.args.self.now) (decoder.ghosts.opened c.args.self.now) k n)

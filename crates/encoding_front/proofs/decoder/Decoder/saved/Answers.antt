@@ -21,6 +21,7 @@ returns c =
     let back = sym held in
     record {
       own = c.saved.ensures.same;
+      pending = sym c.saved.ensures.pending;
       few = c.saved.ensures.few;
       state = ap (sought_reading d.sought (reading_of own)) back;
       opening = ap (λ x. record { sought = d.sought; held = x; room = own.room; pending = own.pending }) back;
