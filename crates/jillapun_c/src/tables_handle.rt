@@ -97,6 +97,23 @@ impl TablesHandle {
         }
         Some(unsafe { &*(at as *const Tables) })
     }
+
+    // Another one that holds the same.
+    fn copied(&self) -> TablesHandle
+        ensures { result ≡ self.now }
+    {
+        TablesHandle {
+            at: self.at,
+            is_open: self.is_open,
+        }
+    }
+
+    /// The tables that it holds, where it cannot be moved.
+    pub(crate) fn lent(&self) -> Option<&'static Tables>
+        ensures { MatchOption result (self.now.tables ≡ None) (λ t. self.now.tables ≡ Some t.now) }
+    {
+        self.copied().get()
+    }
 }
 
 /// Tables with no index, which take no memory: for a coder that needs none.
