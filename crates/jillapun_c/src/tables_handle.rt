@@ -46,16 +46,6 @@ impl TablesHandle {
         TablesHandle::closed(nowhere)
     }
 
-    /// The tables that it holds, which it goes on to hold.
-    pub(crate) fn lent(&self) -> Option<&'static Tables>
-        ensures { MatchOption result (self.now.tables ≡ None) (λ t. self.now.tables ≡ Some t.now) }
-    {
-        if !self.is_open {
-            return None;
-        }
-        Some(unsafe { &*(self.at as *const Tables) })
-    }
-
     /// The tables that it holds; it is closed then.
     pub(crate) fn take(&mut self) -> Option<&'static Tables>
         ensures closed { self.new.tables ≡ None }
