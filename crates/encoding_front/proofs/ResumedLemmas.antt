@@ -1,13 +1,14 @@
 -- A decoder that goes on from what was saved of another.
-use Rattle.std.proofs.Common.{◌≡◌, ℕ, ◌+◌, ◌≤◌, ◌<◌, ◌||◌, IsTrue, List, [], ◌++◌, length, arith, sym, ◌∙◌, ap}
+use Rattle.std.proofs.Common.{◌≡◌, ℕ, ◌+◌, ◌≤◌, ◌<◌, ◌||◌, IsTrue, List, [], ◌++◌, length, arith, sym, subst, ◌∙◌, ap}
 use Rattle.encoding_mem.specs.calls.Decoding.{DecoderState}
 use Rattle.encoding_mem.specs.calls.Resuming.{HoldsFew, Reading, reading_of, saved_bytes, saved_pending}
 use Rattle.encoding_tables.specs.IndexLists.{IndexLists}
+use Rattle.encoding_front.specs.Encodings.{IsReady}
 use Rattle.encoding_front.specs.calls.Resumed.{resumed_in}
 use Rattle.encoding_front.specs.calls.CodecBounds.{decoded_length_of}
 use Rattle.encoding_front.specs.calls.SavedDecoders.{Saves}
 use Rattle.encoding_front.specs.calls.RoomRules.{room_rule_of}
-use Rattle.encoding_front.specs.calls.Seeking.{can_be, find_mark, is_sought}
+use Rattle.encoding_front.specs.calls.Seeking.{can_be, encoding_of_mark, find_mark, is_sought}
 use Rattle.encoding_front.specs.calls.Stream.{DecoderView, IsMadeFrom, Opening, ahead, encoding_after}
 use Rattle.encoding_front.specs.laws.Stream.{held_taken}
 use Rattle.encoding_front.specs.declared.encoding.Encoding.{Encoding}
@@ -15,16 +16,27 @@ use Rattle.encoding_front.specs.declared.decoder.room_rule.RoomRule.{RoomRule}
 use Rattle.encoding_front.specs.declared.decoder.saved_decoder.SavedDecoder.{SavedDecoder}
 use Rattle.encoding_front.specs.declared.seeking.BomMatch.TheVariants.{Prefix}
 use Rattle.encoding_front.specs.declared.seeking.BomSet.{BomSet}
+use Rattle.encoding_front.specs.declared.seeking.ByteOrderMark.{ByteOrderMark}
 use Rattle.encoding_front.specs.declared.seeking.ByteOrderMark.TheVariants.{Utf8, Utf16Be, Utf16Le}
 
 -- the encoding in force is that of the mark that was taken, or the one that the decoder was made for
 pub in_force : (w : SavedDecoder) (v : DecoderView) → Saves w v → v.source [] ≡ encoding_after w.encoding w.taken
 in_force w v h = h.source [] ∙ ap (encoding_after w.encoding) (held_taken w.sought w.taken (saved_bytes w.held) h.prefix)
 
+-- whose indexes are there
+pub in_force_ready : (t : IndexLists) (w : SavedDecoder) (v : DecoderView) → Saves w v → IsMadeFrom t v → IsReady t (encoding_after w.encoding w.taken)
+in_force_ready t w v h made = subst (IsReady t) (in_force w v h) made.ready
+
+-- those of the encodings that a mark names are none
+pub mark_ready : (t : IndexLists) (m : ByteOrderMark) → IsReady t (encoding_of_mark m)
+mark_ready t Utf8 = tt
+mark_ready t Utf16Be = tt
+mark_ready t Utf16Le = tt
+
 -- the decoder of that encoding reads alike if it is resumed
 pub resumes : (t : IndexLists) (w : SavedDecoder) (v : DecoderView) → Saves w v → IsMadeFrom t v
     → v.resumed ≡ resumed_in t (encoding_after w.encoding w.taken)
-resumes t w v h made = made ∙ ap (resumed_in t) (in_force w v h)
+resumes t w v h made = made.reads ∙ ap (resumed_in t) (in_force w v h)
 
 pub own_resumed : (t : IndexLists) (w : SavedDecoder) (v : DecoderView) (resumed : ℕ → List ℕ → Reading) → Saves w v → IsMadeFrom t v
     → resumed ≡ resumed_in t (encoding_after w.encoding w.taken) → reading_of v.own ≡ resumed w.pieces.mode (saved_pending w.pieces)

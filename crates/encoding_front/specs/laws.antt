@@ -9,3 +9,4 @@ pub mod Stream
 pub mod RoomRules
 pub mod ReportedCharacter
 pub mod SavedDecoders
+pub mod Ready

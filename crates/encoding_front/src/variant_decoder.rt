@@ -134,7 +134,7 @@ impl<'t> VariantDecoder<'t> {
         taken: Option<ByteOrderMark>,
         tables: &'t Tables,
     ) -> Self
-        requires { IsReady tables.now encoding }
+        requires { IsReady tables.now (encoding_after encoding taken) }
         ensures rule { rule_of result ≡ latin1_rule (encoding_after encoding taken) }
         ensures resumed { resumed_of result
             ≡ resumed_in tables.now (encoding_after encoding taken) }

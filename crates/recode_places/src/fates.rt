@@ -5,7 +5,7 @@ ghost use Rattle.std.specs.Prelude.{IfSome, IsTrue, Option};
 ghost use Rattle.std.specs.Str.{chars};
 ghost use Rattle.encoding_front.specs.Encodings.{IsReady, output_encoding_of};
 ghost use Rattle.recode_places.specs.Fates.{fate_of, only_one};
-ghost use Rattle.recode_places.specs.calls.Ready.{AreThere-prop};
+ghost use Rattle.encoding_front.specs.laws.Ready.{AreThere-prop};
 
 use encoding_front::{DecoderResult, EncoderResult, Encoding};
 use encoding_tables::Tables;

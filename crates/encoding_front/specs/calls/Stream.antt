@@ -8,7 +8,7 @@ use Rattle.encoding_mem.specs.declared.codec.decoder_result.DecoderResult.TheVar
 use Rattle.encoding_mem.specs.declared.codec.room.OutputUnit.{OutputUnit}
 use Rattle.encoding_mem.specs.declared.codec.room.DecodedLength.{DecodedLength}
 use Rattle.encoding_tables.specs.IndexLists.{IndexLists}
-use Rattle.encoding_front.specs.Encodings.{pieces_of}
+use Rattle.encoding_front.specs.Encodings.{IsReady, pieces_of}
 use Rattle.encoding_front.specs.calls.CodecBounds.{decoded_length_of}
 use Rattle.encoding_front.specs.calls.Latin1Prefix.{latin1_rule, IsAtRest, IsLatin1Prefix}
 use Rattle.encoding_front.specs.calls.Resumed.{resumed_in}
@@ -101,9 +101,11 @@ abbrev pub TellsLatin1Prefix : DecoderView → List ℕ → Option ℕ → Type 
 TellsLatin1Prefix v bytes None = ¬ (SeeksNoMark v.opening × IsAtRest (latin1_rule (v.source [])) v.own)
 TellsLatin1Prefix v bytes (Some n) = SeeksNoMark v.opening × IsAtRest (latin1_rule (v.source [])) v.own × IsLatin1Prefix (latin1_rule (v.source [])) v.own.pieces bytes n
 
--- a decoder was made from these indexes: so it reads by them, in the encoding in force, also after it is resumed
-abbrev pub IsMadeFrom : IndexLists → DecoderView → Type 0
-IsMadeFrom t v = v.resumed ≡ resumed_in t (v.source [])
+-- A decoder was made from these indexes: those of the encoding in force are there, and it reads by them, also after it
+-- is resumed.
+pub record IsMadeFrom (t : IndexLists) (v : DecoderView) : Type 0 where
+  pub ready : IsReady t (v.source [])
+  pub reads : v.resumed ≡ resumed_in t (v.source [])
 
 -- one that has read nothing
 pub record IsNewDecoder (v : DecoderView) (t : IndexLists) (mark : Mark) (e : Encoding) : Type 0 where

@@ -4,6 +4,7 @@ use Rattle.encoding_mem.specs.calls.Decoding.{Reports, Takes}
 use Rattle.encoding_mem.specs.calls.Resuming.{Reading}
 use Rattle.encoding_mem.specs.declared.codec.decoder_result.DecoderResult.{DecoderResult}
 use Rattle.encoding_tables.specs.IndexLists.{IndexLists}
+use Rattle.encoding_front.specs.Encodings.{IsReady}
 use Rattle.encoding_front.specs.calls.DecodedText.{TakesText}
 use Rattle.encoding_front.specs.calls.DecoderCall.{DecoderCall, RoomLeft, TextCall}
 use Rattle.encoding_front.specs.calls.Resumed.{resumed_in}
@@ -13,7 +14,7 @@ use Rattle.encoding_front.specs.declared.coder_result.CoderResult.{CoderResult}
 
 -- they were made from the same indexes
 pub made_alike : (t : IndexLists) (v u : DecoderView) → ReadsAlike v u → IsMadeFrom t v → IsMadeFrom t u
-made_alike t v u h made = sym h.resumed ∙ made ∙ ap (resumed_in t) (h.source [])
+made_alike t v u h made = record { ready = subst (IsReady t) (h.source []) made.ready; reads = sym h.resumed ∙ made.reads ∙ ap (resumed_in t) (h.source []) }
 
 -- what a call of one does is what it does of the other
 pub call_alike : (v u after : DecoderView) (src : List ℕ) (last : Bool) (read : ℕ) (W : List ℕ → Type 0) (left : RoomLeft) (outcome : DecoderResult) → ReadsAlike v u

@@ -1,7 +1,6 @@
 //! What a decoder keeps between calls, as plain words, and a decoder that goes on from them.
 
 ghost use Rattle.std.specs.Prelude.{◌≡◌, []};
-ghost use Rattle.encoding_front.specs.Encodings.{IsReady};
 ghost use Rattle.encoding_front.specs.calls.DecoderViews.{decoder_view};
 ghost use Rattle.encoding_front.specs.calls.RoomRules.{room_rule_of};
 ghost use Rattle.encoding_front.specs.calls.SavedDecoders.{ReadsAlike, Saves};
@@ -76,12 +75,10 @@ impl<'t> Decoder<'t> {
     /// A decoder that goes on where one was saved: its calls do what those of the saved decoder
     /// would have done.
     ///
-    /// The conditions are that the indexes of the encoding that it was made for are in `tables`
-    /// (`Encoding::is_ready`), and that the saved decoder was made from these `tables`, which its
-    /// caller knows.
+    /// The condition is that a decoder was saved which was made from these `tables`: its caller
+    /// keeps them together.
     pub fn resumed(saved: SavedDecoder, tables: &'t Tables) -> Self
-        requires ready { IsReady tables.now saved.encoding }
-        requires saved { ∥ ((v : DecoderView) × Saves saved v × IsMadeFrom tables.now v) ∥₁ }
+        requires { ∥ ((v : DecoderView) × Saves saved v × IsMadeFrom tables.now v) ∥₁ }
         ensures alike { (v : DecoderView) → Saves saved v → IsMadeFrom tables.now v
             → ReadsAlike v (decoder_view result) }
         ensures made { IsMadeFrom tables.now (decoder_view result) }

@@ -1,5 +1,6 @@
 use Rattle.std.proofs.Common.{rules, arith, ◌≡◌, ℕ, ◌-◌, ◌++◌, List, length, true, false, sym, ◌∙◌, ap, subst, [], Some}
 use Rattle.encoding_front.specs.calls.Seeking.{mark_len, is_sought, find_mark, sought_pieces, sought_needs}
+use Rattle.encoding_front.specs.Encodings.{IsReady}
 use Rattle.encoding_front.specs.laws.Stream.{held_taken, room_after_is}
 use Rattle.encoding_front.specs.calls.Resumed.{resumed_in}
 use Rattle.encoding_front.specs.calls.Stream.{encoding_after}
@@ -8,6 +9,7 @@ use Rattle.encoding_front.specs.calls.VariantDecoders.{state_of}
 use Rattle.encoding_front.specs.declared.seeking.BomSet.{BomSet}
 use Rattle.encoding_front.specs.declared.seeking.BomMatch.TheVariants.{Prefix, Whole}
 use Rattle.encoding_front.proofs.BomLemmas.{waits_mark, takes_all, takes_none, takes_whole, other_is, ended_is, prefix_short, few_of, unmarked, untaken, taken_whole, taken_other, taken_ended, taken_prefix, leaves_whole, leaves_all, leaves_none}
+use Rattle.encoding_front.proofs.ResumedLemmas.{mark_ready}
 use Rattle.encoding_front.proofs.decoder.Decoder.take_mark.Goals as goal
 use Rattle.encoding_front.proofs.decoder.Decoder.take_mark.Goals.{in_default-via-in-Prefix+else-not-last, in_default-via-in_default}
 
@@ -92,15 +94,25 @@ returns-in-Prefix-clause-made c =
     let d = c.args.self.now in
     let window = c.prefix_of-window.result in
     let f : find_mark d.sought window ≡ Prefix = ap (find_mark d.sought) (sym c.as_slice.ensures) ∙ sym c.find_mark.ensures ∙ c.in-Prefix.is in
-    λ t is_made. is_made ∙ ap (λ m. resumed_in t (encoding_after d.encoding m)) (held_taken d.sought d.taken d.held d.prefix ∙ sym (held_taken d.sought d.taken window (λ _. f)))
+    λ t made. let same = (held_taken d.sought d.taken d.held d.prefix ∙ sym (held_taken d.sought d.taken window (λ _. f))) in record {
+      ready = subst (λ m. IsReady t (encoding_after d.encoding m)) same made.ready;
+      reads = made.reads ∙ ap (λ m. resumed_in t (encoding_after d.encoding m)) same;
+    }
 
 pub returns-in-Whole-clause-made : goal.returns-in-Whole-clause-made
 returns-in-Whole-clause-made c =
     let d = c.args.self.now in
-    λ t _. c.after_mark-self.ensures.resumed t ∙ ap (λ m. resumed_in t (encoding_after d.encoding m)) (sym (untaken c.nothing-self.result (Some c.in-Whole.mark) (c.new-self.result ++ []) (ap is_sought c.nothing-self.ensures)))
+    let same = sym (untaken c.nothing-self.result (Some c.in-Whole.mark) (c.new-self.result ++ []) (ap is_sought c.nothing-self.ensures)) in
+    λ t _. record {
+      ready = subst (λ m. IsReady t (encoding_after d.encoding m)) same (mark_ready t c.in-Whole.mark);
+      reads = c.after_mark-self.ensures.resumed t ∙ ap (λ m. resumed_in t (encoding_after d.encoding m)) same;
+    }
 
 pub returns-in_default-clause-made : goal.returns-in_default-clause-made
 returns-in_default-clause-made c =
     let d = c.args.self.now in
     let now = c.nothing-self-in_default.result in
-    λ t is_made. is_made ∙ ap (λ m. resumed_in t (encoding_after d.encoding m)) (held_taken d.sought d.taken d.held d.prefix ∙ sym (untaken now d.taken (d.held ++ []) (ap is_sought c.nothing-self-in_default.ensures)))
+    λ t made. let same = (held_taken d.sought d.taken d.held d.prefix ∙ sym (untaken now d.taken (d.held ++ []) (ap is_sought c.nothing-self-in_default.ensures))) in record {
+      ready = subst (λ m. IsReady t (encoding_after d.encoding m)) same made.ready;
+      reads = made.reads ∙ ap (λ m. resumed_in t (encoding_after d.encoding m)) same;
+    }

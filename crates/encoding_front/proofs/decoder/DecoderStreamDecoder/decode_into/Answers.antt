@@ -1,5 +1,6 @@
-use Rattle.std.proofs.Common.{◌≡◌, ◌+◌, ◌++◌, [], length, drop, false, refl, sym, ◌∙◌, ap, length-drop}
+use Rattle.std.proofs.Common.{◌≡◌, ◌+◌, ◌++◌, [], length, drop, false, refl, sym, subst, ◌∙◌, ap, length-drop}
 use Rattle.std.proofs.lemmas.List.{take_rest, drop-drop}
+use Rattle.encoding_front.specs.Encodings.{IsReady}
 use Rattle.encoding_front.specs.calls.BomDecoderState.{bom_decoder_state, held_state}
 use Rattle.encoding_front.specs.calls.DecoderViews.{decoder_view}
 use Rattle.encoding_front.specs.calls.Resumed.{resumed_in}
@@ -28,8 +29,13 @@ returns-in-Some-clause-call g c =
       ends = ends_settled (held_state own held.new.held) (bom_decoder_state mid.sought own held.new.held (λ t. cc) (widest_by own.room (encoding_after mid.encoding mid.taken) (held.ensures.call.limits ∙ mid.room))) _ _ c.args.last _ _ _ held.result.0 (λ x. unmarked mid.sought own.pieces (held.new.held ++ x) settled) refl unread held.ensures.call.ends;
       source = λ r e. c.in-Some.ensures.source r e ∙ ap (encoding_after mid.encoding) (untaken mid.sought mid.taken (mid.held ++ r) settled ∙ sym (untaken mid.sought mid.taken (held.new.held ++ (drop (c.in-Some.taken + held.result.1) c.args.src.now ++ r)) settled));
       finished = c.finishes-self.ensures;
-      made = λ t is_made. held.ensures.resumed ∙ c.in-Some.ensures.made t is_made
-          ∙ ap (λ m. resumed_in t (encoding_after mid.encoding m)) (untaken mid.sought mid.taken (mid.held ++ []) settled ∙ sym (untaken mid.sought mid.taken (held.new.held ++ []) settled));
+      made = λ t made.
+          let taken = c.in-Some.ensures.made t made in
+          let same = untaken mid.sought mid.taken (mid.held ++ []) settled ∙ sym (untaken mid.sought mid.taken (held.new.held ++ []) settled) in
+          record {
+            ready = subst (λ m. IsReady t (encoding_after mid.encoding m)) same taken.ready;
+            reads = held.ensures.resumed ∙ taken.reads ∙ ap (λ m. resumed_in t (encoding_after mid.encoding m)) same;
+          };
     }
 
 pub returns-in-Some-clause-enough : goal.returns-in-Some-clause-enough
