@@ -15,7 +15,7 @@ use Rattle.jillapun_c.specs.declared.coder.Coder.{Coder}
 use Rattle.jillapun_c.specs.declared.coder.Coder.TheVariants as coder
 use Rattle.jillapun_c.specs.declared.status.TheConstants.{OK}
 
-same_some : {X : Type 0} (x y : X) → Some x ≡ Some y → x ≡ y
+pub same_some : {X : Type 0} (x y : X) → Some x ≡ Some y → x ≡ y
 same_some x y same = ap (λ o. elim o [ None ↦ x | Some z ↦ z ]) same
 
 -- the decoder that a handle holds is the one that was matched

@@ -2,7 +2,7 @@ use Rattle.std.proofs.Common.{refl, rules}
 use Rattle.jillapun_c.proofs.ConverterRunLemmas.{IsToRead, converts_handed, joins, reads_within}
 use Rattle.jillapun_c.proofs.converter.step.convert_step.Goals as goal
 
-to_read : (c : goal.After-tell-status) → IsToRead c.args.converter.now c.args.src.now c.args.last c.readable-last.result.0.now c.readable-last.result.1
+to_read : (c : goal.After-converter-1) → IsToRead c.args.converter.now c.args.src.now c.args.last c.readable-last.result.0.now c.readable-last.result.1
 to_read c = record { ended = c.readable-last.ensures.ended; open_ = c.readable-last.ensures.open }
 
 pub returns-clause-converts : goal.returns-clause-converts
