@@ -6,17 +6,16 @@ use Rattle.encoding_front.specs.calls.Encoder.{EncoderState, new_state}
 use Rattle.encoding_front.specs.declared.decoder.Decoder.{Decoder}
 use Rattle.encoding_front.specs.declared.encoding.Encoding.{Encoding}
 use Rattle.encoding_front.specs.declared.mark.Mark.{Mark}
-use Rattle.jillapun_c.specs.Coders.{converter_in, decoder_in, encoder_in}
+use Rattle.jillapun_c.specs.Coders.{decoder_in, encoder_in}
 use Rattle.jillapun_c.specs.DecoderCalls.{HoldsNewDecoder, MakesDecoder}
 use Rattle.jillapun_c.specs.EncoderCalls.{MakesEncoder}
 use Rattle.jillapun_c.specs.EncodingNumbers.{encoding_at, mark_at}
 use Rattle.jillapun_c.specs.Openings.{Opens}
 use Rattle.jillapun_c.specs.declared.coder.Coder.{Coder}
 use Rattle.jillapun_c.specs.declared.coder.Coder.TheVariants as coder
-use Rattle.jillapun_c.specs.declared.converter.Converter.{Converter}
 use Rattle.jillapun_c.specs.declared.status.TheConstants.{OK}
 
-same_some : {X : Type 0} (x y : X) → Some x ≡ Some y → x ≡ y
+pub same_some : {X : Type 0} (x y : X) → Some x ≡ Some y → x ≡ y
 same_some x y same = ap (λ o. elim o [ None ↦ x | Some z ↦ z ]) same
 
 -- the decoder that a handle holds is the one that was matched
@@ -37,7 +36,3 @@ held_encoder held d e is found = same_some d e (subst (λ h. encoder_in (Some h)
 
 pub made_encoder : (new : Option Coder) (t : IndexLists) (e : Encoding) → IsReady t (output_encoding_of e) → encoder_in new ≡ Some (new_state t e) → MakesEncoder new OK t e
 made_encoder new t e ready holds = inl (ready, inl (refl, holds))
-
--- the converter that a handle holds is the one that was matched
-pub held_converter : (held : Coder) (d e : Converter) → held ≡ coder.Converter d → converter_in (Some held) ≡ Some e → d ≡ e
-held_converter held d e is found = same_some d e (subst (λ h. converter_in (Some h) ≡ Some e) is found)

@@ -21,14 +21,12 @@ use Rattle.recode.specs.declared.job.Report.{Report as RunReport}
 use Rattle.recode.specs.laws.Calls.{owed_on, part_none, taken_characters, taken_first, taken_on, taken_report, taken_whole}
 use Rattle.recode.specs.laws.Items.{log_bytes-append, log_bytes-bytes, log_bytes-lines, lost_line_count-append, lost_line_count-bytes, output_bytes-append, output_bytes-bytes, output_bytes-lines, spared_append, spared_bytes, tagged-append, written_spared, written_whole}
 use Rattle.jillapun_c.proofs.ConverterTurnLemmas.{length_none, owes_split}
-use Rattle.jillapun_c.specs.Coders.{converter_in}
 use Rattle.jillapun_c.specs.ConverterRuns.{Carries, HasConverted, IsFirstPartOf, IsOverWith, JoinsToCalls, IsAtStage, EndsAtLoss, WritesUnder}
 use Rattle.jillapun_c.specs.ConverterTurns.{CanTurn, TurnEnds, MakesTurn, found_log, found_reference, stage_at}
 use Rattle.jillapun_c.specs.Conversions.{ConvertsInMemory, IsMadeOf, IsToldReport, IsToldStop}
 use Rattle.jillapun_c.specs.Converters.{ConvertsAll, HandsOut, HoldsNothing, IsNewConverter, TellsStage, TellsStatus, held_losses, listed, view_in}
 use Rattle.jillapun_c.specs.Losses.{log_of_losses, loss_bytes}
 use Rattle.jillapun_c.specs.Room.{FillsRoom, IsFilled}
-use Rattle.jillapun_c.specs.declared.coder.Coder.{Coder}
 use Rattle.jillapun_c.specs.declared.converter.Converter.{Converter}
 use Rattle.jillapun_c.specs.declared.converter.Stage.{Stage}
 use Rattle.jillapun_c.specs.declared.converter.Stage.TheVariants.{Open, Stopped, TooLong}
@@ -563,8 +561,8 @@ reads_handed j last input src out records c src' last' h r = elim (over_or_not (
 ]
 
 -- a call goes on with those before it
-pub joins : FirstLaw → (c c' : Converter) (after : Option Coder) (finished : Bool) (src src' dst : List ℕ) (last last' : Bool) (losses : List Loss) (p : ConverterProgress) (report : Report) (status : ℕ)
-    → converter_in after ≡ Some (record c' { is_finished = finished }) → IsToRead c src last src' last'
+pub joins : FirstLaw → (c c' : Converter) (after : Option Converter) (finished : Bool) (src src' dst : List ℕ) (last last' : Bool) (losses : List Loss) (p : ConverterProgress) (report : Report) (status : ℕ)
+    → after ≡ Some (record c' { is_finished = finished }) → IsToRead c src last src' last'
     → Carries c c' last' src' (drop p.read src') (take p.written dst) (take p.losses losses) → TellsStatus c' report status → JoinsToCalls c after src last dst losses p report status
 joins law c c' after finished src src' dst last last' losses p report status held_is reads carries tells = λ j before input rest more out records h is end.
     let handed : HasConverted j last (input ++ more) src out records c =

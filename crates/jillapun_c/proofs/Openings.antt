@@ -28,7 +28,7 @@ use Rattle.std.specs.contracts.impls.GlobalAllocator.TheImpl.{ghosts}
 use Rattle.std.specs.Box.Ownership.{box_owns}
 use Rattle.std.proofs.alloc.Calls.{Al, handle_tells}
 use Rattle.std.proofs.cell.Inside.{Good}
-use Rattle.jillapun_c.specs.Ownership.{coder_handle_owns, tables_handle_owns}
+use Rattle.jillapun_c.specs.Ownership.{box_handle_owns, tables_handle_owns}
 use Rattle.jillapun_c.specs.contracts.loose.Loose as loose
 use Rattle.jillapun_c.proofs.Words.{pair}
 
@@ -69,18 +69,18 @@ module _ {M : Type 1} {𝓤 : Ura M} {𝓛 : Logic 𝓤} {K : Type 0} {Γ : List
   never_so : K → Seq K 𝓛 (‵ ffalse ∷ Γ) G
   never_so t = use1 𝓛 (given ⊥ (‵ ftrue)) (never_e 𝓤 _) $ learn t (λ z. absurd z)
 
-  -- a handle of a coder is closed and holds nothing, or is open and owns the coder's box
-  pub coder_held_or_not : K → (R : RattleType) (is_open : Bool) (p : Ptr) (coder : Option R.Denot)
-      → (is_open ≡ false → coder ≡ None → Seq K 𝓛 Γ G)
-      → ((heap : Global) (b o : ℕ) (x : R.Denot) → is_open ≡ true → p ≡ block_ptr b o → coder ≡ Some x
+  -- a handle of a box is closed and holds nothing, or is open and owns the box
+  pub box_held_or_not : K → (R : RattleType) (is_open : Bool) (p : Ptr) (held : Option R.Denot)
+      → (is_open ≡ false → held ≡ None → Seq K 𝓛 Γ G)
+      → ((heap : Global) (b o : ℕ) (x : R.Denot) → is_open ≡ true → p ≡ block_ptr b o → held ≡ Some x
       → Seq K 𝓛 (‵ (box_owns (ghosts.dealloc_token heap) R (block_ptr b o) x) ∷ Γ) G)
-      → Seq K 𝓛 (‵ (coder_handle_owns R is_open p coder) ∷ Γ) G
-  coder_held_or_not t R false p None closed opened = drop t $ closed refl refl
-  coder_held_or_not t R true p (Some x) closed opened =
+      → Seq K 𝓛 (‵ (box_handle_owns R is_open p held) ∷ Γ) G
+  box_held_or_not t R false p None closed opened = drop t $ closed refl refl
+  box_held_or_not t R true p (Some x) closed opened =
       fpick t (λ heap. in_a_block t p (λ q. box_owns (ghosts.dealloc_token heap) R q x)
       (fst∗ 𝓤 (never 𝓤) (sem 𝓛 (ghosts.dealloc_token heap (bare (lone R.mir)) null_ptr))) (λ b o at. opened heap b o x refl at refl))
-  coder_held_or_not t R true p None closed opened = never_so t
-  coder_held_or_not t R false p (Some x) closed opened = never_so t
+  box_held_or_not t R true p None closed opened = never_so t
+  box_held_or_not t R false p (Some x) closed opened = never_so t
 
   -- a handle of tables is closed and holds nothing, or is open and holds what a reference to them holds
   pub tables_held_or_not : K → (R : RattleType) (is_open : Bool) (p : Ptr) (tables : Option R.Denot)

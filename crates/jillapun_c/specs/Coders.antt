@@ -4,7 +4,6 @@ use Rattle.encoding_front.specs.declared.decoder.Decoder.{Decoder}
 use Rattle.encoding_front.specs.calls.Encoder.{EncoderState}
 use Rattle.jillapun_c.specs.declared.coder.Coder.{Coder}
 use Rattle.jillapun_c.specs.declared.coder.Coder.TheVariants as coder
-use Rattle.jillapun_c.specs.declared.converter.Converter.{Converter}
 
 -- the decoder, if it is one
 abbrev pub decoder_in : Option Coder → Option Decoder
@@ -19,10 +18,3 @@ encoder_in None = None
 encoder_in (Some (coder.Decoder d)) = None
 encoder_in (Some (coder.Encoder e)) = Some e
 encoder_in (Some (coder.Converter c)) = None
-
--- the converter, if it is one
-abbrev pub converter_in : Option Coder → Option Converter
-converter_in None = None
-converter_in (Some (coder.Decoder d)) = None
-converter_in (Some (coder.Encoder e)) = None
-converter_in (Some (coder.Converter c)) = Some c

@@ -12,11 +12,9 @@ use Rattle.recode.specs.declared.converter.ConverterResult.TheVariants.{Found}
 use Rattle.recode.specs.declared.job.Job.{Job}
 use Rattle.recode.specs.declared.job.Policy.{Policy}
 use Rattle.jillapun_c.specs.Asked.{IfAsked}
-use Rattle.jillapun_c.specs.Coders.{converter_in}
 use Rattle.jillapun_c.specs.Conversions.{ConvertsInMemory}
 use Rattle.jillapun_c.specs.Converters.{IsNewConverter, held_losses, view_in}
 use Rattle.jillapun_c.specs.Losses.{log_of_losses}
-use Rattle.jillapun_c.specs.declared.coder.Coder.{Coder}
 use Rattle.jillapun_c.specs.declared.converter.Converter.{Converter}
 use Rattle.jillapun_c.specs.declared.converter.Stage.{Stage}
 use Rattle.jillapun_c.specs.declared.converter.Stage.TheVariants.{Open, Stopped, TooLong}
@@ -79,32 +77,32 @@ pub record IsFirstPartOf (j : Job) (last : Bool) (input output : List ℕ) (loss
 -- a handle holds a converter whose calls were handed this input and handed out this output and these records; these are
 -- the first part of what the job makes of it; and a report and a status tell of them what those of a conversion in
 -- memory do
-pub record HoldsConversion (j : Job) (last : Bool) (input rest output : List ℕ) (losses : List Loss) (held : Option Coder) (report : Report) (status : ℕ) : Type 0 where
+pub record HoldsConversion (j : Job) (last : Bool) (input rest output : List ℕ) (losses : List Loss) (held : Option Converter) (report : Report) (status : ℕ) : Type 0 where
   pub converter : Converter
-  pub held_is : converter_in held ≡ Some converter
+  pub held_is : held ≡ Some converter
   pub so_far : HasConverted j last input rest output losses converter
   pub part : IsFirstPartOf j last input output losses
   pub told : ConvertsInMemory j input output losses report status
 
 -- A call of a converter goes on with what the calls before it left and handed out: it is handed first what they have not
 -- read, and nothing else if they were handed the end. What it hands out is joined to that, and what it tells is true of all.
-abbrev pub JoinsToCalls : Converter → (held : Option Coder) (src : List ℕ) (last : Bool) (dst : List ℕ) → List Loss → ConverterProgress → Report → (status : ℕ) → Type 0
+abbrev pub JoinsToCalls : Converter → (held : Option Converter) (src : List ℕ) (last : Bool) (dst : List ℕ) → List Loss → ConverterProgress → Report → (status : ℕ) → Type 0
 JoinsToCalls c held src last dst losses p report status = (j : Job) (last_before : Bool) (input rest more output : List ℕ) (records : List Loss)
     → HasConverted j last_before input rest output records c → src ≡ rest ++ more → (last_before ≡ true → (last ≡ true) × (more ≡ []))
     → HoldsConversion j last (input ++ more) (drop p.read src) (output ++ take p.written dst) (records ++ take p.losses losses) held report status
 
 -- a handle holds a converter of a job that was handed nothing
-pub record HoldsNewConverter (job : Job) (held : Option Coder) : Type 0 where
+pub record HoldsNewConverter (job : Job) (held : Option Converter) : Type 0 where
   pub converter : Converter
-  pub held_is : converter_in held ≡ Some converter
+  pub held_is : held ≡ Some converter
   pub is_new : IsNewConverter converter job
   pub so_far : HasConverted job false [] [] [] [] converter
 
 -- a converter of a job is made, or memory is refused
-abbrev pub MakesConverter : (new : Option Coder) (status : ℕ) → Job → Type 0
+abbrev pub MakesConverter : (new : Option Converter) (status : ℕ) → Job → Type 0
 MakesConverter new status j = ((status ≡ OK) × HoldsNewConverter j new) ⊎ (status ≡ NO_MEMORY)
 
 -- a converter is made of the job that the numbers of a call ask for, unless the handle holds something already
-abbrev pub OpensConverter : (held : Option Coder) (tables : Option IndexLists) (from to mark policy limit : ℕ) (new : Option Coder) (status : ℕ) → Type 0
+abbrev pub OpensConverter : (held : Option Converter) (tables : Option IndexLists) (from to mark policy limit : ℕ) (new : Option Converter) (status : ℕ) → Type 0
 OpensConverter held tables from to mark policy limit new status =
     MatchOption held (IfAsked tables from to mark policy limit (MakesConverter new status) status) (λ coder. status ≡ IN_USE)

@@ -5,10 +5,8 @@ use Rattle.recode.specs.Session.{ReportsOn}
 use Rattle.recode.specs.calls.ConverterView.{converter_view}
 use Rattle.recode.specs.declared.job.Job.{Job}
 use Rattle.recode.specs.declared.job.Report.{Report as RunReport}
-use Rattle.jillapun_c.specs.Coders.{converter_in}
 use Rattle.jillapun_c.specs.Conversions.{IsToldReport, IsToldStop}
 use Rattle.jillapun_c.specs.Room.{FillsRoom, IsFilled}
-use Rattle.jillapun_c.specs.declared.coder.Coder.{Coder}
 use Rattle.jillapun_c.specs.declared.converter.Converter.{Converter}
 use Rattle.jillapun_c.specs.declared.converter.Stage.{Stage}
 use Rattle.jillapun_c.specs.declared.converter.Stage.TheVariants.{Open, Stopped, TooLong}
@@ -83,9 +81,9 @@ pub record ConvertsAll (c : Converter) (last : Bool) (unread dst : List ℕ) (lo
 
 -- What a call does: it fills the start of both rooms, converts all that it can, and tells the status. If that is an end,
 -- it was the last call.
-pub record ConvertsByStep (after : Option Coder) (src : List ℕ) (last : Bool) (dst dst' : List ℕ) (losses losses' : List Loss) (p : ConverterProgress) (report : Report) (status : ℕ) : Type 0 where
+pub record ConvertsByStep (after : Option Converter) (src : List ℕ) (last : Bool) (dst dst' : List ℕ) (losses losses' : List Loss) (p : ConverterProgress) (report : Report) (status : ℕ) : Type 0 where
   pub converter : Converter
-  pub held_is : converter_in after ≡ Some converter
+  pub held_is : after ≡ Some converter
   pub read : p.read ≤ length src
   pub output : IsFilled dst dst' p.written
   pub lost : IsFilled losses losses' p.losses

@@ -11,12 +11,12 @@ use Rattle.std.specs.Box.Ownership.{box_owns}
 use Rattle.std.specs.declared.alloc.Global.{Global}
 use Rattle.std.specs.contracts.impls.GlobalAllocator.TheImpl.{ghosts}
 
--- an open handle of a coder owns the box at its address, which a `Global` frees, and a closed one nothing
-abbrev pub coder_handle_owns : (R : RattleType) → Bool → Ptr → Option R.Denot → Fml
-coder_handle_owns R true ptr (Some coder) = fex Global (λ heap. box_owns (ghosts.dealloc_token heap) R ptr coder)
-coder_handle_owns R false ptr None = ftrue
-coder_handle_owns R true ptr None = ffalse
-coder_handle_owns R false ptr (Some coder) = ffalse
+-- an open handle of a box owns the box at its address, which a `Global` frees, and a closed one nothing
+abbrev pub box_handle_owns : (R : RattleType) → Bool → Ptr → Option R.Denot → Fml
+box_handle_owns R true ptr (Some held) = fex Global (λ heap. box_owns (ghosts.dealloc_token heap) R ptr held)
+box_handle_owns R false ptr None = ftrue
+box_handle_owns R true ptr None = ffalse
+box_handle_owns R false ptr (Some held) = ffalse
 
 -- an open handle of tables has a reference to them that never ends, and a closed one nothing
 abbrev pub tables_handle_owns : (R : RattleType) → Bool → Ptr → Option R.Denot → Fml

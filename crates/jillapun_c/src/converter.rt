@@ -6,15 +6,15 @@ ghost use Rattle.jillapun_c.specs.ConverterRuns.{HasConverted, OpensConverter};
 ghost use Rattle.jillapun_c.specs.Converters.{IsNewConverter};
 ghost use Rattle.jillapun_c.specs.declared.status.TheConstants.{OK};
 
+pub(crate) mod handle;
 pub(crate) mod held;
 pub(crate) mod made;
 pub(crate) mod progress;
 pub(crate) mod step;
 pub(crate) mod turn;
 
-use crate::coder::Coder;
+use crate::converter::handle::ConverterHandle;
 use crate::converter::held::Held;
-use crate::handle::CoderHandle;
 use crate::losses::Loss;
 use crate::request::Request;
 use crate::status::{CLOSED, IN_USE, NO_MEMORY, OK};
@@ -68,15 +68,6 @@ impl Converter {
     }
 }
 
-/// A conversion by steps. Begin with `{0}`, which holds none; `jillapun_converter_new` fills it,
-/// and `jillapun_converter_free` empties it. Never copy it: only one of the copies may be used. One
-/// thread at a time.
-#[repr(C)]
-#[derive(Drop)]
-pub struct ConverterHandle {
-    pub coder: CoderHandle,
-}
-
 /// Makes a converter of a new input, from the encoding with the number `from` to the output
 /// encoding of that with the number `to`. `mark`, `policy` and `limit` are as for
 /// `jillapun_convert`.
@@ -95,12 +86,12 @@ pub extern "C" fn jillapun_converter_new(
     limit: u64,
     out: &mut ConverterHandle,
 ) -> u8
-    ensures opens { OpensConverter out.old.coder.coder tables.tables from to mark policy limit
-        out.new.coder.coder result }
-    ensures unchanged { result ≢ OK → out.new.coder.coder ≡ out.old.coder.coder }
+    ensures opens { OpensConverter out.old.converter tables.tables from to mark policy limit
+        out.new.converter result }
+    ensures unchanged { result ≢ OK → out.new.converter ≡ out.old.converter }
 {
-    if let Some(held) = out.coder.take(alloc) {
-        out.coder.put(held);
+    if let Some(held) = out.take(alloc) {
+        out.put(held);
         return IN_USE;
     }
     let Some(tables) = tables.get() else {
@@ -117,9 +108,9 @@ pub extern "C" fn jillapun_converter_new(
         Err(status) => return status,
         Ok(job) => job,
     };
-    match Box::new(alloc, Coder::Converter(Converter::new(job))) {
-        Ok(coder) => {
-            out.coder.put(coder);
+    match Box::new(alloc, Converter::new(job)) {
+        Ok(converter) => {
+            out.put(converter);
             OK
         }
         Err(_) => NO_MEMORY,
@@ -129,7 +120,7 @@ pub extern "C" fn jillapun_converter_new(
 /// Ends a converter, and empties its handle. Nothing is done with one that holds none.
 #[unsafe(no_mangle)]
 pub extern "C" fn jillapun_converter_free(alloc: Global, converter: &mut ConverterHandle)
-    ensures { converter.new.coder.coder ≡ None }
+    ensures { converter.new.converter ≡ None }
 {
-    drop(converter.coder.take(alloc));
+    drop(converter.take(alloc));
 }

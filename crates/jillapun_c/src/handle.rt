@@ -6,7 +6,7 @@ ghost use Rattle.std.specs.declared.option.Option.{Option};
 ghost use Rattle.std.specs.declared.option.Option.TheVariants.{None, Some};
 ghost use Rattle.jillapun_c.specs.contracts.coder.Coder.{the_row};
 ghost use Rattle.jillapun_c.specs.declared.coder.Coder.{Coder};
-ghost use Rattle.jillapun_c.specs.Ownership.{coder_handle_owns};
+ghost use Rattle.jillapun_c.specs.Ownership.{box_handle_owns};
 
 use crate::coder::Coder;
 use crate::loose::Loose;
@@ -24,7 +24,7 @@ pub struct CoderHandle {
 }
 
 impl Model for CoderHandle {
-    ghost also_owns = { λ h. coder_handle_owns the_row h.is_open h.at h.coder };
+    ghost also_owns = { λ h. box_handle_owns the_row h.is_open h.at h.coder };
 }
 
 impl CoderHandle {

@@ -1,7 +1,6 @@
 //! The export that makes a step of a conversion.
 
 ghost use Rattle.std.specs.Prelude.{◌≡◌, ◌↔◌, [], None, Some, false, true};
-ghost use Rattle.jillapun_c.specs.Coders.{converter_in};
 ghost use Rattle.jillapun_c.specs.ConverterRuns.{JoinsToCalls};
 ghost use Rattle.jillapun_c.specs.Converters.{ConvertsByStep, IsIdle, TellsStatus, view_in};
 ghost use Rattle.jillapun_c.specs.declared.converter.Converter.{Converter};
@@ -10,9 +9,9 @@ ghost use Rattle.jillapun_c.specs.declared.converter.progress.TheConstants.Conve
 ghost use Rattle.jillapun_c.specs.declared.report.TheConstants.Report as report_;
 ghost use Rattle.jillapun_c.specs.declared.status.TheConstants.{CLOSED, FINISHED};
 
-use crate::coder::Coder;
+use crate::converter::handle::ConverterHandle;
 use crate::converter::progress::ConverterProgress;
-use crate::converter::{Converter, ConverterHandle, Stage};
+use crate::converter::{Converter, Stage};
 use crate::losses::Loss;
 use crate::report::{Report, told_report, told_stop};
 use crate::status::{CLOSED, FINISHED, GOES_ON, TOO_LONG};
@@ -90,35 +89,35 @@ pub extern "C" fn jillapun_converter_step(
     progress: &mut ConverterProgress,
     report: &mut Report,
 ) -> u8
-    ensures closed { converter_in converter.old.coder.coder ≡ None → result ≡ CLOSED }
-    ensures finished { (c : Converter) → converter_in converter.old.coder.coder ≡ Some c
+    ensures closed { converter.old.converter ≡ None → result ≡ CLOSED }
+    ensures finished { (c : Converter) → converter.old.converter ≡ Some c
         → c.is_finished ≡ true → result ≡ FINISHED }
-    ensures converts { (c : Converter) → converter_in converter.old.coder.coder ≡ Some c
-        → c.is_finished ≡ false → ConvertsByStep converter.new.coder.coder src.now last dst.old
+    ensures converts { (c : Converter) → converter.old.converter ≡ Some c
+        → c.is_finished ≡ false → ConvertsByStep converter.new.converter src.now last dst.old
         dst.new losses.old losses.new progress.new report.new result }
-    ensures joins { (c : Converter) → converter_in converter.old.coder.coder ≡ Some c
-        → c.is_finished ≡ false → JoinsToCalls c converter.new.coder.coder src.now last dst.new
+    ensures joins { (c : Converter) → converter.old.converter ≡ Some c
+        → c.is_finished ≡ false → JoinsToCalls c converter.new.converter src.now last dst.new
         losses.new progress.new report.new result }
-    ensures unchanged { IsIdle (converter_in converter.old.coder.coder)
-        → converter.new.coder.coder ≡ converter.old.coder.coder }
-    ensures kept { IsIdle (converter_in converter.old.coder.coder)
+    ensures unchanged { IsIdle converter.old.converter
+        → converter.new.converter ≡ converter.old.converter }
+    ensures kept { IsIdle converter.old.converter
         → (dst.new ≡ dst.old) × (losses.new ≡ losses.old) }
-    ensures nothing { IsIdle (converter_in converter.old.coder.coder)
+    ensures nothing { IsIdle converter.old.converter
         → (progress.new ≡ progress_.NONE) × (report.new ≡ report_.NONE) }
 {
     *progress = ConverterProgress::NONE;
     *report = Report::NONE;
-    let Some(mut coder) = converter.coder.take(alloc) else {
+    let Some(mut held) = converter.take(alloc) else {
         return CLOSED;
     };
-    let status = convert_step(&mut coder, src, last, dst, losses, progress, report);
-    converter.coder.put(coder);
+    let status = convert_step(&mut held, src, last, dst, losses, progress, report);
+    converter.put(held);
     status
 }
 
-// A step of the converter that it is, if it is one.
+// A step of a converter.
 fn convert_step(
-    coder: &mut Coder,
+    converter: &mut Converter,
     src: &[u8],
     last: bool,
     dst: &mut [u8],
@@ -126,25 +125,18 @@ fn convert_step(
     progress: &mut ConverterProgress,
     report: &mut Report,
 ) -> u8
-    ensures closed { converter_in (Some coder.old) ≡ None → result ≡ CLOSED }
-    ensures finished { (c : Converter) → converter_in (Some coder.old) ≡ Some c
-        → c.is_finished ≡ true → result ≡ FINISHED }
-    ensures converts { (c : Converter) → converter_in (Some coder.old) ≡ Some c
-        → c.is_finished ≡ false → ConvertsByStep (Some coder.new) src.now last dst.old dst.new
-        losses.old losses.new progress.new report.new result }
-    ensures joins { (c : Converter) → converter_in (Some coder.old) ≡ Some c
-        → c.is_finished ≡ false → JoinsToCalls c (Some coder.new) src.now last dst.new losses.new
-        progress.new report.new result }
-    ensures unchanged { IsIdle (converter_in (Some coder.old)) → coder.new ≡ coder.old }
-    ensures kept { IsIdle (converter_in (Some coder.old))
+    ensures finished { converter.old.is_finished ≡ true → result ≡ FINISHED }
+    ensures converts { converter.old.is_finished ≡ false → ConvertsByStep (Some converter.new)
+        src.now last dst.old dst.new losses.old losses.new progress.new report.new result }
+    ensures joins { converter.old.is_finished ≡ false → JoinsToCalls converter.old
+        (Some converter.new) src.now last dst.new losses.new progress.new report.new result }
+    ensures unchanged { converter.old.is_finished ≡ true → converter.new ≡ converter.old }
+    ensures kept { converter.old.is_finished ≡ true
         → (dst.new ≡ dst.old) × (losses.new ≡ losses.old) }
-    ensures nothing { IsIdle (converter_in (Some coder.old))
+    ensures nothing { converter.old.is_finished ≡ true
         → (progress.new ≡ progress.old) × (report.new ≡ report.old) }
 {
     stops_at_first_loss();
-    let Coder::Converter(converter) = coder else {
-        return CLOSED;
-    };
     if converter.is_finished {
         return FINISHED;
     }

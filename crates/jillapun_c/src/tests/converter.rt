@@ -1,9 +1,9 @@
 //! Conversions by steps, with results worked by hand.
 
+use crate::converter::handle::ConverterHandle;
 use crate::converter::progress::ConverterProgress;
 use crate::converter::step::jillapun_converter_step;
-use crate::converter::{ConverterHandle, jillapun_converter_free, jillapun_converter_new};
-use crate::handle::CoderHandle;
+use crate::converter::{jillapun_converter_free, jillapun_converter_new};
 use crate::losses::Loss;
 use crate::report::Report;
 use crate::status::{
@@ -29,15 +29,9 @@ struct Given {
     report: Report,
 }
 
-fn closed() -> ConverterHandle {
-    ConverterHandle {
-        coder: CoderHandle::none(),
-    }
-}
-
 // A converter into windows-1252, of an input of at most 12 bytes.
 fn opened(alloc: Global, from: u8, policy: u8) -> ConverterHandle {
-    let mut converter = closed();
+    let mut converter = ConverterHandle::none();
     let tables = euro(alloc);
     jillapun_converter_new(
         alloc,
@@ -239,7 +233,7 @@ fn others_are_not_opened(rt: HostRuntime) {
         (none, UTF_8, DECIMAL, CLOSED),
     ];
     for (tables, from, policy, wanted) in cases {
-        let mut converter = closed();
+        let mut converter = ConverterHandle::none();
         let status = jillapun_converter_new(
             alloc,
             tables,

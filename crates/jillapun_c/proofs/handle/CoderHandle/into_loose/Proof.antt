@@ -30,7 +30,7 @@ use Rattle.std.proofs.alloc.Global.TheLaws as heap_laws
 use Rattle.std.specs.contracts.impls.GlobalAllocator.TheImpl.{ghosts}
 use Rattle.jillapun_c.specs.contracts.coder.Coder as inner
 use Rattle.jillapun_c.specs.contracts.handle.CoderHandle as handle
-use Rattle.jillapun_c.proofs.Openings.{Loose, allocator, loose_in, coder_held_or_not}
+use Rattle.jillapun_c.proofs.Openings.{Loose, allocator, loose_in, box_held_or_not}
 use Rattle.jillapun_c.proofs.Words.{pair, pair_good, handle_word, handle_told, handle_good, address_good}
 use Rattle.jillapun_c.specs.contracts.handle.CoderHandle.into_loose.{ended, clauses}
 use Rattle.jillapun_c.specs.contracts.handle.CoderHandle.into_loose.Key.{name as #self}
@@ -59,7 +59,7 @@ into_loose_spec 𝓤 𝓛 𝓜 𝓡 wired =
     fsplit ! $ fsplit ! $ drop ! $ move ! (1 ∷ []) $ fsplit ! $ handle_tells (allocator R Z LZ ghosts) ! a z.0.4.1.0 (λ h ea fits.
     -- [the allocator; nothing; what the handle owns; the tokens]
     let Run : List Val → Goal 𝓤 H = λ us. prop (WpFn 𝓤 H 𝓣.C 𝓣.Λ fn us Post) in
-    regoal ! Run (λ i. told i ++ (ea i ++ [])) refl $ move ! (2 ∷ []) $ coder_held_or_not ! R v.is_open v.at v.coder
+    regoal ! Run (λ i. told i ++ (ea i ++ [])) refl $ move ! (2 ∷ []) $ box_held_or_not ! R v.is_open v.at v.coder
     (λ shut none. regoal ! (λ (y : Bool). Run (handle_word v.at y ∷ h ∷ [])) shut refl $
     enter ! 𝓣.C 𝓣.Λ fn (handle_word v.at false ∷ h ∷ []) Post $ alloc_all ! (λ l. pass_all ! refl (handle_good v.at false, (fits, tt)) $ let Ev = env fn.locals l in
     sets ! (of_opd ! (get_in ! (fld ! refl (stop !)) (sub ! 0 refl (whole !)))) refl (address_good v.at) $
