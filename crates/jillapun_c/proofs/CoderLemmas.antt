@@ -1,14 +1,12 @@
 -- What a handle holds, as its calls see it.
 use Rattle.std.proofs.Common.{◌≡◌, ℕ, Option, Some, None, inl, refl, ap, subst}
 use Rattle.encoding_tables.specs.IndexLists.{IndexLists}
-use Rattle.encoding_front.specs.Encodings.{IsReady, output_encoding_of}
-use Rattle.encoding_front.specs.calls.Encoder.{EncoderState, new_state}
+use Rattle.encoding_front.specs.Encodings.{IsReady}
 use Rattle.encoding_front.specs.declared.decoder.Decoder.{Decoder}
 use Rattle.encoding_front.specs.declared.encoding.Encoding.{Encoding}
 use Rattle.encoding_front.specs.declared.mark.Mark.{Mark}
-use Rattle.jillapun_c.specs.Coders.{converter_in, decoder_in, encoder_in}
+use Rattle.jillapun_c.specs.Coders.{converter_in, decoder_in}
 use Rattle.jillapun_c.specs.DecoderCalls.{HoldsNewDecoder, MakesDecoder}
-use Rattle.jillapun_c.specs.EncoderCalls.{MakesEncoder}
 use Rattle.jillapun_c.specs.EncodingNumbers.{encoding_at, mark_at}
 use Rattle.jillapun_c.specs.Openings.{Opens}
 use Rattle.jillapun_c.specs.declared.coder.Coder.{Coder}
@@ -30,13 +28,6 @@ opened held tables number t e Then status none some at then = rw none (rw some (
 pub made_decoder : (mark : ℕ) (new : Option Coder) (t : IndexLists) (e : Encoding) (m : Mark) → mark_at mark ≡ Some m → IsReady t e → HoldsNewDecoder t e m new
     → MakesDecoder mark new OK t e
 made_decoder mark new t e m at ready holds = rw at (inl (ready, inl (refl, holds)))
-
--- the encoder that a handle holds is the one that was matched
-pub held_encoder : (held : Coder) (d e : EncoderState) → held ≡ coder.Encoder d → encoder_in (Some held) ≡ Some e → d ≡ e
-held_encoder held d e is found = same_some d e (subst (λ h. encoder_in (Some h) ≡ Some e) is found)
-
-pub made_encoder : (new : Option Coder) (t : IndexLists) (e : Encoding) → IsReady t (output_encoding_of e) → encoder_in new ≡ Some (new_state t e) → MakesEncoder new OK t e
-made_encoder new t e ready holds = inl (ready, inl (refl, holds))
 
 -- the converter that a handle holds is the one that was matched
 pub held_converter : (held : Coder) (d e : Converter) → held ≡ coder.Converter d → converter_in (Some held) ≡ Some e → d ≡ e
