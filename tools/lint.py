@@ -62,6 +62,7 @@ HAND_PROOFS = [
     "jillapun_c/proofs/loose/Loose/into_box",
     "jillapun_c/proofs/loose/Loose/of",
     "jillapun_c/proofs/tables_handle/TablesHandle/closed",
+    "jillapun_c/proofs/tables_handle/TablesHandle/copied",
     "jillapun_c/proofs/tables_handle/TablesHandle/get",
     "jillapun_c/proofs/tables_handle/TablesHandle/of",
     "recode_log/proofs/history/History/and",

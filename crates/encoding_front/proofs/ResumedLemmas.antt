@@ -52,7 +52,7 @@ pub resumed_room : (w : SavedDecoder) (v : DecoderView) (own : DecoderState) →
 resumed_room w v own h is = sym (ap (λ (r : Reading). r.room) is) ∙ h.room
 
 -- what its length queries depend on, by what is sought and held
-rule_by : (e : Encoding) (s : BomSet) (held : List ℕ) (pending : ℕ) → RoomRule
+abbrev pub rule_by : (e : Encoding) (s : BomSet) (held : List ℕ) (pending : ℕ) → RoomRule
 rule_by e s held pending = record { encoding = e; may_be_utf8 = can_be s held Utf8; may_be_utf16 = can_be s held Utf16Be || can_be s held Utf16Le; ahead = ahead held; pending = pending }
 
 pub rule_saved : (w : SavedDecoder) (v : DecoderView) → Saves w v → rule_by (v.source []) w.sought (saved_bytes w.held) (length (saved_pending w.pieces)) ≡ room_rule_of v

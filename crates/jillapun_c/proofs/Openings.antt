@@ -9,14 +9,17 @@ use base.Fml.{ftrue, ffalse}
 use base.Logic.{never, never_e, fst∗}
 use types.Logic.{Logic, sem}
 use types.Kit.{Item, Goal, Seq, Step, step, ‵, ◌$◌, given, learn, use1, move, drop, fsplit, fjoin, fpick, fpack, feq_i, feq_l}
-use denote.RattleType.{RattleType, Valss}
+use denote.RattleType.{RattleType, RowLaws, Valss}
 use denote.Builtin.{RawPtr}
 use denote.Memory.{lone, shared_of}
 use denote.RawPtr.{Ptr, block_ptr, null_ptr, ptr_val, in_a_block}
 use denote.Steps.{nothing}
 use denote.Param.{layout}
 use denote.Param.Laws.{Laws}
-use denote.Struct.Lending.{lent_at}
+use denote.Opens.{Twice}
+use denote.Sharing.{said, nothing as nothing_lent}
+use denote.SharingLaws.{contraction, nothing_shr_laws}
+use denote.Struct.Lending.{lent_at, lent_at_shr_laws}
 use denote.Struct.Owning.{shape}
 use denote.Struct.Struct.{within}
 use Rattle.std.specs.declared.alloc.Allocator.{Ghosts}
@@ -89,3 +92,11 @@ module _ {M : Type 1} {𝓤 : Ura M} {𝓛 : Logic 𝓤} {K : Type 0} {Γ : List
       in_a_block t p (λ q. lent_at R q x []) (fst∗ 𝓤 (never 𝓤) (sem 𝓛 (shared_of R x 0 0 []))) (λ b o at. opened b o x refl at refl)
   tables_held_or_not t R true p None closed opened = never_so t
   tables_held_or_not t R false p (Some x) closed opened = never_so t
+
+-- what a handle of tables holds can be had twice: a reference can, and a closed one holds nothing
+pub tables_held_twice : {M : Type 1} {𝓤 : Ura M} (𝓛 : Logic 𝓤) (R : RattleType) (L : RowLaws R) (is_open : Bool) (p : Ptr) (tables : Option R.Denot)
+    → Twice 𝓛 (said (tables_handle_owns R is_open p tables))
+tables_held_twice 𝓛 R L false p None _ = contraction 𝓛 nothing_lent nothing_shr_laws []
+tables_held_twice 𝓛 R L true p (Some x) _ = contraction 𝓛 (lent_at R p x) (lent_at_shr_laws R L p x) []
+tables_held_twice {𝓤 = 𝓤} 𝓛 R L true p None _ = never_e 𝓤 _
+tables_held_twice {𝓤 = 𝓤} 𝓛 R L false p (Some x) _ = never_e 𝓤 _

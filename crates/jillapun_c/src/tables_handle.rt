@@ -46,16 +46,6 @@ impl TablesHandle {
         TablesHandle::closed(nowhere)
     }
 
-    /// The tables that it holds, which it goes on to hold.
-    pub(crate) fn lent(&self) -> Option<&'static Tables>
-        ensures { MatchOption result (self.now.tables ≡ None) (λ t. self.now.tables ≡ Some t.now) }
-    {
-        if !self.is_open {
-            return None;
-        }
-        Some(unsafe { &*(self.at as *const Tables) })
-    }
-
     /// The tables that it holds; it is closed then.
     pub(crate) fn take(&mut self) -> Option<&'static Tables>
         ensures closed { self.new.tables ≡ None }
@@ -96,6 +86,23 @@ impl TablesHandle {
             return None;
         }
         Some(unsafe { &*(at as *const Tables) })
+    }
+
+    // Another one that holds the same.
+    fn copied(&self) -> TablesHandle
+        ensures { result ≡ self.now }
+    {
+        TablesHandle {
+            at: self.at,
+            is_open: self.is_open,
+        }
+    }
+
+    /// The tables that it holds, where it cannot be moved.
+    pub(crate) fn lent(&self) -> Option<&'static Tables>
+        ensures { MatchOption result (self.now.tables ≡ None) (λ t. self.now.tables ≡ Some t.now) }
+    {
+        self.copied().get()
     }
 }
 

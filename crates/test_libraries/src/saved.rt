@@ -18,7 +18,7 @@ fn goes_on(tables: &Tables, encoding: Encoding, bytes: &[u8], text: &str) -> boo
         let mut room = [0; 64];
         let (result, _, start, _) = first.decode_to_utf8(begin, &mut room, false);
         let saved = first.saved();
-        if !saved.made_for().is_ready(tables) {
+        if !saved.encoding.is_ready(tables) {
             return false;
         }
         let mut second = Decoder::resumed(saved, tables);
@@ -107,8 +107,8 @@ fn finished_and_not_ready(rt: HostRuntime) {
     let answer = decoder.decode_to_utf8(b"a", &mut room, true);
     assert_eq!(rt; answer, (CoderResult::InputEmpty, 1, 1, false));
     let saved = decoder.saved();
-    assert!(rt; saved.made_for() == UTF_8);
-    assert!(rt; saved.made_for().is_ready(&tables));
+    assert!(rt; saved.encoding == UTF_8);
+    assert!(rt; saved.encoding.is_ready(&tables));
     assert!(rt; Decoder::resumed(saved, &tables).is_finished());
     assert!(rt; !goes_on(&tables, WINDOWS_1252, b"a", "a"));
 }

@@ -1,6 +1,6 @@
 //! What a decoder keeps between calls, as plain words, and a decoder that goes on from them.
 
-ghost use Rattle.std.specs.Prelude.{◌≡◌};
+ghost use Rattle.std.specs.Prelude.{◌≡◌, []};
 ghost use Rattle.encoding_front.specs.Encodings.{IsReady};
 ghost use Rattle.encoding_front.specs.calls.DecoderViews.{decoder_view};
 ghost use Rattle.encoding_front.specs.calls.RoomRules.{room_rule_of};
@@ -81,7 +81,7 @@ impl<'t> Decoder<'t> {
     /// caller knows.
     pub fn resumed(saved: SavedDecoder, tables: &'t Tables) -> Self
         requires ready { IsReady tables.now saved.encoding }
-        requires saved { ∥ (v : DecoderView) × Saves saved v × IsMadeFrom tables.now v ∥₁ }
+        requires saved { ∥ ((v : DecoderView) × Saves saved v × IsMadeFrom tables.now v) ∥₁ }
         ensures alike { (v : DecoderView) → Saves saved v → IsMadeFrom tables.now v
             → ReadsAlike v (decoder_view result) }
         ensures made { IsMadeFrom tables.now (decoder_view result) }

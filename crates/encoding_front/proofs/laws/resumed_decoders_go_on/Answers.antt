@@ -4,6 +4,6 @@ use Rattle.encoding_front.proofs.laws.resumed_decoders_go_on.Goals as goal
 
 pub returns : goal.returns
 returns c = record {
-  reported = λ v u after src last read there free room mark outcome alike call. call_alike v u after src last read (HasText there) free room mark outcome alike call;
-  replaced = λ v u after src last read there free room mark outcome had_errors alike call. text_alike v u after src last read (HasText there) free room mark outcome had_errors alike call;
+  reported = λ v u after src last read there left outcome alike call. call_alike v u after src last read (HasText there) left outcome alike call;
+  replaced = λ v u after src last read there left outcome had_errors alike call. text_alike v u after src last read (HasText there) left outcome had_errors alike call;
 }

@@ -8,5 +8,5 @@ returns-clause-rule c = c.room_rule.ensures (decoder_view c.args.self.now) c.sav
 
 pub returns-clause-asked : goal.returns-clause-asked
 returns-clause-asked c k n =
-    rw c.room_rule.ensures (decoder_view c.args.self.now) c.saved.ensures
+    rw (c.room_rule.ensures (decoder_view c.args.self.now) c.saved.ensures)
     (asked_by_rule (decoder_view c.args.self.now) (decoder.ghosts.opened c.args.self.now) k n)
