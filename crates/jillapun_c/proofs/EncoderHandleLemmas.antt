@@ -1,7 +1,7 @@
 -- What the words of a handle keep of an encoder.
 use mathlib.Core.HLevel.{×_prop, Unit-prop}
 use mathlib.Core.Bool.{Bool-set}
-use Rattle.std.proofs.Common.{◌≡◌, ℕ, inl, inr, List, [], ◌∷◌, Option, Some, None, refl, sym, ◌∙◌, ap, subst}
+use Rattle.std.proofs.Common.{◌≡◌, ℕ, inl, inr, true, List, [], ◌∷◌, Option, Some, None, refl, sym, ◌∙◌, ap, subst}
 use Rattle.std.proofs.Math.Logic.{∥∥₁_elim, ∥∥₁_map}
 use Rattle.std.proofs.Props.{props}
 use Rattle.std.specs.Prelude.{IfSome, IsSomeAnd, option_map}
@@ -11,6 +11,7 @@ use Rattle.encoding_mem.specs.declared.codec.form.EscapeState.{EscapeState}
 use Rattle.encoding_mem.specs.declared.codec.form.EscapeState.TheVariants.{Ascii}
 use Rattle.encoding_tables.specs.IndexLists.{IndexLists}
 use Rattle.encoding_tables.specs.declared.index_kind.IndexKind.{IndexKind}
+use Rattle.encoding_front.specs.EncodingTable.{number_of}
 use Rattle.encoding_front.specs.Encodings.{AreThere, IsReady, output_encoding_of}
 use Rattle.encoding_front.specs.calls.Encoder.{EncoderState, coding_in, new_state}
 use Rattle.encoding_front.specs.calls.SavedEncoders.{saved_of}
@@ -18,11 +19,12 @@ use Rattle.encoding_front.specs.laws.Encoder.{output_twice}
 use Rattle.encoding_front.specs.declared.encoder.saved_encoder.SavedEncoder.{SavedEncoder}
 use Rattle.encoding_front.specs.declared.encoding.Encoding.{Encoding}
 use Rattle.jillapun_c.specs.EncoderCalls.{AnswersEncoder, MakesEncoder}
-use Rattle.jillapun_c.specs.EncoderWords.{AreSound, GoesOnAs, IsSound, encoder_of, saved_encoder_in, saved_with, state_with}
+use Rattle.jillapun_c.specs.EncoderWords.{AreSound, GoesOnAs, IsSound, encoder_of, saved_encoder_in, saved_with, set_at, state_with}
 use Rattle.jillapun_c.specs.EncodingNumbers.{encoding_at}
 use Rattle.jillapun_c.specs.HeldTables.{lists_in}
 use Rattle.jillapun_c.specs.declared.encoder.words.EncoderWords.{EncoderWords}
 use Rattle.jillapun_c.specs.declared.status.TheConstants.{CLOSED, NOT_READY, OK}
+use Rattle.jillapun_c.proofs.HandleWordLemmas.{found_at}
 
 AreThere-prop : (t : IndexLists) (kinds : List IndexKind) → IsProp (AreThere t kinds)
 AreThere-prop t [] = Unit-prop
@@ -42,7 +44,7 @@ sound_in : (tables : Option IndexLists) (w : EncoderWords) (x : EncoderState) �
 sound_in tables w x is h = ∥∥₁_map {B = IsSound x} h (λ (k : AreSound tables w). subst (λ o. IfSome o IsSound) is k)
 
 module _ (tables : Option IndexLists) (w : EncoderWords) (saved : SavedEncoder) (is : saved_encoder_in w ≡ Some saved) (h : ∥ AreSound tables w ∥₁) where
-  x : EncoderState
+  abbrev x : EncoderState
   x = state_with (lists_in tables) saved
 
   pub held_is : encoder_of tables w ≡ Some x
@@ -106,6 +108,10 @@ new_is tables w e is = ap (option_map (state_with (lists_in tables))) is
 pub new_are_sound : (tables : Option IndexLists) (w : EncoderWords) (e : Encoding) → saved_encoder_in w ≡ Some (saved_with (output_encoding_of e) Ascii)
     → IsReady (lists_in tables) (output_encoding_of e) → AreSound tables w
 new_are_sound tables w e is ready = subst (λ o. IfSome o IsSound) (sym (new_is tables w e is)) (new_sound (lists_in tables) e ready)
+
+-- words that are made of what was saved
+pub saved_is : (w : EncoderWords) (saved : SavedEncoder) → w.is_there ≡ true → w.encoding ≡ number_of saved.encoding → set_at w.set ≡ Some saved.set → saved_encoder_in w ≡ Some saved
+saved_is w saved is_there number set = rw (is_there, number, found_at saved.encoding, set) refl
 
 -- words of no encoder
 pub none_is : (tables : Option IndexLists) (w : EncoderWords) → saved_encoder_in w ≡ None → encoder_of tables w ≡ None

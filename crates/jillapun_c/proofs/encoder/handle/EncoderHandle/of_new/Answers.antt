@@ -6,7 +6,7 @@ use Rattle.jillapun_c.proofs.encoder.handle.EncoderHandle.of_new.Goals as goal
 
 pub invariant_of-result : goal.invariant_of-result
 invariant_of-result c =
-    record { sound = ∣ new_are_sound c.args.tables.tables c.of-words.words c.args.encoding (c.of-words.ensures ∙ ap (λ e. Some (saved_with e Ascii)) c.output_encoding.ensures) c.requires ∣₁ }
+    record { sound = ∣ new_are_sound c.args.tables.tables c.of-words.result c.args.encoding (c.of-words.ensures ∙ ap (λ e. Some (saved_with e Ascii)) c.output_encoding.ensures) c.requires ∣₁ }
 
 pub returns : goal.returns
-returns c = new_is c.args.tables.tables c.of-words.words c.args.encoding (c.of-words.ensures ∙ ap (λ e. Some (saved_with e Ascii)) c.output_encoding.ensures)
+returns c = new_is c.args.tables.tables c.of-words.result c.args.encoding (c.of-words.ensures ∙ ap (λ e. Some (saved_with e Ascii)) c.output_encoding.ensures)
