@@ -67,8 +67,8 @@ pub extern "C" fn jillapun_encoder_encode_from_utf8(
     let Some(mut opened) = encoder.opened(&none) else {
         return CLOSED;
     };
-    let (outcome, read, written, had_unmappable) =
-        opened.encode_from_utf8(part, dst, last & is_whole);
+    let is_last = last & is_whole;
+    let (outcome, read, written, had_unmappable) = opened.encode_from_utf8(part, dst, is_last);
     encoder.keep(&opened);
     *progress = EncoderProgress {
         read,
@@ -129,8 +129,8 @@ pub extern "C" fn jillapun_encoder_encode_from_utf8_without_replacement(
     let Some(mut opened) = encoder.opened(&none) else {
         return CLOSED;
     };
-    let (outcome, read, written) =
-        opened.encode_from_utf8_without_replacement(part, dst, last & is_whole);
+    let is_last = last & is_whole;
+    let (outcome, read, written) = opened.encode_from_utf8_without_replacement(part, dst, is_last);
     encoder.keep(&opened);
     let (outcome, scalar) = encoder_outcome_of(outcome);
     *progress = EncoderProgress {

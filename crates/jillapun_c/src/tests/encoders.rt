@@ -57,8 +57,14 @@ type Left = (u8, u8, [u8; 24], usize);
 fn encoded(alloc: Global, handle: &mut EncoderHandle, text: &[u8], last: bool) -> Left {
     let mut progress = EncoderProgress::NONE;
     let mut bytes = *b"........................";
-    let status =
-        jillapun_encoder_encode_from_utf8(alloc, handle, text, &mut bytes, last, &mut progress);
+    let status = jillapun_encoder_encode_from_utf8(
+        alloc,
+        handle,
+        text,
+        &mut bytes,
+        last,
+        &mut progress,
+    );
     (status, progress.outcome, bytes, progress.written)
 }
 
@@ -71,7 +77,10 @@ fn no_tables_do_for_utf_8(rt: HostRuntime) {
         assert_eq!(rt; status, OK);
         assert_eq!(rt; jillapun_encoder_encoding(&encoder), UTF_8);
         let left = encoded(alloc, &mut encoder, "a€".as_bytes(), true);
-        assert_eq!(rt; left, (OK, INPUT_EMPTY, *b"a\xE2\x82\xAC....................", 4));
+        assert_eq!(rt;
+            left,
+            (OK, INPUT_EMPTY, *b"a\xE2\x82\xAC....................", 4)
+        );
         let mut progress = EncoderProgress::NONE;
         let mut bytes = *b"....";
         let status = jillapun_encoder_encode_from_utf16(
@@ -127,7 +136,10 @@ fn copies_go_on_from_where_they_were_made(rt: HostRuntime) {
     jillapun_encoder_new(alloc, japanese(alloc), ISO_2022_JP, &mut encoder);
     let mut before = copied(&encoder);
     let left = encoded(alloc, &mut encoder, "¥".as_bytes(), false);
-    assert_eq!(rt; left, (OK, INPUT_EMPTY, *b"\x1B(J\\....................", 4));
+    assert_eq!(rt;
+        left,
+        (OK, INPUT_EMPTY, *b"\x1B(J\\....................", 4)
+    );
     let mut after = copied(&encoder);
     let mut moved = encoder;
     assert!(rt; jillapun_encoder_has_pending_state(&moved));
@@ -139,5 +151,8 @@ fn copies_go_on_from_where_they_were_made(rt: HostRuntime) {
     let left = encoded(alloc, &mut after, "a¥".as_bytes(), true);
     assert_eq!(rt; left, (OK, INPUT_EMPTY, rest, 5));
     let left = encoded(alloc, &mut before, "¥".as_bytes(), true);
-    assert_eq!(rt; left, (OK, INPUT_EMPTY, *b"\x1B(J\\\x1B(B.................", 7));
+    assert_eq!(rt;
+        left,
+        (OK, INPUT_EMPTY, *b"\x1B(J\\\x1B(B.................", 7)
+    );
 }

@@ -1,10 +1,10 @@
 //! Calls of an encoder that are handed the whole of a text, again and again, with little room.
 
 use crate::encoder::handle::EncoderHandle;
+use crate::encoder::jillapun_encoder_new;
 use crate::encoder::utf8::{
     jillapun_encoder_encode_from_utf8, jillapun_encoder_encode_from_utf8_without_replacement,
 };
-use crate::encoder::jillapun_encoder_new;
 use crate::encoder_progress::EncoderProgress;
 use crate::status::{INPUT_EMPTY, NOT_UTF8, OK, OUTPUT_FULL, UNMAPPABLE};
 use crate::tests::euro;

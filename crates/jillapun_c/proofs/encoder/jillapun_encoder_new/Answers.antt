@@ -1,5 +1,4 @@
-use Rattle.std.proofs.Common.{refl, sym, subst}
-use Rattle.encoding_front.specs.Encodings.{IsReady, output_encoding_of}
+use Rattle.std.proofs.Common.{refl, sym}
 use Rattle.jillapun_c.specs.Coders.{encoder_in}
 use Rattle.jillapun_c.proofs.EncoderHandleLemmas.{made, not_made}
 use Rattle.jillapun_c.proofs.encoder.jillapun_encoder_new.Goals as goal

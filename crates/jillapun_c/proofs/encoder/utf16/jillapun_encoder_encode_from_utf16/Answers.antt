@@ -1,4 +1,4 @@
-use Rattle.std.proofs.Common.{refl, sym, subst}
+use Rattle.std.proofs.Common.{refl, subst}
 use Rattle.std.specs.Prelude.{IsSomeAnd}
 use Rattle.jillapun_c.specs.Coders.{encoder_in}
 use Rattle.jillapun_c.specs.EncoderWords.{GoesOnAs}

@@ -38,8 +38,7 @@ returns-clause-encodes c utf8 =
     answers (encoder_in c.args.encoder.now) x _ c.in-Some-opened.ensures
     (whole_of_part (λ l t r n o. EncodesAll false x after l t r n c.args.dst.now c.encode_from_utf8-outcome.new.dst o) c.args.last c.in-Some.is_whole c.args.text.now part most q h p.whole
     (λ long. all_goes x after c.args.last c.args.text.now part c.args.dst.now c.encode_from_utf8-outcome.new.dst most q h size c.encode_from_utf8-outcome.ensures.read
-    (long_enough (encoder_in c.args.encoder.now) x most (length c.args.dst.now) (length part) (sym c.in-Some-opened.ensures) c.most_read-most.ensures fits long))
-    (
+    (long_enough (encoder_in c.args.encoder.now) x most (length c.args.dst.now) (length part) (sym c.in-Some-opened.ensures) c.most_read-most.ensures fits long)) (
       text_outcome c.encode_from_utf8-outcome.result.0,
       record {
         encoder = c.encode_from_utf8-outcome.new.self;
@@ -68,8 +67,7 @@ returns-clause-encodes_before c malformed some =
     answers (encoder_in c.args.encoder.now) x _ c.in-Some-opened.ensures
     (before_of_text (λ l t r n o. EncodesAll false x after l t r n c.args.dst.now c.encode_from_utf8-outcome.new.dst o) c.args.last c.in-Some.is_whole c.args.text.now part most q front malformed p.whole
     (λ long. all_goes x after false (text_prefix c.args.text.now) part c.args.dst.now c.encode_from_utf8-outcome.new.dst most q front size c.encode_from_utf8-outcome.ensures.read
-    (long_enough (encoder_in c.args.encoder.now) x most (length c.args.dst.now) (length part) (sym c.in-Some-opened.ensures) c.most_read-most.ensures fits long))
-    (
+    (long_enough (encoder_in c.args.encoder.now) x most (length c.args.dst.now) (length part) (sym c.in-Some-opened.ensures) c.most_read-most.ensures fits long)) (
       text_outcome c.encode_from_utf8-outcome.result.0,
       record {
         encoder = c.encode_from_utf8-outcome.new.self;

@@ -1,11 +1,10 @@
-use Rattle.std.proofs.Common.{◌≡◌, ℕ, ◌<◌, refl, ap, sym, ◌∙◌, arith, false, length, subst}
+use Rattle.std.proofs.Common.{◌≡◌, ℕ, ◌<◌, refl, sym, ◌∙◌, arith, false, length, subst}
 use Rattle.std.specs.Prelude.{◌^◌, IsSomeAnd}
 use Rattle.encoding_mem.specs.Conversions.{text_prefix}
 use Rattle.jillapun_c.specs.Coders.{encoder_in}
-use Rattle.jillapun_c.specs.DecoderCalls.{text_outcome}
 use Rattle.jillapun_c.specs.EncoderCalls.{EncodesUpToLost}
 use Rattle.jillapun_c.specs.EncoderWords.{GoesOnAs}
-use Rattle.jillapun_c.specs.TextParts.{IsFirstPart, told_outcome}
+use Rattle.jillapun_c.specs.TextParts.{IsFirstPart}
 use Rattle.jillapun_c.specs.declared.encoder_progress.EncoderProgress.{EncoderProgress}
 use Rattle.jillapun_c.proofs.EncoderHandleLemmas.{answers, answers_closed}
 use Rattle.jillapun_c.proofs.TextCallLemmas.{part_goes, before_of_text, long_enough, reads_text, whole_of_part}
@@ -38,8 +37,7 @@ returns-clause-encodes c utf8 =
     answers (encoder_in c.args.encoder.now) x _ c.in-Some-opened.ensures
     (whole_of_part (λ l t r n o. EncodesUpToLost false x after l t r n c.args.dst.now c.encode_from_utf8_without_replacement-outcome.new.dst o) c.args.last c.in-Some.is_whole c.args.text.now part most q h p.whole
     (λ long. part_goes x after c.args.last c.args.text.now part c.args.dst.now c.encode_from_utf8_without_replacement-outcome.new.dst most q h size c.encode_from_utf8_without_replacement-outcome.ensures.read
-    (long_enough (encoder_in c.args.encoder.now) x most (length c.args.dst.now) (length part) (sym c.in-Some-opened.ensures) c.most_read-most.ensures fits long))
-    (
+    (long_enough (encoder_in c.args.encoder.now) x most (length c.args.dst.now) (length part) (sym c.in-Some-opened.ensures) c.most_read-most.ensures fits long)) (
       c.encoder_outcome_of-outcome.result.0,
       record {
         encoder = c.encode_from_utf8_without_replacement-outcome.new.self;
@@ -68,8 +66,7 @@ returns-clause-encodes_before c malformed some =
     answers (encoder_in c.args.encoder.now) x _ c.in-Some-opened.ensures
     (before_of_text (λ l t r n o. EncodesUpToLost false x after l t r n c.args.dst.now c.encode_from_utf8_without_replacement-outcome.new.dst o) c.args.last c.in-Some.is_whole c.args.text.now part most q front malformed p.whole
     (λ long. part_goes x after false (text_prefix c.args.text.now) part c.args.dst.now c.encode_from_utf8_without_replacement-outcome.new.dst most q front size c.encode_from_utf8_without_replacement-outcome.ensures.read
-    (long_enough (encoder_in c.args.encoder.now) x most (length c.args.dst.now) (length part) (sym c.in-Some-opened.ensures) c.most_read-most.ensures fits long))
-    (
+    (long_enough (encoder_in c.args.encoder.now) x most (length c.args.dst.now) (length part) (sym c.in-Some-opened.ensures) c.most_read-most.ensures fits long)) (
       c.encoder_outcome_of-outcome.result.0,
       record {
         encoder = c.encode_from_utf8_without_replacement-outcome.new.self;

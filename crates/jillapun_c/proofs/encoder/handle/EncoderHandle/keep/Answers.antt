@@ -1,4 +1,4 @@
-use Rattle.std.proofs.Common.{◌≡◌, Some, sym, ap, ◌∙◌}
+use Rattle.std.proofs.Common.{Some, ap, ◌∙◌}
 use Rattle.jillapun_c.specs.Coders.{encoder_in}
 use Rattle.jillapun_c.specs.EncoderWords.{GoesOnAs}
 use Rattle.jillapun_c.proofs.EncoderHandleLemmas.{kept_is, kept_sound, there}

@@ -1,4 +1,4 @@
-use Rattle.std.proofs.Common.{◌≡◌, Some, sym, ap, ◌∙◌}
+use Rattle.std.proofs.Common.{Some, ap, ◌∙◌}
 use Rattle.encoding_mem.specs.declared.codec.form.EscapeState.TheVariants.{Ascii}
 use Rattle.jillapun_c.specs.EncoderWords.{saved_with}
 use Rattle.jillapun_c.proofs.EncoderHandleLemmas.{new_are_sound, new_is}
