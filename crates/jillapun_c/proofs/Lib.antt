@@ -4,6 +4,7 @@ mod CoderLemmas
 mod ConversionLemmas
 mod ConverterRunLemmas
 mod ConverterTurnLemmas
+mod EncoderHandleLemmas
 mod EncoderPartLemmas
 mod EncodingNumberLemmas
 mod HandleWordLemmas

@@ -21,7 +21,6 @@ use Rattle.encoding_front.specs.declared.encoding.Encoding.{Encoding}
 use Rattle.jillapun_c.specs.DecoderCalls.{text_outcome}
 use Rattle.jillapun_c.specs.EncoderCalls.{EncodesAll, EncodesUpToLost, IsEncoderOutcome}
 use Rattle.jillapun_c.specs.TextParts.{IsToldOfPart, most_read, told_outcome}
-use Rattle.jillapun_c.specs.declared.coder.Coder.{Coder}
 use Rattle.jillapun_c.specs.declared.encoder_progress.EncoderProgress.{EncoderProgress}
 use Rattle.jillapun_c.proofs.FrontPartLemmas.{encoded_more, more_read, most_encoded, most_replaced, replaced_more}
 use Rattle.jillapun_c.proofs.TextPartLemmas.{IsPartOf, whole_is_text}
@@ -132,7 +131,7 @@ told_full : (o : CoderResult) → o ≢ text_.InputEmpty → told_outcome false 
 told_full text_.InputEmpty ends = absurd (ends refl)
 told_full text_.OutputFull ends = refl
 
-pub all_goes : (e : EncoderState) (after : Option Coder) (last : Bool) (text part old new : List ℕ) (least : ℕ) (p : EncoderProgress) (h : IsPartOf text part least) → length new ≡ length old
+pub all_goes : (e : EncoderState) (after : Option EncoderState) (last : Bool) (text part old new : List ℕ) (least : ℕ) (p : EncoderProgress) (h : IsPartOf text part least) → length new ≡ length old
     → ReadsText part p.read → most_read e.encoding (length old) < length part → (outcome : ℕ)
     → Goes (λ l t r n q. EncodesAll false e after l t r n old new q) last text part (record p { outcome = outcome })
 all_goes e after last text part old new least p h size reads long o did =
@@ -162,7 +161,7 @@ told_number raw_.InputEmpty number scalar ends h = absurd (ends refl)
 told_number raw_.OutputFull number scalar ends h = rw h.0 refl
 told_number (raw_.Unmappable c) number scalar ends h = rw h.0 refl
 
-pub part_goes : (e : EncoderState) (after : Option Coder) (last : Bool) (text part old new : List ℕ) (least : ℕ) (p : EncoderProgress) (h : IsPartOf text part least) → length new ≡ length old
+pub part_goes : (e : EncoderState) (after : Option EncoderState) (last : Bool) (text part old new : List ℕ) (least : ℕ) (p : EncoderProgress) (h : IsPartOf text part least) → length new ≡ length old
     → ReadsText part p.read → most_read e.encoding (length old) < length part → (outcome : ℕ)
     → Goes (λ l t r n q. EncodesUpToLost false e after l t r n old new q) last text part (record p { outcome = outcome })
 part_goes e after last text part old new least p h size reads long o did =

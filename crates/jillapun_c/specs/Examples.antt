@@ -9,7 +9,6 @@ use Rattle.encoding_index.specs.declared.fault.LoadFault.TheVariants.{Text, Tabl
 use Rattle.encoding_index.specs.IndexText.{memory_fault}
 use Rattle.encoding_tables.specs.declared.table_fault.TableFault.TheVariants as table
 use Rattle.encoding_tables.specs.IndexLists.{IndexLists}
-use Rattle.encoding_front.specs.calls.Encoder.{EncoderState}
 use Rattle.encoding_front.specs.declared.encoding.Encoding.{Encoding}
 use Rattle.encoding_front.specs.declared.mark.Mark.{Mark}
 use Rattle.recode_log.specs.declared.line.LogLine.TheVariants.{Bad, Lost}
@@ -17,8 +16,10 @@ use Rattle.recode.specs.declared.converter.ConverterResult.TheVariants.{Found, O
 use Rattle.recode.specs.declared.job.Policy.{Policy}
 use Rattle.jillapun_c.specs.Asked.{policy_at}
 use Rattle.jillapun_c.specs.ConverterTurns.{found_log, line_reference, stage_at}
+use Rattle.jillapun_c.specs.EncoderWords.{encoder_of}
 use Rattle.jillapun_c.specs.EncodingNumbers.{encoding_at, mark_at, needed_file}
-use Rattle.jillapun_c.specs.HandleWords.{decoder_words, encoder_words, is_other_set}
+use Rattle.jillapun_c.specs.HeldTables.{no_lists}
+use Rattle.jillapun_c.specs.HandleWords.{decoder_words}
 use Rattle.jillapun_c.specs.IndexFiles.{told_of}
 use Rattle.jillapun_c.specs.Room.{rest_cleared}
 use Rattle.jillapun_c.specs.TextParts.{IsLookedAt, most_read, told_outcome}
@@ -185,15 +186,22 @@ log_of_malformed = refl
 pub log_of_nothing : found_log OutputFull ≡ []
 log_of_nothing = refl
 
--- what handles tell of encoders
-abbrev in_jis : IndexLists → EncoderState
-in_jis tables = record { tables = tables; encoding = Encoding.Iso2022Jp; set = set.Jis }
+-- what the words of handles stand for: an encoder into ISO-2022-JP in a set; none, if they are zeros; and none, if a
+-- number stands for nothing
+pub encoder_in_jis : (t : IndexLists) → encoder_of (Some t) (record { is_there = true; encoding = 6; set = 2 }) ≡ Some (record { tables = t; encoding = Encoding.Iso2022Jp; set = set.Jis })
+encoder_in_jis t = refl
 
-pub escape_is_pending : (tables : IndexLists) → encoder_words (Some (in_jis tables)) ≡ record { is_there = true; has_pending_state = true; encoding = 6 }
-escape_is_pending tables = refl
+pub encoder_with_no_tables : encoder_of None (record { is_there = true; encoding = 25; set = 0 }) ≡ Some (record { tables = no_lists; encoding = Encoding.Utf8; set = set.Ascii })
+encoder_with_no_tables = refl
 
-pub no_escape_in_ascii : is_other_set set.Ascii ≡ false
-no_escape_in_ascii = refl
+pub zeros_hold_no_encoder : (t : IndexLists) → encoder_of (Some t) (record { is_there = false; encoding = 0; set = 0 }) ≡ None
+zeros_hold_no_encoder t = refl
+
+pub no_such_set : (t : IndexLists) → encoder_of (Some t) (record { is_there = true; encoding = 6; set = 3 }) ≡ None
+no_such_set t = refl
+
+pub no_such_output : (t : IndexLists) → encoder_of (Some t) (record { is_there = true; encoding = 40; set = 0 }) ≡ None
+no_such_output t = refl
 
 pub closed_tells_no_decoder : (decoder_words None).is_there ≡ false
 closed_tells_no_decoder = refl

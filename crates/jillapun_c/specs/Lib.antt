@@ -7,6 +7,7 @@ pub mod ConverterTurns
 pub mod Converters
 pub mod DecoderCalls
 pub mod EncoderCalls
+pub mod EncoderWords
 pub mod EncodingNumbers
 pub mod Examples
 pub mod HandleWords

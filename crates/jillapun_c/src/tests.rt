@@ -1,6 +1,7 @@
 //! Calls of the exports for tables, streams and whole texts, with results worked by hand.
 
 mod converter;
+mod encoders;
 mod joins;
 mod parts;
 mod queries;
@@ -12,10 +13,11 @@ use crate::decoder::utf8::{
 };
 use crate::decoder::utf16::jillapun_decoder_decode_to_utf16;
 use crate::decoder::{DecoderHandle, jillapun_decoder_free, jillapun_decoder_new};
+use crate::encoder::handle::EncoderHandle;
 use crate::encoder::utf8::{
     jillapun_encoder_encode_from_utf8, jillapun_encoder_encode_from_utf8_without_replacement,
 };
-use crate::encoder::{EncoderHandle, jillapun_encoder_free, jillapun_encoder_new};
+use crate::encoder::{jillapun_encoder_free, jillapun_encoder_new};
 use crate::encoder_progress::EncoderProgress;
 use crate::encoding::{
     jillapun_can_encode_everything, jillapun_for_bom, jillapun_for_label,
@@ -253,7 +255,7 @@ fn stream_is_encoded(rt: HostRuntime) {
         &mut progress,
     );
     assert_eq!(rt; status, NOT_UTF8);
-    jillapun_encoder_free(alloc, &mut encoder);
+    jillapun_encoder_free(&mut encoder);
     let status = jillapun_encoder_encode_from_utf8(
         alloc,
         &mut encoder,

@@ -4,18 +4,18 @@ ghost use Rattle.std.specs.Prelude.{◌≡◌, ◌+◌, ◌-◌, ◌^◌, ◌<�
 ghost use Rattle.jillapun_c.specs.Coders.{encoder_in};
 ghost use Rattle.jillapun_c.specs.TextParts.{BeginsMalformed, IsFirstPart, IsLookedAt, most_read};
 
-use crate::encoder::EncoderHandle;
+use crate::encoder::handle::EncoderHandle;
 use std::str;
 
 /// The most bytes of a text that a call of the encoder reads into so much room, if no character
 /// ends the call; 0 if the handle holds no encoder.
 pub(crate) fn most_read(encoder: &EncoderHandle, room: usize) -> usize
-    ensures { MatchOption (encoder_in encoder.now.coder.coder) (result ≡ 0)
+    ensures { MatchOption (encoder_in encoder.now) (result ≡ 0)
         (λ e. result ≡ min (most_read e.encoding room) (2 ^ 64 - 1)) }
 {
-    match encoder.words.output_encoding() {
+    match encoder.words.saved() {
         None => 0,
-        Some(encoding) if encoding.can_encode_everything() => room,
+        Some(saved) if saved.encoding.can_encode_everything() => room,
         Some(_) => room.saturating_mul(4),
     }
 }

@@ -8,30 +8,35 @@ ghost use Rattle.jillapun_c.specs.Coders.{encoder_in};
 ghost use Rattle.jillapun_c.specs.EncoderCalls.{TellsNumber};
 ghost use Rattle.jillapun_c.specs.declared.status.TheConstants.{NO_ENCODING, OK};
 
-use crate::encoder::EncoderHandle;
+use crate::encoder::handle::EncoderHandle;
+use crate::encoding_number::number_of;
 use crate::status::{CLOSED, NO_ENCODING, OK, REFUSED};
+use encoding_mem::form::EscapeState;
 
 /// The number of the output encoding, in which the encoder writes; `NO_ENCODING` if the handle
 /// holds no encoder.
 #[unsafe(no_mangle)]
 pub extern "C" fn jillapun_encoder_encoding(encoder: &EncoderHandle) -> u8
-    ensures { MatchOption (encoder_in encoder.now.coder.coder) (result ≡ NO_ENCODING)
+    ensures { MatchOption (encoder_in encoder.now) (result ≡ NO_ENCODING)
         (λ e. result ≡ number_of e.encoding) }
 {
-    if !encoder.words.is_there {
-        return NO_ENCODING;
+    match encoder.words.saved() {
+        None => NO_ENCODING,
+        Some(saved) => number_of(saved.encoding),
     }
-    encoder.words.encoding
 }
 
 /// Whether an escape to ASCII is still to be written at the end of the stream: so only in
 /// ISO-2022-JP, where another set is in force. False if the handle holds no encoder.
 #[unsafe(no_mangle)]
 pub extern "C" fn jillapun_encoder_has_pending_state(encoder: &EncoderHandle) -> bool
-    ensures { MatchOption (encoder_in encoder.now.coder.coder) (result ≡ false)
+    ensures { MatchOption (encoder_in encoder.now) (result ≡ false)
         (λ e. IsTrue result ↔ (e.set ≢ Ascii)) }
 {
-    encoder.words.has_pending_state
+    match encoder.words.saved() {
+        None => false,
+        Some(saved) => saved.set != EscapeState::Ascii,
+    }
 }
 
 /// Tells in `length` how many bytes are room enough for what `n` bytes of UTF-8 are encoded to with
@@ -44,15 +49,16 @@ pub extern "C" fn jillapun_encoder_max_length_from_utf8_if_no_unmappables(
     n: usize,
     length: &mut usize,
 ) -> u8
-    ensures tells { TellsNumber (encoder_in encoder.now.coder.coder)
+    ensures tells { TellsNumber (encoder_in encoder.now)
         (λ e. queried_with_kept e.encoding false n) length.new result }
     ensures nothing { result ≢ OK → length.new ≡ 0 }
 {
     *length = 0;
-    let Some(encoding) = encoder.words.output_encoding() else {
+    let Some(saved) = encoder.words.saved() else {
         return CLOSED;
     };
-    *length = encoding
+    *length = saved
+        .encoding
         .max_length_from_utf8_if_no_unmappables(n)
         .unwrap_or(REFUSED);
     OK
@@ -67,15 +73,16 @@ pub extern "C" fn jillapun_encoder_max_length_from_utf8_without_replacement(
     n: usize,
     length: &mut usize,
 ) -> u8
-    ensures tells { TellsNumber (encoder_in encoder.now.coder.coder)
+    ensures tells { TellsNumber (encoder_in encoder.now)
         (λ e. queried_room e.encoding false n) length.new result }
     ensures nothing { result ≢ OK → length.new ≡ 0 }
 {
     *length = 0;
-    let Some(encoding) = encoder.words.output_encoding() else {
+    let Some(saved) = encoder.words.saved() else {
         return CLOSED;
     };
-    *length = encoding
+    *length = saved
+        .encoding
         .max_length_from_utf8_without_replacement(n)
         .unwrap_or(REFUSED);
     OK
@@ -90,15 +97,16 @@ pub extern "C" fn jillapun_encoder_max_length_from_utf16_if_no_unmappables(
     n: usize,
     length: &mut usize,
 ) -> u8
-    ensures tells { TellsNumber (encoder_in encoder.now.coder.coder)
+    ensures tells { TellsNumber (encoder_in encoder.now)
         (λ e. queried_with_kept e.encoding true n) length.new result }
     ensures nothing { result ≢ OK → length.new ≡ 0 }
 {
     *length = 0;
-    let Some(encoding) = encoder.words.output_encoding() else {
+    let Some(saved) = encoder.words.saved() else {
         return CLOSED;
     };
-    *length = encoding
+    *length = saved
+        .encoding
         .max_length_from_utf16_if_no_unmappables(n)
         .unwrap_or(REFUSED);
     OK
@@ -113,15 +121,16 @@ pub extern "C" fn jillapun_encoder_max_length_from_utf16_without_replacement(
     n: usize,
     length: &mut usize,
 ) -> u8
-    ensures tells { TellsNumber (encoder_in encoder.now.coder.coder)
+    ensures tells { TellsNumber (encoder_in encoder.now)
         (λ e. queried_room e.encoding true n) length.new result }
     ensures nothing { result ≢ OK → length.new ≡ 0 }
 {
     *length = 0;
-    let Some(encoding) = encoder.words.output_encoding() else {
+    let Some(saved) = encoder.words.saved() else {
         return CLOSED;
     };
-    *length = encoding
+    *length = saved
+        .encoding
         .max_length_from_utf16_without_replacement(n)
         .unwrap_or(REFUSED);
     OK

@@ -1,17 +1,18 @@
 //! The exports that encode UTF-16.
 
-ghost use Rattle.std.specs.Prelude.{◌≡◌, ◌≢◌, ◌≤◌, Some, true, drop, length};
+ghost use Rattle.std.specs.Prelude.{◌≡◌, ◌≢◌, ◌≤◌, true, drop, length};
 ghost use Rattle.std.specs.Char.Utf16.{utf16_lossy_chars};
 ghost use Rattle.encoding_mem.specs.Conversions.{IsUnitBoundary};
+ghost use Rattle.jillapun_c.specs.Coders.{encoder_in};
 ghost use Rattle.jillapun_c.specs.EncoderCalls.{AnswersEncoder, EncodesAll, EncodesUpToLost};
 ghost use Rattle.jillapun_c.specs.declared.encoder_progress.TheConstants.EncoderProgress.{NONE};
 ghost use Rattle.jillapun_c.specs.declared.status.TheConstants.{OK};
 
-use crate::coder::Coder;
-use crate::encoder::EncoderHandle;
+use crate::encoder::handle::EncoderHandle;
 use crate::encoder_progress::{EncoderProgress, encoder_outcome_of};
 use crate::progress::outcome_of;
 use crate::status::{CLOSED, OK};
+use crate::tables_handle::no_tables;
 use std::alloc::Global;
 
 /// Encodes the next part of a text in UTF-16, with the decimal reference (`&#8364;`) of each
@@ -33,46 +34,22 @@ pub extern "C" fn jillapun_encoder_encode_from_utf16(
     last: bool,
     progress: &mut EncoderProgress,
 ) -> u8
-    ensures encodes { AnswersEncoder encoder.old.coder.coder result
-        (λ e. EncodesAll true e encoder.new.coder.coder last (utf16_lossy_chars text.now)
+    ensures encodes { AnswersEncoder (encoder_in encoder.old) result
+        (λ e. EncodesAll true e (encoder_in encoder.new) last (utf16_lossy_chars text.now)
         (utf16_lossy_chars (drop progress.new.read text.now)) (length text.now) dst.old dst.new
         progress.new) }
     ensures read { result ≡ OK → (progress.new.read ≤ length text.now)
         × IsUnitBoundary text.now progress.new.read }
-    ensures unchanged { result ≢ OK
-        → (dst.new ≡ dst.old) × (encoder.new.coder.coder ≡ encoder.old.coder.coder) }
+    ensures unchanged { result ≢ OK → (dst.new ≡ dst.old) × (encoder.new ≡ encoder.old) }
     ensures nothing { result ≢ OK → progress.new ≡ NONE }
 {
     *progress = EncoderProgress::NONE;
-    let Some(mut coder) = encoder.take(alloc) else {
+    let none = no_tables(alloc);
+    let Some(mut opened) = encoder.opened(&none) else {
         return CLOSED;
     };
-    let status = from_utf16(&mut coder, text, dst, last, progress);
-    encoder.put(coder);
-    status
-}
-
-// Encodes, with a reference of each character that has no bytes.
-fn from_utf16(
-    coder: &mut Coder,
-    text: &[u16],
-    dst: &mut [u8],
-    last: bool,
-    progress: &mut EncoderProgress,
-) -> u8
-    ensures encodes { AnswersEncoder (Some coder.old) result
-        (λ e. EncodesAll true e (Some coder.new) last (utf16_lossy_chars text.now)
-        (utf16_lossy_chars (drop progress.new.read text.now)) (length text.now) dst.old dst.new
-        progress.new) }
-    ensures read { result ≡ OK → (progress.new.read ≤ length text.now)
-        × IsUnitBoundary text.now progress.new.read }
-    ensures unchanged { result ≢ OK → (dst.new ≡ dst.old) × (coder.new ≡ coder.old) }
-    ensures untold { result ≢ OK → progress.new ≡ progress.old }
-{
-    let Coder::Encoder(encoder) = coder else {
-        return CLOSED;
-    };
-    let (outcome, read, written, had_unmappable) = encoder.encode_from_utf16(text, dst, last);
+    let (outcome, read, written, had_unmappable) = opened.encode_from_utf16(text, dst, last);
+    encoder.keep(&opened);
     *progress = EncoderProgress {
         read,
         written,
@@ -105,46 +82,22 @@ pub extern "C" fn jillapun_encoder_encode_from_utf16_without_replacement(
     last: bool,
     progress: &mut EncoderProgress,
 ) -> u8
-    ensures encodes { AnswersEncoder encoder.old.coder.coder result
-        (λ e. EncodesUpToLost true e encoder.new.coder.coder last (utf16_lossy_chars text.now)
+    ensures encodes { AnswersEncoder (encoder_in encoder.old) result
+        (λ e. EncodesUpToLost true e (encoder_in encoder.new) last (utf16_lossy_chars text.now)
         (utf16_lossy_chars (drop progress.new.read text.now)) (length text.now) dst.old dst.new
         progress.new) }
     ensures read { result ≡ OK → (progress.new.read ≤ length text.now)
         × IsUnitBoundary text.now progress.new.read }
-    ensures unchanged { result ≢ OK
-        → (dst.new ≡ dst.old) × (encoder.new.coder.coder ≡ encoder.old.coder.coder) }
+    ensures unchanged { result ≢ OK → (dst.new ≡ dst.old) × (encoder.new ≡ encoder.old) }
     ensures nothing { result ≢ OK → progress.new ≡ NONE }
 {
     *progress = EncoderProgress::NONE;
-    let Some(mut coder) = encoder.take(alloc) else {
+    let none = no_tables(alloc);
+    let Some(mut opened) = encoder.opened(&none) else {
         return CLOSED;
     };
-    let status = from_utf16_part(&mut coder, text, dst, last, progress);
-    encoder.put(coder);
-    status
-}
-
-// Encodes up to the first character that has no bytes.
-fn from_utf16_part(
-    coder: &mut Coder,
-    text: &[u16],
-    dst: &mut [u8],
-    last: bool,
-    progress: &mut EncoderProgress,
-) -> u8
-    ensures encodes { AnswersEncoder (Some coder.old) result
-        (λ e. EncodesUpToLost true e (Some coder.new) last (utf16_lossy_chars text.now)
-        (utf16_lossy_chars (drop progress.new.read text.now)) (length text.now) dst.old dst.new
-        progress.new) }
-    ensures read { result ≡ OK → (progress.new.read ≤ length text.now)
-        × IsUnitBoundary text.now progress.new.read }
-    ensures unchanged { result ≢ OK → (dst.new ≡ dst.old) × (coder.new ≡ coder.old) }
-    ensures untold { result ≢ OK → progress.new ≡ progress.old }
-{
-    let Coder::Encoder(encoder) = coder else {
-        return CLOSED;
-    };
-    let (outcome, read, written) = encoder.encode_from_utf16_without_replacement(text, dst, last);
+    let (outcome, read, written) = opened.encode_from_utf16_without_replacement(text, dst, last);
+    encoder.keep(&opened);
     let (outcome, scalar) = encoder_outcome_of(outcome);
     *progress = EncoderProgress {
         read,

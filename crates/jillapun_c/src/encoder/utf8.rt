@@ -1,20 +1,21 @@
 //! The exports that encode UTF-8.
 
-ghost use Rattle.std.specs.Prelude.{◌≡◌, ◌≢◌, [], Some, false, drop, length};
+ghost use Rattle.std.specs.Prelude.{◌≡◌, ◌≢◌, [], false, drop, length};
 ghost use Rattle.std.specs.Str.{IsUtf8, chars};
 ghost use Rattle.encoding_mem.specs.Conversions.{text_prefix};
 ghost use Rattle.encoding_front.specs.calls.Encoder.{ReadsText};
+ghost use Rattle.jillapun_c.specs.Coders.{encoder_in};
 ghost use Rattle.jillapun_c.specs.EncoderCalls.{AnswersEncoder, EncodesAll, EncodesUpToLost};
 ghost use Rattle.jillapun_c.specs.TextParts.{BeginsMalformed, IsToldOfPart};
 ghost use Rattle.jillapun_c.specs.declared.encoder_progress.TheConstants.EncoderProgress.{NONE};
 ghost use Rattle.jillapun_c.specs.declared.status.TheConstants.{NOT_UTF8, OK};
 
-use crate::coder::Coder;
-use crate::encoder::EncoderHandle;
+use crate::encoder::handle::EncoderHandle;
 use crate::encoder::part::{first_part, most_read};
 use crate::encoder_progress::{EncoderProgress, encoder_outcome_of, told_outcome};
 use crate::progress::outcome_of;
 use crate::status::{CLOSED, NOT_UTF8, OK};
+use crate::tables_handle::no_tables;
 use std::alloc::Global;
 
 /// Encodes the next part of a text in UTF-8, with the decimal reference (`&#8364;`) of each
@@ -45,17 +46,16 @@ pub extern "C" fn jillapun_encoder_encode_from_utf8(
     progress: &mut EncoderProgress,
 ) -> u8
     ensures malformed { BeginsMalformed text.now → result ≡ NOT_UTF8 }
-    ensures encodes { IsUtf8 text.now → AnswersEncoder encoder.old.coder.coder result
-        (λ e. EncodesAll false e encoder.new.coder.coder last (chars text.now)
+    ensures encodes { IsUtf8 text.now → AnswersEncoder (encoder_in encoder.old) result
+        (λ e. EncodesAll false e (encoder_in encoder.new) last (chars text.now)
         (chars (drop progress.new.read text.now)) (length text.now) dst.old dst.new progress.new) }
     ensures encodes_before { ¬ (IsUtf8 text.now) → text_prefix text.now ≢ []
-        → AnswersEncoder encoder.old.coder.coder result (λ e. IsToldOfPart false progress.new
-        (EncodesAll false e encoder.new.coder.coder false (chars (text_prefix text.now))
+        → AnswersEncoder (encoder_in encoder.old) result (λ e. IsToldOfPart false progress.new
+        (EncodesAll false e (encoder_in encoder.new) false (chars (text_prefix text.now))
         (chars (drop progress.new.read (text_prefix text.now))) (length (text_prefix text.now))
         dst.old dst.new)) }
     ensures read { result ≡ OK → ReadsText (text_prefix text.now) progress.new.read }
-    ensures unchanged { result ≢ OK
-        → (dst.new ≡ dst.old) × (encoder.new.coder.coder ≡ encoder.old.coder.coder) }
+    ensures unchanged { result ≢ OK → (dst.new ≡ dst.old) × (encoder.new ≡ encoder.old) }
     ensures nothing { result ≢ OK → progress.new ≡ NONE }
 {
     *progress = EncoderProgress::NONE;
@@ -63,35 +63,13 @@ pub extern "C" fn jillapun_encoder_encode_from_utf8(
     let Some((part, is_whole)) = first_part(text, most) else {
         return NOT_UTF8;
     };
-    let Some(mut coder) = encoder.take(alloc) else {
+    let none = no_tables(alloc);
+    let Some(mut opened) = encoder.opened(&none) else {
         return CLOSED;
     };
-    let status = from_utf8(&mut coder, part, is_whole, dst, last & is_whole, progress);
-    encoder.put(coder);
-    status
-}
-
-// Encodes a part of a text, or the whole, with a reference of each character that has no bytes.
-fn from_utf8(
-    coder: &mut Coder,
-    part: &str,
-    is_whole: bool,
-    dst: &mut [u8],
-    last: bool,
-    progress: &mut EncoderProgress,
-) -> u8
-    ensures encodes { AnswersEncoder (Some coder.old) result
-        (λ e. IsToldOfPart is_whole progress.new
-        (EncodesAll false e (Some coder.new) last (chars part.now)
-        (chars (drop progress.new.read part.now)) (length part.now) dst.old dst.new)) }
-    ensures read { result ≡ OK → ReadsText part.now progress.new.read }
-    ensures unchanged { result ≢ OK → (dst.new ≡ dst.old) × (coder.new ≡ coder.old) }
-    ensures untold { result ≢ OK → progress.new ≡ progress.old }
-{
-    let Coder::Encoder(encoder) = coder else {
-        return CLOSED;
-    };
-    let (outcome, read, written, had_unmappable) = encoder.encode_from_utf8(part, dst, last);
+    let is_last = last & is_whole;
+    let (outcome, read, written, had_unmappable) = opened.encode_from_utf8(part, dst, is_last);
+    encoder.keep(&opened);
     *progress = EncoderProgress {
         read,
         written,
@@ -130,17 +108,16 @@ pub extern "C" fn jillapun_encoder_encode_from_utf8_without_replacement(
     progress: &mut EncoderProgress,
 ) -> u8
     ensures malformed { BeginsMalformed text.now → result ≡ NOT_UTF8 }
-    ensures encodes { IsUtf8 text.now → AnswersEncoder encoder.old.coder.coder result
-        (λ e. EncodesUpToLost false e encoder.new.coder.coder last (chars text.now)
+    ensures encodes { IsUtf8 text.now → AnswersEncoder (encoder_in encoder.old) result
+        (λ e. EncodesUpToLost false e (encoder_in encoder.new) last (chars text.now)
         (chars (drop progress.new.read text.now)) (length text.now) dst.old dst.new progress.new) }
     ensures encodes_before { ¬ (IsUtf8 text.now) → text_prefix text.now ≢ []
-        → AnswersEncoder encoder.old.coder.coder result (λ e. IsToldOfPart false progress.new
-        (EncodesUpToLost false e encoder.new.coder.coder false (chars (text_prefix text.now))
+        → AnswersEncoder (encoder_in encoder.old) result (λ e. IsToldOfPart false progress.new
+        (EncodesUpToLost false e (encoder_in encoder.new) false (chars (text_prefix text.now))
         (chars (drop progress.new.read (text_prefix text.now))) (length (text_prefix text.now))
         dst.old dst.new)) }
     ensures read { result ≡ OK → ReadsText (text_prefix text.now) progress.new.read }
-    ensures unchanged { result ≢ OK
-        → (dst.new ≡ dst.old) × (encoder.new.coder.coder ≡ encoder.old.coder.coder) }
+    ensures unchanged { result ≢ OK → (dst.new ≡ dst.old) × (encoder.new ≡ encoder.old) }
     ensures nothing { result ≢ OK → progress.new ≡ NONE }
 {
     *progress = EncoderProgress::NONE;
@@ -148,35 +125,13 @@ pub extern "C" fn jillapun_encoder_encode_from_utf8_without_replacement(
     let Some((part, is_whole)) = first_part(text, most) else {
         return NOT_UTF8;
     };
-    let Some(mut coder) = encoder.take(alloc) else {
+    let none = no_tables(alloc);
+    let Some(mut opened) = encoder.opened(&none) else {
         return CLOSED;
     };
-    let status = from_utf8_part(&mut coder, part, is_whole, dst, last & is_whole, progress);
-    encoder.put(coder);
-    status
-}
-
-// Encodes a part of a text, or the whole, up to the first character that has no bytes.
-fn from_utf8_part(
-    coder: &mut Coder,
-    part: &str,
-    is_whole: bool,
-    dst: &mut [u8],
-    last: bool,
-    progress: &mut EncoderProgress,
-) -> u8
-    ensures encodes { AnswersEncoder (Some coder.old) result
-        (λ e. IsToldOfPart is_whole progress.new
-        (EncodesUpToLost false e (Some coder.new) last (chars part.now)
-        (chars (drop progress.new.read part.now)) (length part.now) dst.old dst.new)) }
-    ensures read { result ≡ OK → ReadsText part.now progress.new.read }
-    ensures unchanged { result ≢ OK → (dst.new ≡ dst.old) × (coder.new ≡ coder.old) }
-    ensures untold { result ≢ OK → progress.new ≡ progress.old }
-{
-    let Coder::Encoder(encoder) = coder else {
-        return CLOSED;
-    };
-    let (outcome, read, written) = encoder.encode_from_utf8_without_replacement(part, dst, last);
+    let is_last = last & is_whole;
+    let (outcome, read, written) = opened.encode_from_utf8_without_replacement(part, dst, is_last);
+    encoder.keep(&opened);
     let (outcome, scalar) = encoder_outcome_of(outcome);
     *progress = EncoderProgress {
         read,

@@ -1,66 +1,72 @@
-//! What a handle tells of its encoder, for queries that write nothing.
+//! An encoder as plain words.
 
 ghost use Rattle.std.specs.Prelude.{◌≡◌, None, Some};
-ghost use Rattle.std.specs.Option.{option_map};
-ghost use Rattle.std.specs.declared.option.Option.{Option};
-ghost use Rattle.encoding_front.specs.calls.Encoder.{EncoderState};
-ghost use Rattle.jillapun_c.specs.Coders.{encoder_in};
-ghost use Rattle.jillapun_c.specs.HandleWords.{encoder_words};
+ghost use Rattle.jillapun_c.specs.EncoderWords.{saved_encoder_in, set_at};
 
-use crate::coder::Coder;
 use crate::encoding_number::{encoding_of, number_of};
-use encoding_front::{Encoder, Encoding};
+use encoding_front::SavedEncoder;
+use encoding_mem::form::EscapeState;
 
-/// What an encoder's handle tells of the encoder, for calls of this library alone.
+/// What an encoder's handle keeps of the encoder, for calls of this library alone.
 #[repr(C)]
 #[derive(Clone, Copy)]
 pub struct EncoderWords {
-    pub(crate) is_there: bool,
-    pub(crate) has_pending_state: bool,
-    pub(crate) encoding: u8,
+    pub is_there: bool,
+    pub encoding: u8,
+    pub set: u8,
 }
 
 impl EncoderWords {
     /// There is no encoder.
     pub(crate) fn none() -> EncoderWords
-        ensures { result ≡ encoder_words None }
+        ensures { saved_encoder_in result ≡ None }
     {
         EncoderWords {
             is_there: false,
-            has_pending_state: false,
             encoding: 0,
+            set: 0,
         }
     }
 
-    // Of an encoder.
-    fn of_encoder(encoder: &Encoder<'_>) -> EncoderWords
-        ensures { result ≡ encoder_words (Some encoder.now) }
+    /// Those of what was saved of an encoder.
+    pub(crate) fn of(saved: SavedEncoder) -> EncoderWords
+        ensures { saved_encoder_in result ≡ Some saved }
     {
         EncoderWords {
             is_there: true,
-            has_pending_state: encoder.has_pending_state(),
-            encoding: number_of(encoder.encoding()),
+            encoding: number_of(saved.encoding),
+            set: number_of_set(saved.set),
         }
     }
 
-    /// Of what a handle holds.
-    pub(crate) fn of(coder: &Coder) -> EncoderWords
-        ensures { result ≡ encoder_words (encoder_in (Some coder.now)) }
-    {
-        match coder {
-            Coder::Encoder(encoder) => EncoderWords::of_encoder(encoder),
-            Coder::Decoder(_) | Coder::Converter(_) => EncoderWords::none(),
-        }
-    }
-
-    /// The output encoding, if there is an encoder.
-    pub(crate) fn output_encoding(self) -> Option<Encoding>
-        ensures { (held : Option EncoderState) → self ≡ encoder_words held
-            → result ≡ option_map (λ (e : EncoderState). e.encoding) held }
+    /// What was saved of the encoder, if there is one.
+    pub(crate) fn saved(self) -> Option<SavedEncoder>
+        ensures { result ≡ saved_encoder_in self }
     {
         if !self.is_there {
             return None;
         }
-        encoding_of(self.encoding)
+        let encoding = encoding_of(self.encoding)?;
+        let set = set_of(self.set)?;
+        Some(SavedEncoder { encoding, set })
+    }
+}
+
+// The number that stands for a set.
+fn number_of_set(set: EscapeState) -> u8
+    ensures { set_at result ≡ Some set }
+{
+    set as u8
+}
+
+// The set that a number stands for.
+fn set_of(number: u8) -> Option<EscapeState>
+    ensures { result ≡ set_at number }
+{
+    match number {
+        0 => Some(EscapeState::Ascii),
+        1 => Some(EscapeState::Roman),
+        2 => Some(EscapeState::Jis),
+        _ => None,
     }
 }

@@ -1,9 +1,10 @@
 //! Calls of an encoder that are handed the whole of a text, again and again, with little room.
 
+use crate::encoder::handle::EncoderHandle;
+use crate::encoder::jillapun_encoder_new;
 use crate::encoder::utf8::{
     jillapun_encoder_encode_from_utf8, jillapun_encoder_encode_from_utf8_without_replacement,
 };
-use crate::encoder::{EncoderHandle, jillapun_encoder_free, jillapun_encoder_new};
 use crate::encoder_progress::EncoderProgress;
 use crate::status::{INPUT_EMPTY, NOT_UTF8, OK, OUTPUT_FULL, UNMAPPABLE};
 use crate::tests::euro;
@@ -98,7 +99,6 @@ fn any_room_that_is_enough_gives_the_text(rt: HostRuntime) {
             assert_eq!(rt; left, (OK, INPUT_EMPTY, 8, *b"a\x80b.............", 3));
         }
     }
-    jillapun_encoder_free(alloc, &mut encoder);
 }
 
 // The text three times.
@@ -117,7 +117,6 @@ fn a_part_of_a_text_is_encoded_as_it_is_of_the_whole(rt: HostRuntime) {
             (OK, INPUT_EMPTY, 24, *b"a\x80ba\x80ba\x80b.......", 9)
         );
     }
-    jillapun_encoder_free(alloc, &mut encoder);
 }
 
 #[test]
@@ -138,7 +137,6 @@ fn to_utf8_a_text_is_copied(rt: HostRuntime) {
                 }
             }
         }
-        jillapun_encoder_free(alloc, &mut encoder);
     }
 }
 
@@ -158,7 +156,6 @@ fn what_is_before_a_malformed_byte_is_encoded(rt: HostRuntime) {
             assert_eq!(rt; (status, read), (NOT_UTF8, STARTS[at]));
         }
     }
-    jillapun_encoder_free(alloc, &mut encoder);
 }
 
 #[test]
@@ -175,7 +172,6 @@ fn a_text_that_ends_within_a_character_is_not_utf8(rt: HostRuntime) {
         }
         assert_eq!(rt; len >= 1, end >= 1);
     }
-    jillapun_encoder_free(alloc, &mut encoder);
 }
 
 // The call that comes to the malformed byte does not end as if the text were read, and the end of
@@ -217,5 +213,4 @@ fn more_is_told_before_a_malformed_byte(rt: HostRuntime) {
         &mut progress,
     );
     assert_eq!(rt; (status, progress.outcome, progress.read), (NOT_UTF8, 0, 0));
-    jillapun_encoder_free(alloc, &mut encoder);
 }

@@ -6,11 +6,12 @@ use crate::decoder::queries::{
 };
 use crate::decoder::utf8::jillapun_decoder_decode_to_utf8;
 use crate::decoder::{DecoderHandle, jillapun_decoder_free, jillapun_decoder_new};
+use crate::encoder::handle::EncoderHandle;
 use crate::encoder::queries::{
     jillapun_encoder_encoding, jillapun_encoder_has_pending_state,
     jillapun_encoder_max_length_from_utf16_without_replacement,
 };
-use crate::encoder::{EncoderHandle, jillapun_encoder_free, jillapun_encoder_new};
+use crate::encoder::{jillapun_encoder_free, jillapun_encoder_new};
 use crate::index_files::IndexFile;
 use crate::progress::Progress;
 use crate::status::{CLOSED, FINISHED, KEEP, NO_ENCODING, OK, REFUSED, SNIFF};
@@ -129,7 +130,7 @@ fn encoders_are_asked(rt: HostRuntime) {
     assert_eq!(rt; jillapun_encoder_encoding(&handle), UTF_8);
     assert_eq!(rt; encoded_length(&handle, 5), (OK, 15));
     assert_eq!(rt; encoded_length(&handle, usize::MAX), (OK, REFUSED));
-    jillapun_encoder_free(alloc, &mut handle);
+    jillapun_encoder_free(&mut handle);
     assert_eq!(rt; jillapun_encoder_encoding(&handle), NO_ENCODING);
     assert_eq!(rt; encoded_length(&handle, 0), (CLOSED, 0));
 }

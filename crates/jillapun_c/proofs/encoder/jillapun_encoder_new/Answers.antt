@@ -1,13 +1,17 @@
-use Rattle.std.proofs.Common.{refl, ap, sym, ◌∙◌, Some}
+use Rattle.std.proofs.Common.{refl, sym}
 use Rattle.jillapun_c.specs.Coders.{encoder_in}
-use Rattle.jillapun_c.specs.EncoderCalls.{MakesEncoder}
-use Rattle.jillapun_c.specs.declared.coder.Coder.TheVariants as coder
-use Rattle.jillapun_c.proofs.CoderLemmas.{opened, made_encoder}
+use Rattle.jillapun_c.proofs.EncoderHandleLemmas.{made, not_made}
 use Rattle.jillapun_c.proofs.encoder.jillapun_encoder_new.Goals as goal
 
-pub returns-in-Ok-clause-opens : goal.returns-in-Ok-clause-opens
-returns-in-Ok-clause-opens c = let new = c.put-in-Ok.new.self.coder.coder in let t = c.in-Some-get.tables.now in let e = c.in-Some-encoding_of.encoding in
-    opened c.args.out.now.coder.coder c.args.tables.tables c.args.encoding t e (MakesEncoder new 0) 0
-    c.in_default.ensures.coder c.in-Some-get.ensures (sym c.in-Some-encoding_of.ensures)
-    (made_encoder new t e (rw (← c.output_encoding.ensures) (c.is_ready.ensures.ready.0 (rw c.if-not-is_ready.false refl)))
-    (ap encoder_in (c.put-in-Ok.ensures ∙ ap Some (c.in-Ok.ensures.ok ∙ ap coder.Encoder c.new_encoder.ensures.state))))
+pub of_new-requires : goal.of_new-requires
+of_new-requires c = rw (← c.or.ensures, ← c.output_encoding.ensures) (c.is_ready.ensures.ready.0 (rw c.if-not-is_ready.false refl))
+
+pub returns-then-not-is_ready-clause-makes : goal.returns-then-not-is_ready-clause-makes
+returns-then-not-is_ready-clause-makes c = let e = c.in-Some.encoding in
+    not_made c.args.tables.tables c.args.encoding e (encoder_in c.args.out.now) (sym c.in-Some.ensures)
+    (λ ready. let no = c.if-not-is_ready.true in let yes = c.is_ready.ensures.ready.1 (rw (c.or.ensures, c.output_encoding.ensures) ready) in absurd (cc))
+
+pub returns-clause-makes : goal.returns-clause-makes
+returns-clause-makes c = let e = c.in-Some.encoding in
+    made c.args.tables.tables c.args.encoding e (encoder_in c.of_new.result) (sym c.in-Some.ensures)
+    (rw (← c.or.ensures, ← c.output_encoding.ensures) (c.is_ready.ensures.ready.0 (rw c.if-not-is_ready.false refl))) c.of_new.ensures

@@ -1,0 +1,70 @@
+//! The handle of an encoder, as C holds it.
+
+ghost use Rattle.jillapun_c.specs.EncoderWords.{AreSound};
+
+use crate::encoder::words::EncoderWords;
+use crate::tables_handle::TablesHandle;
+use encoding_front::{Encoder, Encoding, SavedEncoder};
+use encoding_mem::form::EscapeState;
+use encoding_tables::Tables;
+
+/// An encoder of a stream. Begin with `{0}`, which holds none; `jillapun_encoder_new` fills it.
+///
+/// It is plain words: it may be moved, there is nothing to free, and a copy goes on from where it
+/// was copied. Calls that take a `const` one may be made by any number of threads at once, and
+/// others by one thread at a time.
+#[repr(C)]
+#[derive(Drop)]
+pub struct EncoderHandle {
+    pub tables: TablesHandle,
+    pub words: EncoderWords,
+    pub ghost sound: { ∥ AreSound tables.tables words ∥₁ },
+}
+
+impl EncoderHandle {
+    ghost use Rattle.std.specs.Prelude.{◌≡◌, None, Some, IsSomeAnd};
+    ghost use Rattle.encoding_front.specs.Encodings.{IsReady, output_encoding_of};
+    ghost use Rattle.encoding_front.specs.calls.Encoder.{new_state};
+    ghost use Rattle.jillapun_c.specs.Coders.{encoder_in};
+    ghost use Rattle.jillapun_c.specs.EncoderWords.{GoesOnAs};
+    ghost use Rattle.jillapun_c.specs.HeldTables.{lists_in, no_lists};
+
+    /// One that holds nothing.
+    pub(crate) fn none() -> EncoderHandle
+        ensures { encoder_in result ≡ None }
+    {
+        EncoderHandle {
+            tables: TablesHandle::none(),
+            words: EncoderWords::none(),
+        }
+    }
+
+    /// One that holds an encoder of a new stream, into the output encoding.
+    pub(crate) fn of_new(tables: TablesHandle, encoding: Encoding) -> EncoderHandle
+        requires { IsReady (lists_in tables.tables) (output_encoding_of encoding) }
+        ensures { encoder_in result ≡ Some (new_state (lists_in tables.tables) encoding) }
+    {
+        let words = EncoderWords::of(SavedEncoder {
+            encoding: encoding.output_encoding(),
+            set: EscapeState::Ascii,
+        });
+        EncoderHandle { tables, words }
+    }
+
+    /// The encoder that it holds, as an encoder that goes on; `none` has no index.
+    pub(crate) fn opened<'a>(&self, none: &'a Tables) -> Option<Encoder<'a>>
+        requires { none.now ≡ no_lists }
+        ensures { result ≡ encoder_in self.now }
+    {
+        let saved = self.words.saved()?;
+        Some(Encoder::resumed(saved, self.tables.or(none)))
+    }
+
+    /// Keeps what a call has left of the encoder that it holds.
+    pub(crate) fn keep(&mut self, encoder: &Encoder<'_>)
+        requires { IsSomeAnd (encoder_in self.old) (λ e. GoesOnAs e encoder.now) }
+        ensures { encoder_in self.new ≡ Some encoder.now }
+    {
+        self.words = EncoderWords::of(encoder.saved());
+    }
+}
