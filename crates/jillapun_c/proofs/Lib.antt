@@ -6,7 +6,7 @@ mod ConverterRunLemmas
 mod ConverterTurnLemmas
 mod EncoderPartLemmas
 mod EncodingNumberLemmas
-mod HandleWordLemmas
+mod HeldDecoderLemmas
 mod FrontPartLemmas
 mod IndexFileLemmas
 mod Openings

@@ -18,7 +18,7 @@ use Rattle.recode.specs.declared.job.Policy.{Policy}
 use Rattle.jillapun_c.specs.Asked.{policy_at}
 use Rattle.jillapun_c.specs.ConverterTurns.{found_log, line_reference, stage_at}
 use Rattle.jillapun_c.specs.EncodingNumbers.{encoding_at, mark_at, needed_file}
-use Rattle.jillapun_c.specs.HandleWords.{decoder_words, encoder_words, is_other_set}
+use Rattle.jillapun_c.specs.HandleWords.{encoder_words, is_other_set}
 use Rattle.jillapun_c.specs.IndexFiles.{told_of}
 use Rattle.jillapun_c.specs.Room.{rest_cleared}
 use Rattle.jillapun_c.specs.TextParts.{IsLookedAt, most_read, told_outcome}
@@ -195,5 +195,18 @@ escape_is_pending tables = refl
 pub no_escape_in_ascii : is_other_set set.Ascii ≡ false
 no_escape_in_ascii = refl
 
-pub closed_tells_no_decoder : (decoder_words None).is_there ≡ false
-closed_tells_no_decoder = refl
+-- what the words of a handle stand for: {0} for no decoder, and a number of no encoding for none
+abbrev words_of : (is_there : Bool) (encoding : ℕ) → DecoderWords
+words_of is_there encoding = record {
+  is_there = is_there; is_finished = false; encoding = encoding; taken = 0; seeks_utf8 = false; seeks_utf16_be = false; seeks_utf16_le = false;
+  mode = 0; held_len = 0; held = []; pending_len = 0; pending = [];
+}
+
+pub zeroes_hold_no_decoder : saved_in (words_of false 0) ≡ None
+zeroes_hold_no_decoder = refl
+
+pub no_decoder_without_encoding : saved_in (words_of true 40) ≡ None
+no_decoder_without_encoding = refl
+
+pub words_hold_a_decoder : saved_in (words_of true 25) ≡ Some (saved_as (words_of true 25) Encoding.Utf8 None)
+words_hold_a_decoder = refl
