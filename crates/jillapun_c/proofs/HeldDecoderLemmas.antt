@@ -16,15 +16,17 @@ use Rattle.encoding_tables.specs.SingleByte.{IsLatin1UpTo}
 use Rattle.encoding_tables.specs.declared.index_kind.IndexKind.{IndexKind}
 use Rattle.encoding_front.specs.EncodingTable.{number_of}
 use Rattle.encoding_front.specs.Encodings.{AreThere, IsReady, needs_of}
+use Rattle.encoding_front.specs.Marks.{source_of}
 use Rattle.encoding_front.specs.calls.CodecBounds.{decoded_length_of}
 use Rattle.encoding_front.specs.calls.DecoderCall.{DecoderCall, IfRoomAsked, RoomLeft, TextCall}
 use Rattle.encoding_front.specs.calls.Latin1Prefix.{IsAtRest, IsLatin1Prefix, Latin1Rule, by_ascii, by_index, by_mode, latin1_rule, untold}
 use Rattle.encoding_front.specs.calls.RoomRules.{room_by, room_rule_of}
 use Rattle.encoding_front.specs.calls.SavedDecoders.{ReadsAlike, Saves}
 use Rattle.encoding_front.specs.calls.Seeking.{is_sought, find_mark, mark_seen, mark_taken}
-use Rattle.encoding_front.specs.calls.Stream.{DecoderView, IsMadeFrom, Opening, SeeksNoMark, TellsLatin1Prefix, ahead, encoding_after, greater_if, room_asked}
+use Rattle.encoding_front.specs.calls.Stream.{DecoderView, IsMadeFrom, IsNewDecoder, Opening, SeeksNoMark, TellsLatin1Prefix, ahead, encoding_after, greater_if, room_asked}
 use Rattle.encoding_front.specs.declared.coder_result.CoderResult.{CoderResult}
 use Rattle.encoding_front.specs.declared.coder_result.CoderResult.TheVariants as text_
+use Rattle.encoding_front.specs.declared.decoder.room_rule.RoomRule.{RoomRule}
 use Rattle.encoding_front.specs.declared.decoder.saved_decoder.SavedDecoder.{SavedDecoder}
 use Rattle.encoding_front.specs.declared.encoding.Encoding.{Encoding}
 use Rattle.encoding_front.specs.declared.encoding.Encoding.TheVariants.{Big5}
@@ -37,9 +39,10 @@ use Rattle.encoding_front.specs.laws.SavedDecoders.{call_alike, text_alike}
 use Rattle.encoding_front.specs.laws.Stream.{held_taken}
 use Rattle.jillapun_c.specs.DecoderCalls.{AnswersDecoder, AsksRoom, Decodes, DecodesUpToFault, GoesOn, HoldsNewDecoder, HoldsOne, IsOutcome, MakesDecoder, TellsIfKnown, TellsWhyNot, text_outcome}
 use Rattle.jillapun_c.specs.EncodingNumbers.{encoding_at, mark_at}
-use Rattle.jillapun_c.specs.HeldDecoders.{HoldsDecoder, number_of_taken, saved_in, taken_at}
+use Rattle.jillapun_c.specs.HeldDecoders.{HoldsDecoder, IsSound, number_of_taken, saved_in, taken_at}
 use Rattle.jillapun_c.specs.HeldTables.{lists_in}
 use Rattle.jillapun_c.specs.declared.decoder.DecoderHandle.{DecoderHandle}
+use Rattle.jillapun_c.specs.declared.decoder.words.DecoderWords.{DecoderWords}
 use Rattle.jillapun_c.specs.declared.progress.Progress.{Progress}
 use Rattle.jillapun_c.specs.declared.status.TheConstants.{CLOSED, FINISHED, OK, REFUSED}
 
@@ -109,6 +112,14 @@ saves_in_force w v h = record {
 -- the words say what was saved of the decoder that is held
 pub saves_held : (h : DecoderHandle) (w : SavedDecoder) (v : DecoderView) → saved_in h.words ≡ Some w → HoldsOne h v → Saves w v
 saves_held h w v is holds = subst (λ (x : SavedDecoder). Saves x v) (same_some holds.saved w (sym holds.is ∙ is)) holds.saves
+
+-- and a decoder is held whose words these are
+pub held_by : (tables : Option IndexLists) (words : DecoderWords) (w : SavedDecoder) (v : DecoderView) → saved_in words ≡ Some w → Saves w v → IsMadeFrom (lists_in tables) v
+    → IsReady (lists_in tables) (v.source []) → HoldsDecoder tables words v
+held_by tables words w v is saves made ready = record { saved = w; is = is; saves = saves; made = made; ready = ready }
+
+pub sound_by : (tables : Option IndexLists) (words : DecoderWords) (v : DecoderView) → HoldsDecoder tables words v → IsSound tables words
+sound_by tables words v holds w is = ∣ (v, holds) ∣₁
 
 nothing_held : {X : Type 0} (h : DecoderHandle) (v : DecoderView) → saved_in h.words ≡ None → HoldsOne h v → X
 nothing_held h v none holds = let is : saved_in h.words ≡ Some holds.saved = holds.is in absurd (cc)
@@ -197,6 +208,16 @@ goes_on h w e t u is live named over alike made open_ = record {
 
 -- ---- calls
 
+-- The encoding in force stays one whose indexes are there: that of before, or that of a byte order mark, which needs none.
+-- OPEN: no clause of a call of `Decoder` says it.
+pub ready_after : (t : IndexLists) (v v' : DecoderView) (src : List ℕ) (last : Bool) (read : ℕ) (W : List ℕ → Type 0) (left : RoomLeft) (outcome : DecoderResult)
+    → DecoderCall v v' src last read W left outcome → IsReady t (v.source []) → IsReady t (v'.source [])
+ready_after t v v' src last read W left outcome call ready = ?
+
+pub ready_after_text : (t : IndexLists) (v v' : DecoderView) (src : List ℕ) (last : Bool) (read : ℕ) (W : List ℕ → Type 0) (left : RoomLeft) (outcome : CoderResult) (had : Bool)
+    → TextCall v v' src last read W left outcome had → IsReady t (v.source []) → IsReady t (v'.source [])
+ready_after_text t v v' src last read W left outcome had call ready = ?
+
 -- room that is enough for one is enough for the other
 room_alike : (v u : DecoderView) (unit : OutputUnit) (size free : ℕ) (P : Type 0) → ReadsAlike v u → IfRoomAsked u unit size free P → IfRoomAsked v unit size free P
 room_alike v u unit size free P h enough n asked within = enough n (ap (λ (o : Opening). room_asked o unit size) (sym h.opening) ∙ asked) within
@@ -243,6 +264,11 @@ room_told w v k n room h is = let r = room_rule_of v in
     ap (λ o. unwrap_or o REFUSED) (is ∙ sym (ap (λ (room : DecodedLength). greater_if r.may_be_utf16 (queried decoded_length_utf16 k (n + r.ahead))
     (greater_if r.may_be_utf8 (queried decoded_length_utf8 k (n + r.ahead)) (queried room k (r.pending + (n + r.ahead))))) own))
 
+pub asked : (h : DecoderHandle) (w : SavedDecoder) (k : OutputUnit) (n : ℕ) (rule : RoomRule) (room : Option ℕ) → saved_in h.words ≡ Some w → w.is_finished ≡ false
+    → ((v : DecoderView) → Saves w v → rule ≡ room_rule_of v) → room ≡ room_by rule k n → AsksRoom k h n (unwrap_or room REFUSED) OK
+asked h w k n rule room is live ruled by_rule = open_answer h w (λ v. unwrap_or room REFUSED ≡ unwrap_or (room_asked v.opening k n) REFUSED) is live
+    (λ v holds saves. room_told w v k n room saves (by_rule ∙ ap (λ r. room_by r k n) (ruled v saves)))
+
 -- how far bytes are their own characters in Latin1
 rest_alike : (rule : Latin1Rule) (a b : DecoderState) → reading_of a ≡ reading_of b → IsAtRest rule a → IsAtRest rule b
 rest_alike by_index a b same h = sym (ap (λ (r : Reading). r.pending) same) ∙ h
@@ -274,3 +300,22 @@ latin1_told h u bytes known goes tells = opened_answer h u (λ v. TellsIfKnown v
   is = latin1_alike v u bytes known alike tells;
   told = refl;
 })
+
+-- ---- a decoder is made
+
+pub made_new : (tables : Option IndexLists) (number mark : ℕ) (new : DecoderHandle) (e : Encoding) (m : Mark) (v : DecoderView) → encoding_at number ≡ Some e → mark_at mark ≡ Some m
+    → IsReady (lists_in tables) e → HoldsOne new v → new.tables.tables ≡ tables → IsNewDecoder v (lists_in tables) m e → MakesDecoder tables number mark new OK
+made_new tables number mark new e m v at marked ready holds over is_new = rw at (rw marked (inl (ready, (refl, record { view = v; holds = holds; over = over; is_new = is_new }))))
+
+-- the encoding in force of a new one is its own
+removed : (e : Encoding) → (source_of Mark.Remove e []).0 ≡ e
+removed Big5 = refl
+removed _ = refl
+
+named_at_start : (m : Mark) (e : Encoding) → (source_of m e []).0 ≡ e
+named_at_start Mark.Sniff e = refl
+named_at_start Mark.Remove e = removed e
+named_at_start Mark.Keep e = refl
+
+pub new_in_force : (v : DecoderView) (t : IndexLists) (m : Mark) (e : Encoding) → IsNewDecoder v t m e → v.source [] ≡ e
+new_in_force v t m e is = is.source [] ∙ named_at_start m e

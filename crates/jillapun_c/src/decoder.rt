@@ -65,6 +65,16 @@ impl DecoderHandle {
         }
     }
 
+    /// Another one that holds the same.
+    pub(crate) fn copied(&self) -> DecoderHandle
+        ensures { result ≡ self.now }
+    {
+        DecoderHandle {
+            tables: self.tables.copied(),
+            words: self.words,
+        }
+    }
+
     // The decoder that it holds, over its tables, or over these, which have no index, if it has
     // none. Else the status: `CLOSED`, it holds no decoder; `FINISHED`, the stream has ended.
     fn opened<'a>(&self, none: &'a Tables) -> Result<Decoder<'a>, u8>

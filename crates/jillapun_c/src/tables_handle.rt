@@ -88,8 +88,8 @@ impl TablesHandle {
         Some(unsafe { &*(at as *const Tables) })
     }
 
-    // Another one that holds the same.
-    fn copied(&self) -> TablesHandle
+    /// Another one that holds the same.
+    pub(crate) fn copied(&self) -> TablesHandle
         ensures { result ≡ self.now }
     {
         TablesHandle {

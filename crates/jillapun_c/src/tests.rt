@@ -1,6 +1,7 @@
 //! Calls of the exports for tables, streams and whole texts, with results worked by hand.
 
 mod converter;
+mod decoders;
 mod joins;
 mod parts;
 mod queries;
@@ -141,10 +142,6 @@ fn stream_is_decoded(rt: HostRuntime) {
         jillapun_decoder_new(alloc, euro(alloc), 31, KEEP, &mut decoder),
         OK
     );
-    assert_eq!(rt;
-        jillapun_decoder_new(alloc, euro(alloc), 31, KEEP, &mut decoder),
-        IN_USE
-    );
     let bytes = [0x61, 0x80, 0x81];
     let status = jillapun_decoder_decode_to_utf8(
         alloc,
@@ -190,7 +187,7 @@ fn stream_is_decoded(rt: HostRuntime) {
         &mut progress,
     );
     assert_eq!(rt; (status, progress.read), (FINISHED, 0));
-    jillapun_decoder_free(alloc, &mut decoder);
+    jillapun_decoder_free(&mut decoder);
     let status = jillapun_decoder_decode_to_utf8(
         alloc,
         &mut decoder,

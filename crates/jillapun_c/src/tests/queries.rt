@@ -39,7 +39,7 @@ fn decoder(alloc: Global, encoding: u8, mark: u8) -> DecoderHandle {
 }
 
 // What a decoder tells.
-fn latin1_length(alloc: Global, handle: &mut DecoderHandle) -> (u8, usize) {
+fn latin1_length(alloc: Global, handle: &DecoderHandle) -> (u8, usize) {
     let mut length = 9;
     let status = jillapun_decoder_latin1_byte_compatible_up_to(
         alloc,
@@ -85,8 +85,8 @@ fn latin1_is_found(rt: HostRuntime) {
     let mut handle = decoder(alloc, WINDOWS_1252, KEEP);
     assert_eq!(rt; length_after(alloc, &mut handle, b"a", false), (OK, 3));
     assert_eq!(rt; length_after(alloc, &mut handle, b"a", true), (FINISHED, 0));
-    jillapun_decoder_free(alloc, &mut handle);
-    assert_eq!(rt; latin1_length(alloc, &mut handle), (CLOSED, 0));
+    jillapun_decoder_free(&mut handle);
+    assert_eq!(rt; latin1_length(alloc, &handle), (CLOSED, 0));
     let mut handle = decoder(alloc, UTF_8, KEEP);
     assert_eq!(rt; length_after(alloc, &mut handle, b"a", false), (OK, 1));
     assert_eq!(rt;
@@ -94,7 +94,7 @@ fn latin1_is_found(rt: HostRuntime) {
         (OK, REFUSED)
     );
     let mut handle = decoder(alloc, UTF_8, SNIFF);
-    assert_eq!(rt; latin1_length(alloc, &mut handle), (OK, REFUSED));
+    assert_eq!(rt; latin1_length(alloc, &handle), (OK, REFUSED));
 }
 
 #[test]
@@ -111,7 +111,7 @@ fn decoders_are_asked(rt: HostRuntime) {
     length_after(alloc, &mut handle, b"a", true);
     assert_eq!(rt; units_for(&handle, 5), (FINISHED, 0));
     assert_eq!(rt; jillapun_decoder_encoding(&handle), WINDOWS_1252);
-    jillapun_decoder_free(alloc, &mut handle);
+    jillapun_decoder_free(&mut handle);
     assert_eq!(rt; jillapun_decoder_encoding(&handle), NO_ENCODING);
     assert_eq!(rt; bytes_for(&handle, 0), (CLOSED, 0));
 }

@@ -34,7 +34,7 @@ fn text_stays_text(rt: HostRuntime) {
     let dst = &mut text;
     let status = jillapun_decoder_decode_to_str(alloc, &mut handle, src, dst, true, &mut progress);
     assert_eq!(rt; (status, progress.written), (FINISHED, 0));
-    jillapun_decoder_free(alloc, &mut handle);
+    jillapun_decoder_free(&mut handle);
     let dst = &mut text;
     let status = jillapun_decoder_decode_to_str(alloc, &mut handle, src, dst, true, &mut progress);
     assert_eq!(rt; status, CLOSED);

@@ -1,0 +1,1 @@
+use Rattle.jillapun_c.proofs.decoder.words.DecoderWords.saved.Goals as goal
