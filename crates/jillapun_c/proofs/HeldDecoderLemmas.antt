@@ -41,7 +41,7 @@ use Rattle.jillapun_c.specs.DecoderCalls.{AnswersDecoder, AsksRoom, Decodes, Dec
 use Rattle.jillapun_c.specs.EncodingNumbers.{encoding_at, mark_at}
 use Rattle.jillapun_c.specs.HeldDecoders.{HoldsDecoder, IsSound, number_of_taken, saved_in, taken_at}
 use Rattle.jillapun_c.specs.HeldTables.{lists_in}
-use Rattle.jillapun_c.specs.declared.decoder.DecoderHandle.{DecoderHandle}
+use Rattle.jillapun_c.specs.declared.decoder.handle.DecoderHandle.{DecoderHandle}
 use Rattle.jillapun_c.specs.declared.decoder.words.DecoderWords.{DecoderWords}
 use Rattle.jillapun_c.specs.declared.progress.Progress.{Progress}
 use Rattle.jillapun_c.specs.declared.status.TheConstants.{CLOSED, FINISHED, OK, REFUSED}

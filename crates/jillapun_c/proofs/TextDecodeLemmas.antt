@@ -20,7 +20,7 @@ use Rattle.encoding_front.specs.laws.Input.{text_scalars}
 use Rattle.jillapun_c.specs.DecoderCalls.{AnswersDecoder, Decodes, DecodesUpToFault, HoldsOne}
 use Rattle.jillapun_c.specs.HeldDecoders.{saved_in}
 use Rattle.jillapun_c.specs.Room.{TextIsPut}
-use Rattle.jillapun_c.specs.declared.decoder.DecoderHandle.{DecoderHandle}
+use Rattle.jillapun_c.specs.declared.decoder.handle.DecoderHandle.{DecoderHandle}
 use Rattle.jillapun_c.specs.declared.progress.Progress.{Progress}
 use Rattle.jillapun_c.specs.declared.status.TheConstants.{CLOSED, FINISHED, OK}
 
@@ -89,11 +89,11 @@ scalars_over v v' src last n old mid new w free outcome puts size h = record {
 
 -- what holds of each call that was made, and has one proof, holds if the status says that it was
 pub if_done : (h : DecoderHandle) (status : ℕ) (Then : DecoderView → Type 0) (P : Type 0) → IsProp P → AnswersDecoder h status Then → status ≡ OK → ((v : DecoderView) → Then v → P) → P
-if_done h status Then P prop answers ok use = by_words (saved_in h.words) refl
+if_done h status Then P prop answers ok then = by_words (saved_in h.words) refl
   where
     by_end : (v : DecoderView) → HoldsOne h v → (t : Bool) → v.finished ≡ t → P
     by_end v holds true ended = let is : status ≡ FINISHED = answers.finished v holds ended in absurd (cc)
-    by_end v holds false live = use v (answers.done v holds live).1
+    by_end v holds false live = then v (answers.done v holds live).1
 
     by_words : (o : Option SavedDecoder) → saved_in h.words ≡ o → P
     by_words None none = let is : status ≡ CLOSED = answers.closed none in absurd (cc)

@@ -16,7 +16,7 @@ use Rattle.jillapun_c.specs.EncodingNumbers.{encoding_at, mark_at}
 use Rattle.jillapun_c.specs.HeldDecoders.{HoldsDecoder, saved_in}
 use Rattle.jillapun_c.specs.HeldTables.{lists_in}
 use Rattle.jillapun_c.specs.Openings.{IfReady}
-use Rattle.jillapun_c.specs.declared.decoder.DecoderHandle.{DecoderHandle}
+use Rattle.jillapun_c.specs.declared.decoder.handle.DecoderHandle.{DecoderHandle}
 use Rattle.jillapun_c.specs.declared.progress.Progress.{Progress}
 use Rattle.jillapun_c.specs.declared.status.TheConstants.{CLOSED, FINISHED, INPUT_EMPTY, MALFORMED, OK, OUTPUT_FULL, REFUSED, UNKNOWN}
 

@@ -7,15 +7,18 @@ ghost use Rattle.encoding_front.specs.calls.DecoderViews.{decoder_view};
 ghost use Rattle.encoding_front.specs.calls.Stream.{IsMadeFrom};
 ghost use Rattle.jillapun_c.specs.DecoderCalls.{AsksRoom, GoesOn, HoldsOne, MakesDecoder};
 ghost use Rattle.jillapun_c.specs.DecoderCalls.{TellsWhyNot};
-ghost use Rattle.jillapun_c.specs.HeldDecoders.{IsSound, saved_in};
+ghost use Rattle.jillapun_c.specs.HeldDecoders.{saved_in};
 ghost use Rattle.jillapun_c.specs.HeldTables.{lists_in, no_lists};
 ghost use Rattle.jillapun_c.specs.declared.status.TheConstants.{OK};
 
+mod handle;
 pub(crate) mod queries;
 pub(crate) mod text;
 pub(crate) mod utf16;
 pub(crate) mod utf8;
 mod words;
+
+pub use handle::DecoderHandle;
 
 use crate::decoder::words::DecoderWords;
 use crate::encoding_number::{encoding_of, mark_of};
@@ -26,32 +29,7 @@ use encoding_mem::room::OutputUnit;
 use encoding_tables::Tables;
 use std::alloc::Global;
 
-/// A decoder of a stream. Begin with `{0}`, which holds none; `jillapun_decoder_new` fills it. All
-/// that it keeps stands in it: it may be moved, a copy is a decoder of its own that goes on from
-/// here, and nothing has to be freed. What a call of this library did not write into it, or into
-/// what it was copied from, is no decoder.
-/// Calls that take a `const` one may be made by any number of threads at once, and others by one
-/// thread at a time.
-#[repr(C)]
-#[derive(Drop)]
-pub struct DecoderHandle {
-    pub tables: TablesHandle,
-    words: DecoderWords,
-    ghost sound: { IsSound tables.tables words },
-}
-
 impl DecoderHandle {
-    /// One that holds nothing.
-    pub(crate) fn none() -> DecoderHandle
-        ensures closed { saved_in result.words ≡ None }
-        ensures tables { result.tables.tables ≡ None }
-    {
-        DecoderHandle {
-            tables: TablesHandle::none(),
-            words: DecoderWords::none(),
-        }
-    }
-
     // One that holds a decoder, which was made from these tables.
     fn of(tables: TablesHandle, decoder: &Decoder<'_>) -> DecoderHandle
         requires made { IsMadeFrom (lists_in tables.tables) (decoder_view decoder.now) }
@@ -62,16 +40,6 @@ impl DecoderHandle {
         DecoderHandle {
             tables,
             words: DecoderWords::of(decoder.saved()),
-        }
-    }
-
-    /// Another one that holds the same.
-    pub(crate) fn copied(&self) -> DecoderHandle
-        ensures { result ≡ self.now }
-    {
-        DecoderHandle {
-            tables: self.tables.copied(),
-            words: self.words,
         }
     }
 

@@ -51,14 +51,8 @@ impl DecoderWords {
     pub(crate) fn of(saved: SavedDecoder) -> DecoderWords
         ensures { saved_in result ≡ Some saved }
     {
-        let SavedBytes {
-            len: held_len,
-            bytes: held,
-        } = saved.held;
-        let SavedBytes {
-            len: pending_len,
-            bytes: pending,
-        } = saved.pieces.pending;
+        let held = saved.held.bytes;
+        let pending = saved.pieces.pending.bytes;
         DecoderWords {
             is_there: true,
             is_finished: saved.is_finished,
@@ -68,9 +62,9 @@ impl DecoderWords {
             seeks_utf16_be: saved.sought.utf16_be,
             seeks_utf16_le: saved.sought.utf16_le,
             mode: saved.pieces.mode,
-            held_len,
+            held_len: saved.held.len,
             held,
-            pending_len,
+            pending_len: saved.pieces.pending.len,
             pending,
         }
     }
@@ -88,6 +82,8 @@ impl DecoderWords {
         let Some(taken) = taken_of(self.taken) else {
             return None;
         };
+        let held = self.held;
+        let pending = self.pending;
         Some(SavedDecoder {
             encoding,
             sought: BomSet {
@@ -97,7 +93,7 @@ impl DecoderWords {
             },
             held: SavedBytes {
                 len: self.held_len,
-                bytes: self.held,
+                bytes: held,
             },
             taken,
             is_finished: self.is_finished,
@@ -105,7 +101,7 @@ impl DecoderWords {
                 mode: self.mode,
                 pending: SavedBytes {
                     len: self.pending_len,
-                    bytes: self.pending,
+                    bytes: pending,
                 },
             },
         })

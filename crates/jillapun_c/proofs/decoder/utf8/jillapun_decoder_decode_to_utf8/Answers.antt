@@ -1,5 +1,6 @@
 use Rattle.std.proofs.Common.{refl}
 use Rattle.encoding_front.specs.calls.DecoderViews.{decoder_view}
+use Rattle.jillapun_c.specs.HeldTables.{lists_in}
 use Rattle.jillapun_c.proofs.HeldDecoderLemmas.{decoded, not_opened, ready_after_text}
 use Rattle.jillapun_c.proofs.decoder.utf8.jillapun_decoder_decode_to_utf8.Goals as goal
 
@@ -7,10 +8,10 @@ pub returns-in-Err-clause-decodes : goal.returns-in-Err-clause-decodes
 returns-in-Err-clause-decodes c = not_opened c.args.decoder.now c.in-Err.status _ c.in-Err.ensures
 
 pub keep-requires-clause-made : goal.keep-requires-clause-made
-keep-requires-clause-made c = c.decode_to_utf8-outcome.ensures.call.made _ c.in-Ok.ensures.made
+keep-requires-clause-made c = c.decode_to_utf8-outcome.ensures.call.made (lists_in c.args.decoder.now.tables.tables) c.in-Ok.ensures.made
 
 pub keep-requires-clause-ready : goal.keep-requires-clause-ready
-keep-requires-clause-ready c = ready_after_text _ _ _ _ _ _ _ _ _ _ c.decode_to_utf8-outcome.ensures.call c.in-Ok.ensures.ready
+keep-requires-clause-ready c = ready_after_text (lists_in c.args.decoder.now.tables.tables) _ _ _ _ _ _ _ _ _ c.decode_to_utf8-outcome.ensures.call c.in-Ok.ensures.ready
 
 pub returns-clause-decodes : goal.returns-clause-decodes
 returns-clause-decodes c =

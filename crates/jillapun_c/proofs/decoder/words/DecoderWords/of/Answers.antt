@@ -1,3 +1,4 @@
+use Rattle.std.proofs.Common.{refl}
 use Rattle.jillapun_c.proofs.HeldDecoderLemmas.{found_at, mark_found_at}
 use Rattle.jillapun_c.proofs.decoder.words.DecoderWords.of.Goals as goal
 

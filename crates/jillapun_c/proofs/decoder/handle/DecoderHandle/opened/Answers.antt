@@ -2,13 +2,13 @@ use Rattle.std.proofs.Common.{sym, ◌∙◌, ap, subst}
 use Rattle.encoding_front.specs.Encodings.{IsReady}
 use Rattle.encoding_front.specs.calls.DecoderViews.{decoder_view}
 use Rattle.jillapun_c.proofs.HeldDecoderLemmas.{closed_why, finished_why, goes_on, ready_held, some_held}
-use Rattle.jillapun_c.proofs.decoder.DecoderHandle.opened.Goals as goal
+use Rattle.jillapun_c.proofs.decoder.handle.DecoderHandle.opened.Goals as goal
 
 pub returns-in_default : goal.returns-in_default
 returns-in_default c = closed_why c.args.self.now (sym c.saved.ensures ∙ c.in_default.is)
 
-pub returns-then-saved-is_finished : goal.returns-then-saved-is_finished
-returns-then-saved-is_finished c = finished_why c.args.self.now c.in-Some.saved (sym c.in-Some.ensures) c.if-saved-is_finished.true
+pub returns-then-saved : goal.returns-then-saved
+returns-then-saved c = finished_why c.args.self.now c.in-Some.saved (sym c.in-Some.ensures) c.if-saved.true
 
 pub resumed-requires-clause-ready : goal.resumed-requires-clause-ready
 resumed-requires-clause-ready c =
@@ -20,5 +20,5 @@ resumed-requires-clause-saved c =
 
 pub returns : goal.returns
 returns c =
-    goes_on c.args.self.now c.in-Some.saved c.encoding_in_force-encoding.result c.or.result.now (decoder_view c.resumed.result) (sym c.in-Some.ensures) c.if-saved-is_finished.false
+    goes_on c.args.self.now c.in-Some.saved c.encoding_in_force-encoding.result c.or.result.now (decoder_view c.resumed.result) (sym c.in-Some.ensures) c.if-saved.false
     c.encoding_in_force-encoding.ensures c.or.ensures c.resumed.ensures.alike c.resumed.ensures.made
