@@ -195,16 +195,19 @@ some_held h w e is named = ∥∥₁_map (h.sound w is) (λ s. (s.0, goes_on_fro
 
 pub goes_on : (h : DecoderHandle) (w : SavedDecoder) (e : Encoding) (t : IndexLists) (u : DecoderView) → saved_in h.words ≡ Some w → w.is_finished ≡ false
     → ((v : DecoderView) → Saves w v → e ≡ v.source []) → t ≡ lists_in h.tables.tables
-    → ((v : DecoderView) → Saves (record w { encoding = e }) v → IsMadeFrom t v → ReadsAlike v u) → IsMadeFrom t u → u.finished ≡ false
+    → ((v : DecoderView) → Saves (record w { encoding = e }) v → IsMadeFrom t v → ReadsAlike v u) → IsMadeFrom t u
     → GoesOn h u
-goes_on h w e t u is live named over alike made open_ = record {
+goes_on h w e t u is live named over alike made = record {
   held = λ none. absurd (cc);
-  alike = λ v holds. alike v (goes_on_from h w e is named v holds) (subst (λ (l : IndexLists). IsMadeFrom l v) (sym over) holds.made);
+  alike = reads;
   made = subst (λ (l : IndexLists). IsMadeFrom l u) over made;
   ready = ∥∥₁_elim (h.sound w is) (ready_prop (lists_in h.tables.tables) (u.source []))
-      (λ s. subst (IsReady (lists_in h.tables.tables)) ((alike s.0 (goes_on_from h w e is named s.0 s.1) (subst (λ (l : IndexLists). IsMadeFrom l s.0) (sym over) s.1.made)).source []) s.1.ready);
-  open_ = open_;
+      (λ s. subst (IsReady (lists_in h.tables.tables)) ((reads s.0 s.1).source []) s.1.ready);
+  open_ = ∥∥₁_elim (h.sound w is) (Bool-set _ _) (λ s. sym (reads s.0 s.1).finished ∙ (saves_held h w s.0 is s.1).finished ∙ live);
 }
+  where
+    reads : (v : DecoderView) → HoldsOne h v → ReadsAlike v u
+    reads v holds = alike v (goes_on_from h w e is named v holds) (subst (λ (l : IndexLists). IsMadeFrom l v) (sym over) holds.made)
 
 -- ---- calls
 

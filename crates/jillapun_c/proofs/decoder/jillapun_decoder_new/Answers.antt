@@ -11,7 +11,7 @@ use Rattle.jillapun_c.proofs.decoder.jillapun_decoder_new.Goals as goal
 pub of-requires-clause-ready : goal.of-requires-clause-ready
 of-requires-clause-ready c =
     let t = c.or-lists.result.now in
-    let e = c.in-Some-encoding_of.encoding in
+    let e = c.in-Some.encoding in
     let ready : IsReady t e = c.is_ready.ensures.ready.0 (rw c.if-not-is_ready.false refl) in
     subst (λ (l : IndexLists). IsReady l ((decoder_view c.new-decoder.result).source [])) c.or-lists.ensures
     (subst (IsReady t) (sym (new_in_force (decoder_view c.new-decoder.result) t c.in-Some-mark_of.mark e c.new-decoder.ensures.begins)) ready)
@@ -19,10 +19,10 @@ of-requires-clause-ready c =
 pub returns-clause-makes : goal.returns-clause-makes
 returns-clause-makes c =
     let t = c.or-lists.result.now in
-    let e = c.in-Some-encoding_of.encoding in
+    let e = c.in-Some.encoding in
     let m = c.in-Some-mark_of.mark in
     let v = decoder_view c.new-decoder.result in
     let ready : IsReady t e = c.is_ready.ensures.ready.0 (rw c.if-not-is_ready.false refl) in
-    made_new c.args.tables.tables c.args.encoding c.args.mark c.of-out.result e m v (sym c.in-Some-encoding_of.ensures) (sym c.in-Some-mark_of.ensures)
-    (subst (λ (l : IndexLists). IsReady l e) c.or-lists.ensures ready) c.of-out.ensures.holds c.of-out.ensures.tables
+    made_new c.args.tables.tables c.args.encoding c.args.mark c.of.result e m v (sym c.in-Some.ensures) (sym c.in-Some-mark_of.ensures)
+    (subst (λ (l : IndexLists). IsReady l e) c.or-lists.ensures ready) c.of.ensures.holds c.of.ensures.tables
     (subst (λ (l : IndexLists). IsNewDecoder v l m e) c.or-lists.ensures c.new-decoder.ensures.begins)
