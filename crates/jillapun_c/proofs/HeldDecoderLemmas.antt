@@ -1,9 +1,8 @@
 -- The decoder that a handle holds, as its calls see it.
 use mathlib.Core.Bool.{Bool-set}
 use mathlib.Core.HLevel.{×_prop, Unit-prop}
-use Rattle.std.proofs.Common.{◌≡◌, ◌≢◌, ℕ, Bool, true, false, cond, List, [], ◌∷◌, ◌++◌, length, Option, Some, None, inl, refl, sym, ◌∙◌, ap, subst, ◌+◌, ◌||◌, unwrap_or}
+use Rattle.std.proofs.Common.{◌≡◌, ◌≢◌, ℕ, Bool, true, false, cond, List, [], ◌∷◌, ◌++◌, length, Option, Some, None, inl, refl, sym, ◌∙◌, ap, subst, ◌+◌, unwrap_or}
 use Rattle.std.proofs.Math.Logic.{∥∥₁_elim, ∥∥₁_map}
-use Rattle.std.proofs.Props.{props}
 use Rattle.encoding_mem.specs.calls.DecodedLength.{queried, decoded_length_utf8, decoded_length_utf16}
 use Rattle.encoding_mem.specs.calls.Decoding.{DecoderState}
 use Rattle.encoding_mem.specs.calls.Resuming.{Reading, reading_of, saved_bytes}
@@ -12,7 +11,6 @@ use Rattle.encoding_mem.specs.declared.codec.decoder_result.DecoderResult.TheVar
 use Rattle.encoding_mem.specs.declared.codec.room.OutputUnit.{OutputUnit}
 use Rattle.encoding_mem.specs.declared.codec.room.DecodedLength.{DecodedLength}
 use Rattle.encoding_tables.specs.IndexLists.{IndexLists}
-use Rattle.encoding_tables.specs.SingleByte.{IsLatin1UpTo}
 use Rattle.encoding_tables.specs.declared.index_kind.IndexKind.{IndexKind}
 use Rattle.encoding_front.specs.EncodingTable.{number_of}
 use Rattle.encoding_front.specs.Encodings.{AreThere, IsReady, needs_of}
@@ -22,7 +20,7 @@ use Rattle.encoding_front.specs.calls.DecoderCall.{DecoderCall, IfRoomAsked, Roo
 use Rattle.encoding_front.specs.calls.Latin1Prefix.{IsAtRest, IsLatin1Prefix, Latin1Rule, by_ascii, by_index, by_mode, latin1_rule, untold}
 use Rattle.encoding_front.specs.calls.RoomRules.{room_by, room_rule_of}
 use Rattle.encoding_front.specs.calls.SavedDecoders.{ReadsAlike, Saves}
-use Rattle.encoding_front.specs.calls.Seeking.{is_sought, find_mark, mark_seen, mark_taken}
+use Rattle.encoding_front.specs.calls.Seeking.{is_sought, find_mark, mark_seen}
 use Rattle.encoding_front.specs.calls.Stream.{DecoderView, IsMadeFrom, IsNewDecoder, Opening, SeeksNoMark, TellsLatin1Prefix, ahead, encoding_after, greater_if, room_asked}
 use Rattle.encoding_front.specs.declared.coder_result.CoderResult.{CoderResult}
 use Rattle.encoding_front.specs.declared.coder_result.CoderResult.TheVariants as text_
@@ -37,7 +35,7 @@ use Rattle.encoding_front.specs.declared.seeking.ByteOrderMark.{ByteOrderMark}
 use Rattle.encoding_front.specs.declared.seeking.ByteOrderMark.TheVariants.{Utf8, Utf16Be, Utf16Le}
 use Rattle.encoding_front.specs.laws.SavedDecoders.{call_alike, text_alike}
 use Rattle.encoding_front.specs.laws.Stream.{held_taken}
-use Rattle.jillapun_c.specs.DecoderCalls.{AnswersDecoder, AsksRoom, Decodes, DecodesUpToFault, GoesOn, HoldsNewDecoder, HoldsOne, IsOutcome, MakesDecoder, TellsIfKnown, TellsWhyNot, text_outcome}
+use Rattle.jillapun_c.specs.DecoderCalls.{AnswersDecoder, AsksRoom, Decodes, DecodesUpToFault, GoesOn, HoldsOne, IsOutcome, MakesDecoder, TellsIfKnown, TellsWhyNot, text_outcome}
 use Rattle.jillapun_c.specs.EncodingNumbers.{encoding_at, mark_at}
 use Rattle.jillapun_c.specs.HeldDecoders.{HoldsDecoder, IsSound, number_of_taken, saved_in, taken_at}
 use Rattle.jillapun_c.specs.HeldTables.{lists_in}
@@ -293,7 +291,7 @@ latin1_alike v u bytes (Some n) h tells =
       subst SeeksNoMark (sym h.opening) tells.0,
       subst (λ (e : Encoding). IsAtRest (latin1_rule e) v.own) rule (rest_alike (latin1_rule (u.source [])) u.own v.own (sym h.own) tells.1),
       subst (λ (e : Encoding). IsLatin1Prefix (latin1_rule e) v.own.pieces bytes n) rule
-      (subst (λ (r : Reading). IsLatin1Prefix (latin1_rule (u.source [])) r.pieces bytes n) (sym h.own) tells.2),
+          (subst (λ (r : Reading). IsLatin1Prefix (latin1_rule (u.source [])) r.pieces bytes n) (sym h.own) tells.2),
     )
 
 pub latin1_told : (h : DecoderHandle) (u : DecoderView) (bytes : List ℕ) (known : Option ℕ) → GoesOn h u → TellsLatin1Prefix u bytes known

@@ -200,8 +200,18 @@ no_escape_in_ascii = refl
 -- what the words of a handle stand for: {0} for no decoder, and a number of no encoding for none
 abbrev words_of : (is_there : Bool) (encoding : ℕ) → DecoderWords
 words_of is_there encoding = record {
-  is_there = is_there; is_finished = false; encoding = encoding; taken = 0; seeks_utf8 = false; seeks_utf16_be = false; seeks_utf16_le = false;
-  mode = 0; held_len = 0; held = []; pending_len = 0; pending = [];
+  is_there = is_there;
+  is_finished = false;
+  encoding = encoding;
+  taken = 0;
+  seeks_utf8 = false;
+  seeks_utf16_be = false;
+  seeks_utf16_le = false;
+  mode = 0;
+  held_len = 0;
+  held = [];
+  pending_len = 0;
+  pending = [];
 }
 
 pub zeroes_hold_no_decoder : saved_in (words_of false 0) ≡ None

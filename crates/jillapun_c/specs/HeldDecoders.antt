@@ -1,5 +1,5 @@
 -- The decoder that the plain words of a handle stand for.
-use Rattle.std.specs.Prelude.{◌≡◌, ℕ, if◌then◌else◌, List, [], ◌∷◌, Option, None, Some, option_and_then, slice_get}
+use Rattle.std.specs.Prelude.{◌≡◌, ℕ, if◌then◌else◌, [], ◌∷◌, Option, None, Some, option_and_then, slice_get}
 use Rattle.std.specs.Option.{ForSome, option_map}
 use Rattle.encoding_tables.specs.IndexLists.{IndexLists}
 use Rattle.encoding_front.specs.Encodings.{IsReady}

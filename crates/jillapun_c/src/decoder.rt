@@ -18,8 +18,6 @@ pub(crate) mod utf16;
 pub(crate) mod utf8;
 mod words;
 
-pub use handle::DecoderHandle;
-
 use crate::decoder::words::DecoderWords;
 use crate::encoding_number::{encoding_of, mark_of};
 use crate::status::{CLOSED, FINISHED, NOT_READY, OK, REFUSED, UNKNOWN};
@@ -27,6 +25,7 @@ use crate::tables_handle::{TablesHandle, no_tables};
 use encoding_front::{Decoder, SavedDecoder};
 use encoding_mem::room::OutputUnit;
 use encoding_tables::Tables;
+pub use handle::DecoderHandle;
 use std::alloc::Global;
 
 impl DecoderHandle {

@@ -28,7 +28,9 @@ fn writes(alloc: Global, handle: &mut DecoderHandle, src: &[u8], last: bool, tex
     let mut room = [0; 16];
     let mut told = Progress::NONE;
     let status = jillapun_decoder_decode_to_utf8(alloc, handle, src, &mut room, last, &mut told);
-    status == OK && told.outcome == INPUT_EMPTY && room.starts_with(text.as_bytes())
+    status == OK
+        && told.outcome == INPUT_EMPTY
+        && room.starts_with(text.as_bytes())
         && told.written == text.len()
 }
 
@@ -40,7 +42,15 @@ fn utf8_needs_no_tables(rt: HostRuntime) {
     assert_eq!(rt; jillapun_decoder_encoding(&handle), UTF_8);
     assert!(rt; writes(alloc, &mut handle, b"\xEF\xBB", false, ""));
     assert!(rt; writes(alloc, &mut handle, b"\xBFa\xE2\x82", false, "a"));
-    assert!(rt; writes(alloc, &mut handle, b"\xAC\xF0\x9F", true, "\u{20AC}\u{FFFD}"));
+    assert!(rt;
+        writes(
+            alloc,
+            &mut handle,
+            b"\xAC\xF0\x9F",
+            true,
+            "\u{20AC}\u{FFFD}"
+        )
+    );
     assert!(rt; !writes(alloc, &mut handle, b"", true, ""));
 }
 
@@ -59,8 +69,14 @@ fn utf16_needs_no_tables(rt: HostRuntime) {
     assert_eq!(rt; jillapun_decoder_encoding(&handle), UTF_16BE);
     let mut units = [0; 4];
     let mut told = Progress::NONE;
-    let status =
-        jillapun_decoder_decode_to_utf16(alloc, &mut handle, b"b", &mut units, true, &mut told);
+    let status = jillapun_decoder_decode_to_utf16(
+        alloc,
+        &mut handle,
+        b"b",
+        &mut units,
+        true,
+        &mut told,
+    );
     assert_eq!(rt; (status, told.written, units[0]), (OK, 1, 0x62));
 }
 
@@ -69,7 +85,10 @@ fn an_index_is_needed(rt: HostRuntime) {
     let alloc = rt.alloc();
     let mut handle = DecoderHandle::none();
     assert_eq!(rt; new(alloc, euro(alloc), WINDOWS_1252, &mut handle), OK);
-    assert_eq!(rt; new(alloc, TablesHandle::none(), WINDOWS_1252, &mut handle), NOT_READY);
+    assert_eq!(rt;
+        new(alloc, TablesHandle::none(), WINDOWS_1252, &mut handle),
+        NOT_READY
+    );
     assert!(rt; writes(alloc, &mut handle, b"\x80", false, "\u{20AC}"));
 }
 
@@ -80,7 +99,10 @@ fn handle_is_filled_again(rt: HostRuntime) {
     assert_eq!(rt; new(alloc, euro(alloc), WINDOWS_1252, &mut handle), OK);
     assert!(rt; writes(alloc, &mut handle, b"\x80", true, "\u{20AC}"));
     let mut length = 9;
-    assert_eq!(rt; jillapun_decoder_max_utf8_length(&handle, 1, &mut length), FINISHED);
+    assert_eq!(rt;
+        jillapun_decoder_max_utf8_length(&handle, 1, &mut length),
+        FINISHED
+    );
     assert_eq!(rt; new(alloc, TablesHandle::none(), UTF_8, &mut handle), OK);
     assert!(rt; writes(alloc, &mut handle, b"a", true, "a"));
 }

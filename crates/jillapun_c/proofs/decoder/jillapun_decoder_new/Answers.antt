@@ -3,8 +3,6 @@ use Rattle.encoding_tables.specs.IndexLists.{IndexLists}
 use Rattle.encoding_front.specs.Encodings.{IsReady}
 use Rattle.encoding_front.specs.calls.DecoderViews.{decoder_view}
 use Rattle.encoding_front.specs.calls.Stream.{IsNewDecoder}
-use Rattle.encoding_front.specs.declared.encoding.Encoding.{Encoding}
-use Rattle.jillapun_c.specs.HeldTables.{lists_in}
 use Rattle.jillapun_c.proofs.HeldDecoderLemmas.{made_new, new_in_force}
 use Rattle.jillapun_c.proofs.decoder.jillapun_decoder_new.Goals as goal
 

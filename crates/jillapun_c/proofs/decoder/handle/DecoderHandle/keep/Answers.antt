@@ -8,5 +8,5 @@ returns-clause-holds c = held_by c.args.self.now.tables.tables c.of-self.result 
 pub invariant_of-self : goal.invariant_of-self
 invariant_of-self c = record {
   sound = sound_by c.args.self.now.tables.tables c.of-self.result (decoder_view c.args.decoder.now)
-    (held_by c.args.self.now.tables.tables c.of-self.result c.saved.result (decoder_view c.args.decoder.now) c.of-self.ensures c.saved.ensures c.requires.made c.requires.ready);
+      (held_by c.args.self.now.tables.tables c.of-self.result c.saved.result (decoder_view c.args.decoder.now) c.of-self.ensures c.saved.ensures c.requires.made c.requires.ready);
 }

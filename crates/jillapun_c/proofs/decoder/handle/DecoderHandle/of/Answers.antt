@@ -8,5 +8,5 @@ returns-clause-holds c = held_by c.args.tables.tables c.of.result c.saved.result
 pub invariant_of-result : goal.invariant_of-result
 invariant_of-result c = record {
   sound = sound_by c.args.tables.tables c.of.result (decoder_view c.args.decoder.now)
-    (held_by c.args.tables.tables c.of.result c.saved.result (decoder_view c.args.decoder.now) c.of.ensures c.saved.ensures c.requires.made c.requires.ready);
+      (held_by c.args.tables.tables c.of.result c.saved.result (decoder_view c.args.decoder.now) c.of.ensures c.saved.ensures c.requires.made c.requires.ready);
 }

@@ -1,5 +1,4 @@
-use Rattle.std.proofs.Common.{sym, ◌∙◌, ap, subst}
-use Rattle.encoding_front.specs.Encodings.{IsReady}
+use Rattle.std.proofs.Common.{sym, ◌∙◌}
 use Rattle.encoding_front.specs.calls.DecoderViews.{decoder_view}
 use Rattle.jillapun_c.proofs.HeldDecoderLemmas.{closed_why, finished_why, goes_on, ready_held, some_held}
 use Rattle.jillapun_c.proofs.decoder.handle.DecoderHandle.opened.Goals as goal

@@ -1,4 +1,4 @@
-use Rattle.std.proofs.Common.{sym, ◌∙◌}
+use Rattle.std.proofs.Common.{sym}
 use Rattle.jillapun_c.proofs.HeldDecoderLemmas.{asked, closed_answer, finished_answer}
 use Rattle.jillapun_c.proofs.decoder.handle.DecoderHandle.room.Goals as goal
 
