@@ -21,7 +21,7 @@ use Rattle.encoding_front.specs.declared.encoding.Encoding.{Encoding}
 use Rattle.jillapun_c.specs.EncoderCalls.{AnswersEncoder, MakesEncoder}
 use Rattle.jillapun_c.specs.EncoderWords.{AreSound, GoesOnAs, IsSound, encoder_of, saved_encoder_in, saved_with, set_at, state_with}
 use Rattle.jillapun_c.specs.EncodingNumbers.{encoding_at}
-use Rattle.jillapun_c.specs.HeldTables.{lists_in}
+use Rattle.jillapun_c.specs.HeldTables.{held_lists}
 use Rattle.jillapun_c.specs.declared.encoder.words.EncoderWords.{EncoderWords}
 use Rattle.jillapun_c.specs.declared.status.TheConstants.{CLOSED, NOT_READY, OK}
 use Rattle.jillapun_c.proofs.HandleWordLemmas.{found_at}
@@ -45,15 +45,15 @@ sound_in tables w x is h = ∥∥₁_map {B = IsSound x} h (λ (k : AreSound tab
 
 module _ (tables : Option IndexLists) (w : EncoderWords) (saved : SavedEncoder) (is : saved_encoder_in w ≡ Some saved) (h : ∥ AreSound tables w ∥₁) where
   abbrev x : EncoderState
-  x = state_with (lists_in tables) saved
+  x = state_with (held_lists tables) saved
 
   pub held_is : encoder_of tables w ≡ Some x
-  held_is = ap (option_map (state_with (lists_in tables))) is
+  held_is = ap (option_map (state_with (held_lists tables))) is
 
   sound : ∥ IsSound x ∥₁
   sound = sound_in tables w x held_is h
 
-  pub held_ready : IsReady (lists_in tables) (output_encoding_of saved.encoding)
+  pub held_ready : IsReady (held_lists tables) (output_encoding_of saved.encoding)
   held_ready = ∥∥₁_elim sound (AreThere-prop _ _) (λ k. k.ready)
 
   pub held_set : ∥ Moves (coding_in x) Ascii saved.set ∥₁
@@ -63,8 +63,8 @@ module _ (tables : Option IndexLists) (w : EncoderWords) (saved : SavedEncoder) 
   held_output = ∥∥₁_elim sound (hlevel props) (λ k. k.output)
 
   -- an encoder that is resumed is the one that is held
-  pub resumed_is : Some (record (new_state (lists_in tables) saved.encoding) { set = saved.set }) ≡ encoder_of tables w
-  resumed_is = ap (λ (e : Encoding). Some (state_with (lists_in tables) (saved_with e saved.set))) held_output ∙ sym held_is
+  pub resumed_is : Some (record (new_state (held_lists tables) saved.encoding) { set = saved.set }) ≡ encoder_of tables w
+  resumed_is = ap (λ (e : Encoding). Some (state_with (held_lists tables) (saved_with e saved.set))) held_output ∙ sym held_is
 
 -- ---- of words that are changed
 
@@ -73,11 +73,11 @@ by_tables l None x is = absurd (cc)
 by_tables l (Some saved) x is = ap (λ (y : EncoderState). y.tables) (sym (same_some (state_with l saved) x is))
 
 module _ (tables : Option IndexLists) (w w' : EncoderWords) (x x' : EncoderState) (held : encoder_of tables w ≡ Some x) (goes : GoesOnAs x x') (is : saved_encoder_in w' ≡ Some (saved_of x')) where
-  of_tables : x'.tables ≡ lists_in tables
-  of_tables = ap (λ (y : EncoderState). y.tables) goes.same ∙ by_tables (lists_in tables) (saved_encoder_in w) x held
+  of_tables : x'.tables ≡ held_lists tables
+  of_tables = ap (λ (y : EncoderState). y.tables) goes.same ∙ by_tables (held_lists tables) (saved_encoder_in w) x held
 
   pub kept_is : encoder_of tables w' ≡ Some x'
-  kept_is = ap (option_map (state_with (lists_in tables))) is ∙ ap (λ l. Some (state_with l (saved_of x'))) (sym of_tables)
+  kept_is = ap (option_map (state_with (held_lists tables))) is ∙ ap (λ l. Some (state_with l (saved_of x'))) (sym of_tables)
 
   still_sound : IsSound x → IsSound x'
   still_sound k = subst IsSound (sym goes.same) (record { ready = k.ready; output = k.output; set = moves_on (coding_in x) x.set x'.set k.set goes.moves })
@@ -102,12 +102,12 @@ new_sound t e ready = record {
 }
 
 pub new_is : (tables : Option IndexLists) (w : EncoderWords) (e : Encoding) → saved_encoder_in w ≡ Some (saved_with (output_encoding_of e) Ascii)
-    → encoder_of tables w ≡ Some (new_state (lists_in tables) e)
-new_is tables w e is = ap (option_map (state_with (lists_in tables))) is
+    → encoder_of tables w ≡ Some (new_state (held_lists tables) e)
+new_is tables w e is = ap (option_map (state_with (held_lists tables))) is
 
 pub new_are_sound : (tables : Option IndexLists) (w : EncoderWords) (e : Encoding) → saved_encoder_in w ≡ Some (saved_with (output_encoding_of e) Ascii)
-    → IsReady (lists_in tables) (output_encoding_of e) → AreSound tables w
-new_are_sound tables w e is ready = subst (λ o. IfSome o IsSound) (sym (new_is tables w e is)) (new_sound (lists_in tables) e ready)
+    → IsReady (held_lists tables) (output_encoding_of e) → AreSound tables w
+new_are_sound tables w e is ready = subst (λ o. IfSome o IsSound) (sym (new_is tables w e is)) (new_sound (held_lists tables) e ready)
 
 -- words that are made of what was saved
 pub saved_is : (w : EncoderWords) (saved : SavedEncoder) → w.is_there ≡ true → w.encoding ≡ number_of saved.encoding → set_at w.set ≡ Some saved.set → saved_encoder_in w ≡ Some saved
@@ -115,7 +115,7 @@ saved_is w saved is_there number set = rw (is_there, number, found_at saved.enco
 
 -- words of no encoder
 pub none_is : (tables : Option IndexLists) (w : EncoderWords) → saved_encoder_in w ≡ None → encoder_of tables w ≡ None
-none_is tables w is = ap (option_map (state_with (lists_in tables))) is
+none_is tables w is = ap (option_map (state_with (held_lists tables))) is
 
 pub none_are_sound : (tables : Option IndexLists) (w : EncoderWords) → saved_encoder_in w ≡ None → AreSound tables w
 none_are_sound tables w is = subst (λ o. IfSome o IsSound) (sym (none_is tables w is)) tt
@@ -133,10 +133,10 @@ answers_closed held Then is = record { closed = λ none. refl; done = λ e at. a
 
 -- ---- of a new encoder
 
-pub made : (tables : Option IndexLists) (number : ℕ) (e : Encoding) (new : Option EncoderState) → encoding_at number ≡ Some e → IsReady (lists_in tables) (output_encoding_of e)
-    → new ≡ Some (new_state (lists_in tables) e) → MakesEncoder tables number new OK
+pub made : (tables : Option IndexLists) (number : ℕ) (e : Encoding) (new : Option EncoderState) → encoding_at number ≡ Some e → IsReady (held_lists tables) (output_encoding_of e)
+    → new ≡ Some (new_state (held_lists tables) e) → MakesEncoder tables number new OK
 made tables number e new at ready is = rw at (inl (ready, (refl, is)))
 
-pub not_made : (tables : Option IndexLists) (number : ℕ) (e : Encoding) (new : Option EncoderState) → encoding_at number ≡ Some e → ¬ (IsReady (lists_in tables) (output_encoding_of e))
+pub not_made : (tables : Option IndexLists) (number : ℕ) (e : Encoding) (new : Option EncoderState) → encoding_at number ≡ Some e → ¬ (IsReady (held_lists tables) (output_encoding_of e))
     → MakesEncoder tables number new NOT_READY
 not_made tables number e new at lacks = rw at (inr (lacks, refl))

@@ -7,7 +7,7 @@ mod ConverterTurnLemmas
 mod EncoderHandleLemmas
 mod EncoderPartLemmas
 mod EncodingNumberLemmas
-mod HandleWordLemmas
+mod HeldDecoderLemmas
 mod FrontPartLemmas
 mod IndexFileLemmas
 mod Openings

@@ -2,6 +2,7 @@
 use Rattle.std.proofs.Common.{◌≡◌, ◌≢◌, ℕ, Bool, true, false, Option, None, Some, List, [], ◌∷◌, ◌++◌, length, take, drop, refl, ◌∙◌, ap, subst, arith, encode_utf8_all}
 use Rattle.std.proofs.lemmas.Bool.{and_parts}
 use Rattle.std.proofs.lemmas.List.{drop_at, take_at}
+use Rattle.std.proofs.Math.Logic.{∥∥₁_elim}
 use Rattle.std.proofs.Math.Utf8.{scalar}
 use Rattle.std.specs.Str.{all_scalars}
 use Rattle.encoding_mem.specs.Piece.{Piece, well_formed, malformed, text, scalars, ArePieces}
@@ -12,15 +13,14 @@ use Rattle.encoding_mem.specs.declared.codec.decoder_result.DecoderResult.{Decod
 use Rattle.encoding_mem.specs.declared.codec.room.OutputUnit.{OutputUnit}
 use Rattle.encoding_front.specs.calls.DecodedText.{raw_result}
 use Rattle.encoding_front.specs.calls.DecoderCall.{DecoderCall, TextCall, free_bytes}
-use Rattle.encoding_front.specs.calls.DecoderViews.{decoder_view}
 use Rattle.encoding_front.specs.calls.Stream.{DecoderView}
 use Rattle.encoding_front.specs.declared.coder_result.CoderResult.{CoderResult}
-use Rattle.encoding_front.specs.declared.decoder.Decoder.{Decoder}
+use Rattle.encoding_front.specs.declared.decoder.saved_decoder.SavedDecoder.{SavedDecoder}
 use Rattle.encoding_front.specs.laws.Input.{text_scalars}
-use Rattle.jillapun_c.specs.Coders.{decoder_in}
-use Rattle.jillapun_c.specs.DecoderCalls.{AnswersDecoder, Decodes, DecodesUpToFault}
+use Rattle.jillapun_c.specs.DecoderCalls.{AnswersDecoder, Decodes, DecodesUpToFault, HoldsOne}
+use Rattle.jillapun_c.specs.HeldDecoders.{saved_in}
 use Rattle.jillapun_c.specs.Room.{TextIsPut}
-use Rattle.jillapun_c.specs.declared.coder.Coder.{Coder}
+use Rattle.jillapun_c.specs.declared.decoder.handle.DecoderHandle.{DecoderHandle}
 use Rattle.jillapun_c.specs.declared.progress.Progress.{Progress}
 use Rattle.jillapun_c.specs.declared.status.TheConstants.{CLOSED, FINISHED, OK}
 
@@ -87,64 +87,63 @@ scalars_over v v' src last n old mid new w free outcome puts size h = record {
 
 -- ---- of the decoder of a handle
 
--- a call that was made is one of an open decoder
-done_if_ok : (held : Option Decoder) (status : ℕ) (Then : Decoder → Type 0) → (held ≡ None → status ≡ CLOSED) → ((d : Decoder) → held ≡ Some d → (decoder_view d).finished ≡ true → status ≡ FINISHED)
-    → ((d : Decoder) → held ≡ Some d → (decoder_view d).finished ≡ false → (status ≡ OK) × Then d) → status ≡ OK → (d : Decoder) × Then d
-done_if_ok None status Then closed finished done ok = let none : status ≡ CLOSED = closed refl in absurd (cc)
-done_if_ok (Some d) status Then closed finished done ok = by_end (decoder_view d).finished (λ is. finished d refl is) (λ is. done d refl is)
+-- what holds of each call that was made, and has one proof, holds if the status says that it was
+pub if_done : (h : DecoderHandle) (status : ℕ) (Then : DecoderView → Type 0) (P : Type 0) → IsProp P → AnswersDecoder h status Then → status ≡ OK → ((v : DecoderView) → Then v → P) → P
+if_done h status Then P prop answers ok then = by_words (saved_in h.words) refl
   where
-    by_end : (t : Bool) → (t ≡ true → status ≡ FINISHED) → (t ≡ false → (status ≡ OK) × Then d) → (d : Decoder) × Then d
-    by_end true ended live = let is : status ≡ FINISHED = ended refl in absurd (cc)
-    by_end false ended live = (d, (live refl).1)
+    by_end : (v : DecoderView) → HoldsOne h v → (t : Bool) → v.finished ≡ t → P
+    by_end v holds true ended = let is : status ≡ FINISHED = answers.finished v holds ended in absurd (cc)
+    by_end v holds false live = then v (answers.done v holds live).1
 
-pub done_of : (held : Option Coder) (status : ℕ) (Then : Decoder → Type 0) → AnswersDecoder held status Then → status ≡ OK → (d : Decoder) × Then d
-done_of held status Then h ok = done_if_ok (decoder_in held) status Then h.closed h.finished h.done ok
+    by_words : (o : Option SavedDecoder) → saved_in h.words ≡ o → P
+    by_words None none = let is : status ≡ CLOSED = answers.closed none in absurd (cc)
+    by_words (Some w) some = ∥∥₁_elim (h.sound w some) prop (λ s. by_end s.0 s.1 (s.0).finished refl)
 
 -- what a call that was not made says holds of any other
-pub not_done : (held : Option Coder) (status : ℕ) (Then Other : Decoder → Type 0) → AnswersDecoder held status Then → status ≢ OK → AnswersDecoder held status Other
-not_done held status Then Other h other = record { closed = h.closed; finished = h.finished; done = λ d is live. absurd (other (h.done d is live).0) }
+pub not_done : (h : DecoderHandle) (status : ℕ) (Then Other : DecoderView → Type 0) → AnswersDecoder h status Then → status ≢ OK → AnswersDecoder h status Other
+not_done h status Then Other answers other = record { closed = answers.closed; finished = answers.finished; done = λ v holds live. absurd (other (answers.done v holds live).0) }
 
--- with U+FFFD for each malformed sequence
-pub decodes_over : (held after : Option Coder) (unit : OutputUnit) (src : List ℕ) (last : Bool) (old mid new : List ℕ) (size free status : ℕ) (p : Progress) → PutsOver mid new p.written
+-- with U+FFFD
+pub decodes_over : (h after : DecoderHandle) (unit : OutputUnit) (src : List ℕ) (last : Bool) (old mid new : List ℕ) (size free status : ℕ) (p : Progress) → PutsOver mid new p.written
     → length (drop p.written mid) ≡ free
-    → AnswersDecoder held status (λ d. Decodes unit d after src last (λ t. Adds old 0 (encode_utf8_all t) mid p.written) size (free_bytes (length (drop p.written mid))) p)
-    → AnswersDecoder held status (λ d. Decodes unit d after src last (λ t. TextIsPut old (encode_utf8_all t) new p.written) size (free_bytes free) p)
-decodes_over held after k src last old mid new size free status p puts same h = record {
-  closed = h.closed;
-  finished = h.finished;
-  done = λ d is live.
-      let did = (h.done d is live).1 in (
-        (h.done d is live).0,
+    → AnswersDecoder h status (λ v. Decodes unit v after src last (λ t. Adds old 0 (encode_utf8_all t) mid p.written) size (free_bytes (length (drop p.written mid))) p)
+    → AnswersDecoder h status (λ v. Decodes unit v after src last (λ t. TextIsPut old (encode_utf8_all t) new p.written) size (free_bytes free) p)
+decodes_over h after k src last old mid new size free status p puts same answers = record {
+  closed = answers.closed;
+  finished = answers.finished;
+  done = λ v holds live.
+      let did = (answers.done v holds live).1 in (
+        (answers.done v holds live).0,
         record {
-          decoder = did.decoder;
-          held = did.held;
+          view = did.view;
+          holds = did.holds;
           outcome = did.outcome;
           told = did.told;
           no_length = did.no_length;
-          call = text_over (decoder_view d) (decoder_view did.decoder) src last p.read old mid new p.written free did.outcome p.had_errors puts same did.call;
+          call = text_over v did.view src last p.read old mid new p.written free did.outcome p.had_errors puts same did.call;
           enough = did.enough;
         },
       );
 }
 
 -- up to the first malformed sequence
-pub decodes_part_over : (held after : Option Coder) (k : OutputUnit) (src : List ℕ) (last : Bool) (old mid new : List ℕ) (size free status : ℕ) (p : Progress) → PutsOver mid new p.written
+pub decodes_part_over : (h after : DecoderHandle) (k : OutputUnit) (src : List ℕ) (last : Bool) (old mid new : List ℕ) (size free status : ℕ) (p : Progress) → PutsOver mid new p.written
     → length (drop p.written mid) ≡ free
-    → AnswersDecoder held status (λ d. DecodesUpToFault k d after src last (λ t. Adds old 0 (encode_utf8_all t) mid p.written) size (free_bytes (length (drop p.written mid))) p)
-    → AnswersDecoder held status (λ d. DecodesUpToFault k d after src last (λ t. TextIsPut old (encode_utf8_all t) new p.written) size (free_bytes free) p)
-decodes_part_over held after k src last old mid new size free status p puts same h = record {
-  closed = h.closed;
-  finished = h.finished;
-  done = λ d is live.
-      let did = (h.done d is live).1 in (
-        (h.done d is live).0,
+    → AnswersDecoder h status (λ v. DecodesUpToFault k v after src last (λ t. Adds old 0 (encode_utf8_all t) mid p.written) size (free_bytes (length (drop p.written mid))) p)
+    → AnswersDecoder h status (λ v. DecodesUpToFault k v after src last (λ t. TextIsPut old (encode_utf8_all t) new p.written) size (free_bytes free) p)
+decodes_part_over h after k src last old mid new size free status p puts same answers = record {
+  closed = answers.closed;
+  finished = answers.finished;
+  done = λ v holds live.
+      let did = (answers.done v holds live).1 in (
+        (answers.done v holds live).0,
         record {
-          decoder = did.decoder;
-          held = did.held;
+          view = did.view;
+          holds = did.holds;
           outcome = did.outcome;
           told = did.told;
           none_replaced = did.none_replaced;
-          call = scalars_over (decoder_view d) (decoder_view did.decoder) src last p.read old mid new p.written free did.outcome puts same did.call;
+          call = scalars_over v did.view src last p.read old mid new p.written free did.outcome puts same did.call;
           enough = did.enough;
         },
       );

@@ -10,7 +10,7 @@ use Rattle.encoding_front.specs.declared.coder_result.CoderResult.{CoderResult}
 use Rattle.encoding_front.specs.declared.coder_result.CoderResult.TheVariants as text_
 use Rattle.jillapun_c.specs.DecoderCalls.{text_outcome}
 use Rattle.jillapun_c.specs.EncodingNumbers.{encoding_at}
-use Rattle.jillapun_c.specs.HeldTables.{lists_in}
+use Rattle.jillapun_c.specs.HeldTables.{held_lists}
 use Rattle.jillapun_c.specs.Openings.{IfReady}
 use Rattle.jillapun_c.specs.declared.encoder_progress.EncoderProgress.{EncoderProgress}
 use Rattle.jillapun_c.specs.declared.status.TheConstants.{CLOSED, INPUT_EMPTY, OK, OUTPUT_FULL, REFUSED, UNKNOWN, UNMAPPABLE}
@@ -19,7 +19,7 @@ use Rattle.jillapun_c.specs.declared.status.TheConstants.{CLOSED, INPUT_EMPTY, O
 -- tables have each index that the output encoding needs
 abbrev pub MakesEncoder : (tables : Option IndexLists) (number : ℕ) (new : Option EncoderState) (status : ℕ) → Type 0
 MakesEncoder tables number new status = MatchOption (encoding_at number) (status ≡ UNKNOWN)
-    (λ e. IfReady (lists_in tables) (output_encoding_of e) ((status ≡ OK) × (new ≡ Some (new_state (lists_in tables) e))) status)
+    (λ e. IfReady (held_lists tables) (output_encoding_of e) ((status ≡ OK) × (new ≡ Some (new_state (held_lists tables) e))) status)
 
 -- an outcome as it is told: its number, and the character that has no bytes
 abbrev pub IsEncoderOutcome : EncoderResult → (number scalar : ℕ) → Type 0

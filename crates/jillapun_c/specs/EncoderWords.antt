@@ -10,7 +10,7 @@ use Rattle.encoding_front.specs.calls.Encoder.{EncoderState, coding_in}
 use Rattle.encoding_front.specs.declared.encoder.saved_encoder.SavedEncoder.{SavedEncoder}
 use Rattle.encoding_front.specs.declared.encoding.Encoding.{Encoding}
 use Rattle.jillapun_c.specs.EncodingNumbers.{encoding_at}
-use Rattle.jillapun_c.specs.HeldTables.{lists_in}
+use Rattle.jillapun_c.specs.HeldTables.{held_lists}
 use Rattle.jillapun_c.specs.declared.encoder.words.EncoderWords.{EncoderWords}
 
 -- the set that a number stands for, if it stands for one
@@ -31,7 +31,7 @@ state_with t saved = record { tables = t; encoding = saved.encoding; set = saved
 
 -- the encoder that the words are of, if they are of one, by the indexes of tables
 abbrev pub encoder_of : (tables : Option IndexLists) → EncoderWords → Option EncoderState
-encoder_of tables w = option_map (state_with (lists_in tables)) (saved_encoder_in w)
+encoder_of tables w = option_map (state_with (held_lists tables)) (saved_encoder_in w)
 
 -- An encoder is one that calls can have left: its indexes are there, it writes in its own output encoding, and from ASCII
 -- its calls come to the set in force.

@@ -1,6 +1,6 @@
 -- The numbers and the words of the definitions, worked.
 use Rattle.std.proofs.Common.{arith, inl, inr}
-use Rattle.std.specs.Prelude.{◌≡◌, true, false, None, Some, [], ◌∷◌, codes, refl}
+use Rattle.std.specs.Prelude.{◌≡◌, ℕ, Bool, true, false, None, Some, [], ◌∷◌, codes, refl}
 use lib.Utf8.{encode}
 use Rattle.std.specs.Fmt.{digits}
 use Rattle.encoding_mem.specs.declared.codec.form.EscapeState.TheVariants as set
@@ -18,11 +18,12 @@ use Rattle.jillapun_c.specs.Asked.{policy_at}
 use Rattle.jillapun_c.specs.ConverterTurns.{found_log, line_reference, stage_at}
 use Rattle.jillapun_c.specs.EncoderWords.{encoder_of}
 use Rattle.jillapun_c.specs.EncodingNumbers.{encoding_at, mark_at, needed_file}
+use Rattle.jillapun_c.specs.HeldDecoders.{saved_as, saved_in}
 use Rattle.jillapun_c.specs.HeldTables.{no_lists}
-use Rattle.jillapun_c.specs.HandleWords.{decoder_words}
 use Rattle.jillapun_c.specs.IndexFiles.{told_of}
 use Rattle.jillapun_c.specs.Room.{rest_cleared}
 use Rattle.jillapun_c.specs.TextParts.{IsLookedAt, most_read, told_outcome}
+use Rattle.jillapun_c.specs.declared.decoder.words.DecoderWords.{DecoderWords}
 use Rattle.jillapun_c.specs.declared.converter.Stage.TheVariants.{Open, Stopped}
 use Rattle.jillapun_c.specs.declared.index_files.FileFault.TheVariants as told
 use Rattle.jillapun_c.specs.declared.converter.progress.TheConstants.ConverterProgress as converter_
@@ -203,5 +204,28 @@ no_such_set t = refl
 pub no_such_output : (t : IndexLists) → encoder_of (Some t) (record { is_there = true; encoding = 40; set = 0 }) ≡ None
 no_such_output t = refl
 
-pub closed_tells_no_decoder : (decoder_words None).is_there ≡ false
-closed_tells_no_decoder = refl
+-- what the words of a handle stand for: {0} for no decoder, and a number of no encoding for none
+abbrev words_of : (is_there : Bool) (encoding : ℕ) → DecoderWords
+words_of is_there encoding = record {
+  is_there = is_there;
+  is_finished = false;
+  encoding = encoding;
+  taken = 0;
+  seeks_utf8 = false;
+  seeks_utf16_be = false;
+  seeks_utf16_le = false;
+  mode = 0;
+  held_len = 0;
+  held = [];
+  pending_len = 0;
+  pending = [];
+}
+
+pub zeroes_hold_no_decoder : saved_in (words_of false 0) ≡ None
+zeroes_hold_no_decoder = refl
+
+pub no_decoder_without_encoding : saved_in (words_of true 40) ≡ None
+no_decoder_without_encoding = refl
+
+pub words_hold_a_decoder : saved_in (words_of true 25) ≡ Some (saved_as (words_of true 25) Encoding.Utf8 None)
+words_hold_a_decoder = refl

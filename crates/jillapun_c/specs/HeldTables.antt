@@ -7,6 +7,6 @@ abbrev pub no_lists : IndexLists
 no_lists = record { flats = λ kind. None; rows = None }
 
 -- those of tables, or none if there are no tables
-abbrev pub lists_in : Option IndexLists → IndexLists
-lists_in None = no_lists
-lists_in (Some lists) = lists
+abbrev pub held_lists : Option IndexLists → IndexLists
+held_lists None = no_lists
+held_lists (Some lists) = lists

@@ -10,7 +10,7 @@ pub mod EncoderCalls
 pub mod EncoderWords
 pub mod EncodingNumbers
 pub mod Examples
-pub mod HandleWords
+pub mod HeldDecoders
 pub mod IndexFiles
 pub mod Losses
 pub mod Openings

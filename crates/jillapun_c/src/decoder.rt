@@ -1,77 +1,98 @@
 //! The exports that decode streams.
 
-ghost use Rattle.std.specs.Prelude.{◌≡◌, ◌≢◌, None, Some, MatchOption};
-ghost use Rattle.jillapun_c.specs.Coders.{decoder_in};
-ghost use Rattle.jillapun_c.specs.DecoderCalls.{MakesDecoder};
-ghost use Rattle.jillapun_c.specs.HandleWords.{decoder_words};
-ghost use Rattle.jillapun_c.specs.Openings.{Opens};
+ghost use Rattle.std.specs.Prelude.{◌≡◌, ◌≢◌, [], None, MatchResult};
+ghost use Rattle.encoding_mem.specs.declared.codec.room.OutputUnit.{OutputUnit};
+ghost use Rattle.encoding_front.specs.Encodings.{IsReady};
+ghost use Rattle.encoding_front.specs.calls.DecoderViews.{decoder_view};
+ghost use Rattle.encoding_front.specs.calls.Stream.{IsMadeFrom};
+ghost use Rattle.jillapun_c.specs.DecoderCalls.{AsksRoom, GoesOn, HoldsOne, MakesDecoder};
+ghost use Rattle.jillapun_c.specs.DecoderCalls.{TellsWhyNot};
+ghost use Rattle.jillapun_c.specs.HeldDecoders.{saved_in};
+ghost use Rattle.jillapun_c.specs.HeldTables.{held_lists, no_lists};
 ghost use Rattle.jillapun_c.specs.declared.status.TheConstants.{OK};
 
+mod handle;
 pub(crate) mod queries;
 pub(crate) mod text;
 pub(crate) mod utf16;
 pub(crate) mod utf8;
 mod words;
 
-use crate::coder::Coder;
 use crate::decoder::words::DecoderWords;
 use crate::encoding_number::{encoding_of, mark_of};
-use crate::handle::CoderHandle;
-use crate::status::{CLOSED, IN_USE, NO_MEMORY, NOT_READY, OK, UNKNOWN};
-use crate::tables_handle::TablesHandle;
+use crate::status::{CLOSED, FINISHED, NOT_READY, OK, REFUSED, UNKNOWN};
+use crate::tables_handle::{TablesHandle, no_tables};
 use encoding_front::Decoder;
+use encoding_mem::room::OutputUnit;
+use encoding_tables::Tables;
+pub use handle::DecoderHandle;
 use std::alloc::Global;
 
-/// A decoder of a stream. Begin with `{0}`, which holds none; `jillapun_decoder_new` fills it, and
-/// `jillapun_decoder_free` empties it. Never copy it: only one of the copies may be used.
-/// Calls that take a `const` one may be made by any number of threads at once, and others by one
-/// thread at a time.
-#[repr(C)]
-#[derive(Drop)]
-pub struct DecoderHandle {
-    pub coder: CoderHandle,
-    words: DecoderWords,
-    ghost told: { words ≡ decoder_words (decoder_in coder.coder) },
-}
-
 impl DecoderHandle {
-    /// One that holds nothing.
-    pub(crate) fn none() -> DecoderHandle
-        ensures { result.coder.coder ≡ None }
+    // One that holds a decoder, which was made from these tables.
+    fn of(tables: TablesHandle, decoder: &Decoder<'_>) -> DecoderHandle
+        requires { IsMadeFrom (held_lists tables.tables) (decoder_view decoder.now) }
+        ensures holds { HoldsOne result (decoder_view decoder.now) }
+        ensures tables { result.tables.tables ≡ tables.tables }
     {
         DecoderHandle {
-            coder: CoderHandle::none(),
-            words: DecoderWords::none(),
+            tables,
+            words: DecoderWords::of(decoder.saved()),
         }
     }
 
-    // Takes what it holds, and leaves it closed.
-    fn take(&mut self, alloc: Global) -> Option<Box<Coder>>
-        ensures closed { self.new.coder.coder ≡ None }
-        ensures coder { MatchOption result (self.old.coder.coder ≡ None)
-            (λ b. self.old.coder.coder ≡ Some b.value) }
+    // The decoder that it holds, over its tables, or over these, which have no index, if it has
+    // none. Else the status: `CLOSED`, it holds no decoder; `FINISHED`, the stream has ended.
+    fn opened<'a>(&self, none: &'a Tables) -> Result<Decoder<'a>, u8>
+        requires { none.now ≡ no_lists }
+        ensures { MatchResult result (λ d. GoesOn self.now (decoder_view d))
+            (λ status. TellsWhyNot self.now status) }
     {
-        let coder = self.coder.take(alloc);
-        self.words = DecoderWords::none();
-        coder
+        let Some(saved) = self.words.saved() else {
+            return Err(CLOSED);
+        };
+        if saved.is_finished {
+            return Err(FINISHED);
+        }
+        Ok(Decoder::resumed(saved, self.tables.or(none)))
     }
 
-    // Puts a coder into it.
-    fn put(&mut self, coder: Box<Coder>)
-        ensures { self.new.coder.coder ≡ Some coder.value }
+    // Keeps a decoder, which was made from its tables, in place of what it held.
+    fn keep(&mut self, decoder: &Decoder<'_>)
+        requires { IsMadeFrom (held_lists self.old.tables.tables) (decoder_view decoder.now) }
+        ensures holds { HoldsOne self.new (decoder_view decoder.now) }
+        ensures tables { self.new.tables.tables ≡ self.old.tables.tables }
     {
-        let words = DecoderWords::of(&coder);
-        self.coder.put(coder);
-        self.words = words;
+        self.words = DecoderWords::of(decoder.saved());
+    }
+
+    // Tells the room that is enough for the text of `n` more bytes, or `REFUSED` if it passes a
+    // `usize`. Returns `OK`. Else it tells 0: `CLOSED`, it holds no decoder; `FINISHED`, the stream
+    // has ended.
+    fn room(&self, count: OutputUnit, n: usize, length: &mut usize) -> u8
+        ensures tells { AsksRoom count self.now n length.new result }
+        ensures nothing { result ≢ OK → length.new ≡ 0 }
+    {
+        *length = 0;
+        let Some(saved) = self.words.saved() else {
+            return CLOSED;
+        };
+        if saved.is_finished {
+            return FINISHED;
+        }
+        let rule = saved.room_rule();
+        *length = rule.max_buffer_length(count, n).unwrap_or(REFUSED);
+        OK
     }
 }
 
 /// Makes a decoder of a new stream, in the encoding with this number, and `mark` says what becomes
-/// of a byte order mark at its start.
+/// of a byte order mark at its start. `tables` may be `{0}` if the encoding needs no index. What
+/// `out` held is overwritten, whether or not its stream has ended.
 ///
-/// Returns `OK`, and `out` holds the decoder. Else nothing is made: `IN_USE`, `out` holds one
-/// already; `CLOSED`, there are no tables; `UNKNOWN`, no encoding or no handling of marks has the
-/// number; `NOT_READY`, the tables lack an index of the encoding; `NO_MEMORY`, memory was refused.
+/// Returns `OK`, and `out` holds the decoder. Else nothing is made, and `out` stays as it is:
+/// `UNKNOWN`, no encoding or no handling of marks has the number; `NOT_READY`, the tables lack an
+/// index of the encoding, or there are none and it needs one.
 #[unsafe(no_mangle)]
 pub extern "C" fn jillapun_decoder_new(
     alloc: Global,
@@ -80,39 +101,21 @@ pub extern "C" fn jillapun_decoder_new(
     mark: u8,
     out: &mut DecoderHandle,
 ) -> u8
-    ensures opens { Opens out.old.coder.coder tables.tables encoding
-        (MakesDecoder mark out.new.coder.coder result) result }
-    ensures unchanged { result ≢ OK → out.new.coder.coder ≡ out.old.coder.coder }
+    ensures makes { MakesDecoder tables.tables encoding mark out.new result }
+    ensures unchanged { result ≢ OK → out.new ≡ out.old }
 {
-    if let Some(held) = out.take(alloc) {
-        out.put(held);
-        return IN_USE;
-    }
-    let Some(tables) = tables.get() else {
-        return CLOSED;
-    };
     let Some(encoding) = encoding_of(encoding) else {
         return UNKNOWN;
     };
     let Some(mark) = mark_of(mark) else {
         return UNKNOWN;
     };
-    if !encoding.is_ready(tables) {
+    let none = no_tables(alloc);
+    let lists = tables.or(&none);
+    if !encoding.is_ready(lists) {
         return NOT_READY;
     }
-    match Box::new(alloc, Coder::Decoder(Decoder::new(encoding, mark, tables))) {
-        Ok(coder) => {
-            out.put(coder);
-            OK
-        }
-        Err(_) => NO_MEMORY,
-    }
-}
-
-/// Ends a decoder, and empties its handle. Nothing is done with one that holds none.
-#[unsafe(no_mangle)]
-pub extern "C" fn jillapun_decoder_free(alloc: Global, decoder: &mut DecoderHandle)
-    ensures { decoder.new.coder.coder ≡ None }
-{
-    drop(decoder.take(alloc));
+    let decoder = Decoder::new(encoding, mark, lists);
+    *out = DecoderHandle::of(tables, &decoder);
+    OK
 }

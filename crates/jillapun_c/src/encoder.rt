@@ -44,11 +44,3 @@ pub extern "C" fn jillapun_encoder_new(
     *out = EncoderHandle::of_new(tables, encoding);
     OK
 }
-
-/// Empties the handle of an encoder. This is not needed: there is nothing to free.
-#[unsafe(no_mangle)]
-pub extern "C" fn jillapun_encoder_free(encoder: &mut EncoderHandle)
-    ensures { encoder_in encoder.new ≡ None }
-{
-    *encoder = EncoderHandle::none();
-}

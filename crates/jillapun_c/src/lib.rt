@@ -6,7 +6,6 @@
 //! export tests it, and returns a status (`status`), the room that is wanted, or `SIZE_MAX`.
 #![tactic(auto)]
 
-mod coder;
 mod convert;
 mod converter;
 mod decoder;
@@ -14,7 +13,6 @@ mod encoder;
 mod encoder_progress;
 mod encoding;
 mod encoding_number;
-mod handle;
 mod in_memory;
 mod index_files;
 mod loose;

@@ -6,7 +6,7 @@ ghost use Rattle.std.specs.declared.option.Option.{Option};
 ghost use Rattle.std.specs.declared.option.Option.TheVariants.{None, Some};
 ghost use Rattle.encoding_tables.specs.IndexLists.{IndexLists};
 ghost use Rattle.encoding_tables.specs.contracts.tables.Tables.{the_row};
-ghost use Rattle.jillapun_c.specs.HeldTables.{lists_in, no_lists};
+ghost use Rattle.jillapun_c.specs.HeldTables.{held_lists, no_lists};
 ghost use Rattle.jillapun_c.specs.Ownership.{tables_handle_owns};
 
 use encoding_tables::Tables;
@@ -69,7 +69,7 @@ impl TablesHandle {
     /// The tables that it holds, and these, which have no index, if it holds none.
     pub(crate) fn or<'a>(&self, none: &'a Tables) -> &'a Tables
         requires { none.now ≡ no_lists }
-        ensures { result.now ≡ lists_in self.now.tables }
+        ensures { result.now ≡ held_lists self.now.tables }
     {
         match self.lent() {
             Some(tables) => tables,
@@ -88,8 +88,8 @@ impl TablesHandle {
         Some(unsafe { &*(at as *const Tables) })
     }
 
-    // Another one that holds the same.
-    fn copied(&self) -> TablesHandle
+    /// Another one that holds the same.
+    pub(crate) fn copied(&self) -> TablesHandle
         ensures { result ≡ self.now }
     {
         TablesHandle {

@@ -1,17 +1,18 @@
 //! What a decoder tells of itself.
 
-ghost use Rattle.std.specs.Prelude.{◌≡◌, ◌≢◌, [], Some, MatchOption};
+ghost use Rattle.std.specs.Prelude.{◌≡◌, ◌≢◌, [], None};
 ghost use Rattle.encoding_mem.specs.declared.codec.room.OutputUnit.TheVariants.{Units, Bytes};
 ghost use Rattle.encoding_mem.specs.declared.codec.room.OutputUnit.TheVariants.{Replaced};
 ghost use Rattle.encoding_front.specs.EncodingTable.{number_of};
-ghost use Rattle.encoding_front.specs.calls.DecoderViews.{decoder_view};
-ghost use Rattle.jillapun_c.specs.Coders.{decoder_in};
-ghost use Rattle.jillapun_c.specs.DecoderCalls.{AsksRoom, TellsLatin1Length};
+ghost use Rattle.encoding_front.specs.calls.Stream.{DecoderView};
+ghost use Rattle.jillapun_c.specs.DecoderCalls.{AnswersDecoder, AsksRoom, HoldsOne, TellsIfKnown};
+ghost use Rattle.jillapun_c.specs.HeldDecoders.{saved_in};
 ghost use Rattle.jillapun_c.specs.declared.status.TheConstants.{NO_ENCODING, OK};
 
-use crate::coder::Coder;
 use crate::decoder::DecoderHandle;
-use crate::status::{CLOSED, FINISHED, NO_ENCODING, OK, REFUSED};
+use crate::encoding_number::number_of;
+use crate::status::{NO_ENCODING, OK, REFUSED};
+use crate::tables_handle::no_tables;
 use encoding_mem::room::OutputUnit;
 use std::alloc::Global;
 
@@ -19,13 +20,14 @@ use std::alloc::Global;
 /// order mark once all of it was read. `NO_ENCODING` if the handle holds no decoder.
 #[unsafe(no_mangle)]
 pub extern "C" fn jillapun_decoder_encoding(decoder: &DecoderHandle) -> u8
-    ensures { MatchOption (decoder_in decoder.now.coder.coder) (result ≡ NO_ENCODING)
-        (λ d. result ≡ number_of ((decoder_view d).source [])) }
+    ensures closed { saved_in decoder.now.words ≡ None → result ≡ NO_ENCODING }
+    ensures encoding { (v : DecoderView) → HoldsOne decoder.now v
+        → result ≡ number_of (v.source []) }
 {
-    if !decoder.words.is_there {
-        return NO_ENCODING;
+    match decoder.words.saved() {
+        Some(saved) => number_of(saved.encoding_in_force()),
+        None => NO_ENCODING,
     }
-    decoder.words.encoding
 }
 
 /// Tells in `length` how many bytes of UTF-8 are room enough for the text of `n` more bytes, with
@@ -40,10 +42,10 @@ pub extern "C" fn jillapun_decoder_max_utf8_length(
     n: usize,
     length: &mut usize,
 ) -> u8
-    ensures tells { AsksRoom Replaced (decoder_in decoder.now.coder.coder) n length.new result }
+    ensures tells { AsksRoom Replaced decoder.now n length.new result }
     ensures nothing { result ≢ OK → length.new ≡ 0 }
 {
-    decoder.words.room(OutputUnit::Replaced, n, length)
+    decoder.room(OutputUnit::Replaced, n, length)
 }
 
 /// Tells in `length` how many bytes of UTF-8 are room enough for the text of `n` more bytes up to
@@ -56,10 +58,10 @@ pub extern "C" fn jillapun_decoder_max_utf8_length_without_replacement(
     n: usize,
     length: &mut usize,
 ) -> u8
-    ensures tells { AsksRoom Bytes (decoder_in decoder.now.coder.coder) n length.new result }
+    ensures tells { AsksRoom Bytes decoder.now n length.new result }
     ensures nothing { result ≢ OK → length.new ≡ 0 }
 {
-    decoder.words.room(OutputUnit::Bytes, n, length)
+    decoder.room(OutputUnit::Bytes, n, length)
 }
 
 /// Tells in `length` how many units of UTF-16 are room enough for the text of `n` more bytes, with
@@ -71,10 +73,10 @@ pub extern "C" fn jillapun_decoder_max_utf16_length(
     n: usize,
     length: &mut usize,
 ) -> u8
-    ensures tells { AsksRoom Units (decoder_in decoder.now.coder.coder) n length.new result }
+    ensures tells { AsksRoom Units decoder.now n length.new result }
     ensures nothing { result ≢ OK → length.new ≡ 0 }
 {
-    decoder.words.room(OutputUnit::Units, n, length)
+    decoder.room(OutputUnit::Units, n, length)
 }
 
 /// Tells in `length` how many of `bytes`, if they come next, stand for the characters of their own
@@ -89,36 +91,21 @@ pub extern "C" fn jillapun_decoder_max_utf16_length(
 #[unsafe(no_mangle)]
 pub extern "C" fn jillapun_decoder_latin1_byte_compatible_up_to(
     alloc: Global,
-    decoder: &mut DecoderHandle,
+    decoder: &DecoderHandle,
     bytes: &[u8],
     length: &mut usize,
 ) -> u8
-    ensures tells { TellsLatin1Length (decoder_in decoder.old.coder.coder) bytes.now length.new
-        result }
+    ensures tells { AnswersDecoder decoder.now result
+        (λ v. TellsIfKnown v bytes.now length.new) }
     ensures nothing { result ≢ OK → length.new ≡ 0 }
-    ensures unchanged { decoder.new.coder.coder ≡ decoder.old.coder.coder }
 {
     *length = 0;
-    let Some(coder) = decoder.take(alloc) else {
-        return CLOSED;
+    let none = no_tables(alloc);
+    let opened = match decoder.opened(&none) {
+        Ok(opened) => opened,
+        Err(status) => return status,
     };
-    let status = latin1_length(&coder, bytes, length);
-    decoder.put(coder);
-    status
-}
-
-// Tells how many bytes, if they come next, are their own characters in Latin1.
-fn latin1_length(coder: &Coder, bytes: &[u8], length: &mut usize) -> u8
-    ensures tells { TellsLatin1Length (decoder_in (Some coder.now)) bytes.now length.new result }
-    ensures untold { result ≢ OK → length.new ≡ length.old }
-{
-    let Coder::Decoder(decoder) = coder else {
-        return CLOSED;
-    };
-    if decoder.is_finished() {
-        return FINISHED;
-    }
-    *length = decoder
+    *length = opened
         .latin1_byte_compatible_up_to(bytes)
         .unwrap_or(REFUSED);
     OK

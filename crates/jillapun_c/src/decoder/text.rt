@@ -32,13 +32,13 @@ pub extern "C" fn jillapun_decoder_decode_to_str(
     last: bool,
     progress: &mut Progress,
 ) -> u8
-    ensures decodes { AnswersDecoder decoder.old.coder.coder result
-        (λ d. Decodes Replaced d decoder.new.coder.coder src.now last
+    ensures decodes { AnswersDecoder decoder.old result
+        (λ v. Decodes Replaced v decoder.new src.now last
         (λ text. TextIsPut dst.old (encode_utf8_all text) dst.new progress.new.written)
         (length dst.old) (free_bytes (length (drop progress.new.written dst.new))) progress.new) }
-    ensures unchanged { result ≢ OK
-        → (dst.new ≡ dst.old) × (decoder.new.coder.coder ≡ decoder.old.coder.coder) }
+    ensures unchanged { result ≢ OK → (dst.new ≡ dst.old) × (decoder.new ≡ decoder.old) }
     ensures nothing { result ≢ OK → progress.new ≡ NONE }
+    ensures tables { decoder.new.tables.tables ≡ decoder.old.tables.tables }
 {
     let status = jillapun_decoder_decode_to_utf8(alloc, decoder, src, dst, last, progress);
     if status != OK {
@@ -61,13 +61,13 @@ pub extern "C" fn jillapun_decoder_decode_to_str_without_replacement(
     last: bool,
     progress: &mut Progress,
 ) -> u8
-    ensures decodes { AnswersDecoder decoder.old.coder.coder result
-        (λ d. DecodesUpToFault Bytes d decoder.new.coder.coder src.now last
+    ensures decodes { AnswersDecoder decoder.old result
+        (λ v. DecodesUpToFault Bytes v decoder.new src.now last
         (λ text. TextIsPut dst.old (encode_utf8_all text) dst.new progress.new.written)
         (length dst.old) (free_bytes (length (drop progress.new.written dst.new))) progress.new) }
-    ensures unchanged { result ≢ OK
-        → (dst.new ≡ dst.old) × (decoder.new.coder.coder ≡ decoder.old.coder.coder) }
+    ensures unchanged { result ≢ OK → (dst.new ≡ dst.old) × (decoder.new ≡ decoder.old) }
     ensures nothing { result ≢ OK → progress.new ≡ NONE }
+    ensures tables { decoder.new.tables.tables ≡ decoder.old.tables.tables }
 {
     let status = jillapun_decoder_decode_to_utf8_without_replacement(
         alloc, decoder, src, dst, last, progress,

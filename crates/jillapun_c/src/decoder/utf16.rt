@@ -1,6 +1,6 @@
 //! The exports that decode to UTF-16.
 
-ghost use Rattle.std.specs.Prelude.{◌≡◌, ◌≢◌, Some, drop, length};
+ghost use Rattle.std.specs.Prelude.{◌≡◌, ◌≢◌, drop, length};
 ghost use Rattle.encoding_mem.specs.calls.Writing.{Adds, encode_utf16_all};
 ghost use Rattle.encoding_mem.specs.declared.codec.room.OutputUnit.TheVariants.{Units};
 ghost use Rattle.encoding_front.specs.calls.DecoderCall.{free_units};
@@ -8,10 +8,10 @@ ghost use Rattle.jillapun_c.specs.DecoderCalls.{AnswersDecoder, Decodes, Decodes
 ghost use Rattle.jillapun_c.specs.declared.progress.TheConstants.Progress.{NONE};
 ghost use Rattle.jillapun_c.specs.declared.status.TheConstants.{OK};
 
-use crate::coder::Coder;
 use crate::decoder::DecoderHandle;
 use crate::progress::{Progress, outcome_of, part_outcome_of};
-use crate::status::{CLOSED, FINISHED, OK};
+use crate::status::OK;
+use crate::tables_handle::no_tables;
 use std::alloc::Global;
 
 /// Decodes the next bytes of a stream to UTF-16, with U+FFFD for each malformed sequence. `last`
@@ -34,45 +34,22 @@ pub extern "C" fn jillapun_decoder_decode_to_utf16(
     last: bool,
     progress: &mut Progress,
 ) -> u8
-    ensures decodes { AnswersDecoder decoder.old.coder.coder result
-        (λ d. Decodes Units d decoder.new.coder.coder src.now last
+    ensures decodes { AnswersDecoder decoder.old result
+        (λ v. Decodes Units v decoder.new src.now last
         (λ text. Adds dst.old 0 (encode_utf16_all text) dst.new progress.new.written)
         (length dst.old) (free_units (length (drop progress.new.written dst.new))) progress.new) }
-    ensures unchanged { result ≢ OK
-        → (dst.new ≡ dst.old) × (decoder.new.coder.coder ≡ decoder.old.coder.coder) }
+    ensures unchanged { result ≢ OK → (dst.new ≡ dst.old) × (decoder.new ≡ decoder.old) }
     ensures nothing { result ≢ OK → progress.new ≡ NONE }
+    ensures tables { decoder.new.tables.tables ≡ decoder.old.tables.tables }
 {
     *progress = Progress::NONE;
-    let Some(mut coder) = decoder.take(alloc) else {
-        return CLOSED;
+    let none = no_tables(alloc);
+    let mut opened = match decoder.opened(&none) {
+        Ok(opened) => opened,
+        Err(status) => return status,
     };
-    let status = to_utf16(&mut coder, src, dst, last, progress);
-    decoder.put(coder);
-    status
-}
-
-// Decodes to UTF-16, with U+FFFD for each malformed sequence.
-fn to_utf16(
-    coder: &mut Coder,
-    src: &[u8],
-    dst: &mut [u16],
-    last: bool,
-    progress: &mut Progress,
-) -> u8
-    ensures decodes { AnswersDecoder (Some coder.old) result
-        (λ d. Decodes Units d (Some coder.new) src.now last
-        (λ text. Adds dst.old 0 (encode_utf16_all text) dst.new progress.new.written)
-        (length dst.old) (free_units (length (drop progress.new.written dst.new))) progress.new) }
-    ensures unchanged { result ≢ OK → (dst.new ≡ dst.old) × (coder.new ≡ coder.old) }
-    ensures untold { result ≢ OK → progress.new ≡ progress.old }
-{
-    let Coder::Decoder(decoder) = coder else {
-        return CLOSED;
-    };
-    if decoder.is_finished() {
-        return FINISHED;
-    }
-    let (outcome, read, written, had_errors) = decoder.decode_to_utf16(src, dst, last);
+    let (outcome, read, written, had_errors) = opened.decode_to_utf16(src, dst, last);
+    decoder.keep(&opened);
     *progress = Progress {
         read,
         written,
@@ -107,45 +84,22 @@ pub extern "C" fn jillapun_decoder_decode_to_utf16_without_replacement(
     last: bool,
     progress: &mut Progress,
 ) -> u8
-    ensures decodes { AnswersDecoder decoder.old.coder.coder result
-        (λ d. DecodesUpToFault Units d decoder.new.coder.coder src.now last
+    ensures decodes { AnswersDecoder decoder.old result
+        (λ v. DecodesUpToFault Units v decoder.new src.now last
         (λ text. Adds dst.old 0 (encode_utf16_all text) dst.new progress.new.written)
         (length dst.old) (free_units (length (drop progress.new.written dst.new))) progress.new) }
-    ensures unchanged { result ≢ OK
-        → (dst.new ≡ dst.old) × (decoder.new.coder.coder ≡ decoder.old.coder.coder) }
+    ensures unchanged { result ≢ OK → (dst.new ≡ dst.old) × (decoder.new ≡ decoder.old) }
     ensures nothing { result ≢ OK → progress.new ≡ NONE }
+    ensures tables { decoder.new.tables.tables ≡ decoder.old.tables.tables }
 {
     *progress = Progress::NONE;
-    let Some(mut coder) = decoder.take(alloc) else {
-        return CLOSED;
+    let none = no_tables(alloc);
+    let mut opened = match decoder.opened(&none) {
+        Ok(opened) => opened,
+        Err(status) => return status,
     };
-    let status = to_utf16_part(&mut coder, src, dst, last, progress);
-    decoder.put(coder);
-    status
-}
-
-// Decodes to UTF-16, up to the first malformed sequence.
-fn to_utf16_part(
-    coder: &mut Coder,
-    src: &[u8],
-    dst: &mut [u16],
-    last: bool,
-    progress: &mut Progress,
-) -> u8
-    ensures decodes { AnswersDecoder (Some coder.old) result
-        (λ d. DecodesUpToFault Units d (Some coder.new) src.now last
-        (λ text. Adds dst.old 0 (encode_utf16_all text) dst.new progress.new.written)
-        (length dst.old) (free_units (length (drop progress.new.written dst.new))) progress.new) }
-    ensures unchanged { result ≢ OK → (dst.new ≡ dst.old) × (coder.new ≡ coder.old) }
-    ensures untold { result ≢ OK → progress.new ≡ progress.old }
-{
-    let Coder::Decoder(decoder) = coder else {
-        return CLOSED;
-    };
-    if decoder.is_finished() {
-        return FINISHED;
-    }
-    let (outcome, read, written) = decoder.decode_to_utf16_without_replacement(src, dst, last);
+    let (outcome, read, written) = opened.decode_to_utf16_without_replacement(src, dst, last);
+    decoder.keep(&opened);
     let (outcome, malformed_length, malformed_after) = part_outcome_of(outcome);
     *progress = Progress {
         read,

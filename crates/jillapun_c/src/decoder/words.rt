@@ -1,101 +1,134 @@
-//! What a handle tells of its decoder, for queries that write nothing.
+//! A decoder in plain words, as its handle keeps it.
 
-ghost use Rattle.std.specs.Prelude.{◌≡◌, ◌≢◌, None, Some};
-ghost use Rattle.encoding_mem.specs.declared.codec.room.OutputUnit.{OutputUnit};
-ghost use Rattle.encoding_front.specs.declared.decoder.Decoder.{Decoder};
-ghost use Rattle.std.specs.declared.option.Option.{Option};
-ghost use Rattle.jillapun_c.specs.Coders.{decoder_in};
-ghost use Rattle.jillapun_c.specs.DecoderCalls.{AsksRoom};
-ghost use Rattle.jillapun_c.specs.HandleWords.{decoder_words};
-ghost use Rattle.jillapun_c.specs.declared.status.TheConstants.{OK};
+ghost use Rattle.std.specs.Prelude.{◌≡◌, None, Some};
+ghost use Rattle.jillapun_c.specs.HeldDecoders.{number_of_taken, saved_in, taken_at};
 
-use crate::coder::Coder;
 use crate::encoding_number::{encoding_of, number_of};
-use crate::status::{CLOSED, FINISHED, OK, REFUSED};
-use encoding_front::{Decoder, RoomRule};
-use encoding_mem::room::OutputUnit;
+use encoding_front::SavedDecoder;
+use encoding_front::seeking::{BomSet, ByteOrderMark};
+use encoding_mem::saved_pieces::{SavedBytes, SavedPieces};
 
-/// What a decoder's handle tells of the decoder, for calls of this library alone.
+/// What a decoder keeps between calls, for calls of this library alone.
 #[repr(C)]
 #[derive(Clone, Copy)]
 pub struct DecoderWords {
-    pub(crate) is_there: bool,
-    pub(crate) is_finished: bool,
-    pub(crate) encoding: u8,
-    pub(crate) may_be_utf8: bool,
-    pub(crate) may_be_utf16: bool,
-    pub(crate) ahead: usize,
-    pub(crate) pending: usize,
+    is_there: bool,
+    is_finished: bool,
+    encoding: u8,
+    taken: u8,
+    seeks_utf8: bool,
+    seeks_utf16_be: bool,
+    seeks_utf16_le: bool,
+    mode: u8,
+    held_len: u8,
+    held: [u8; 6],
+    pending_len: u8,
+    pending: [u8; 6],
 }
 
 impl DecoderWords {
     /// There is no decoder.
     pub(crate) fn none() -> DecoderWords
-        ensures { result ≡ decoder_words None }
+        ensures { saved_in result ≡ None }
     {
         DecoderWords {
             is_there: false,
             is_finished: false,
             encoding: 0,
-            may_be_utf8: false,
-            may_be_utf16: false,
-            ahead: 0,
-            pending: 0,
+            taken: 0,
+            seeks_utf8: false,
+            seeks_utf16_be: false,
+            seeks_utf16_le: false,
+            mode: 0,
+            held_len: 0,
+            held: [0; 6],
+            pending_len: 0,
+            pending: [0; 6],
         }
     }
 
-    // Of a decoder.
-    fn of_decoder(decoder: &Decoder<'_>) -> DecoderWords
-        ensures { result ≡ decoder_words (Some decoder.now) }
+    /// Those of a decoder, by what was saved of it.
+    pub(crate) fn of(saved: SavedDecoder) -> DecoderWords
+        ensures { saved_in result ≡ Some saved }
     {
-        let rule = decoder.room_rule();
+        let held = saved.held.bytes;
+        let pending = saved.pieces.pending.bytes;
         DecoderWords {
             is_there: true,
-            is_finished: decoder.is_finished(),
-            encoding: number_of(rule.encoding),
-            may_be_utf8: rule.may_be_utf8,
-            may_be_utf16: rule.may_be_utf16,
-            ahead: rule.ahead,
-            pending: rule.pending,
+            is_finished: saved.is_finished,
+            encoding: number_of(saved.encoding),
+            taken: number_of_taken(saved.taken),
+            seeks_utf8: saved.sought.utf8,
+            seeks_utf16_be: saved.sought.utf16_be,
+            seeks_utf16_le: saved.sought.utf16_le,
+            mode: saved.pieces.mode,
+            held_len: saved.held.len,
+            held,
+            pending_len: saved.pieces.pending.len,
+            pending,
         }
     }
 
-    /// Of what a handle holds.
-    pub(crate) fn of(coder: &Coder) -> DecoderWords
-        ensures { result ≡ decoder_words (decoder_in (Some coder.now)) }
+    /// What was saved of the decoder: `None` if there is none, or if a number stands for nothing.
+    pub(crate) fn saved(self) -> Option<SavedDecoder>
+        ensures { result ≡ saved_in self }
     {
-        match coder {
-            Coder::Decoder(decoder) => DecoderWords::of_decoder(decoder),
-            Coder::Encoder(_) | Coder::Converter(_) => DecoderWords::none(),
-        }
-    }
-
-    /// Tells the room that is enough for the text of `n` more bytes, or `REFUSED` if it passes a
-    /// `usize`. Returns `OK`. Else it tells 0: `CLOSED`, there is no decoder; `FINISHED`, its
-    /// stream has ended.
-    pub(crate) fn room(self, count: OutputUnit, n: usize, length: &mut usize) -> u8
-        ensures tells { (held : Option Decoder) → self ≡ decoder_words held
-            → AsksRoom count held n length.new result }
-        ensures nothing { result ≢ OK → length.new ≡ 0 }
-    {
-        *length = 0;
         if !self.is_there {
-            return CLOSED;
-        }
-        if self.is_finished {
-            return FINISHED;
+            return None;
         }
         let Some(encoding) = encoding_of(self.encoding) else {
-            return CLOSED;
+            return None;
         };
-        let rule = RoomRule {
+        let Some(taken) = taken_of(self.taken) else {
+            return None;
+        };
+        let held = self.held;
+        let pending = self.pending;
+        Some(SavedDecoder {
             encoding,
-            may_be_utf8: self.may_be_utf8,
-            may_be_utf16: self.may_be_utf16,
-            ahead: self.ahead,
-            pending: self.pending,
-        };
-        *length = rule.max_buffer_length(count, n).unwrap_or(REFUSED);
-        OK
+            sought: BomSet {
+                utf8: self.seeks_utf8,
+                utf16_be: self.seeks_utf16_be,
+                utf16_le: self.seeks_utf16_le,
+            },
+            held: SavedBytes {
+                len: self.held_len,
+                bytes: held,
+            },
+            taken,
+            is_finished: self.is_finished,
+            pieces: SavedPieces {
+                mode: self.mode,
+                pending: SavedBytes {
+                    len: self.pending_len,
+                    bytes: pending,
+                },
+            },
+        })
+    }
+}
+
+// The number of the byte order mark that was taken, or 0 if none was.
+fn number_of_taken(taken: Option<ByteOrderMark>) -> u8
+    ensures { result ≡ number_of_taken taken }
+{
+    match taken {
+        None => 0,
+        Some(ByteOrderMark::Utf8) => 1,
+        Some(ByteOrderMark::Utf16Be) => 2,
+        Some(ByteOrderMark::Utf16Le) => 3,
+    }
+}
+
+// The byte order mark with a number, or none if that is 0; `None` if the number stands for nothing.
+fn taken_of(number: u8) -> Option<Option<ByteOrderMark>>
+    ensures { result ≡ taken_at number }
+{
+    match number {
+        0 => Some(None),
+        1 => Some(Some(ByteOrderMark::Utf8)),
+        2 => Some(Some(ByteOrderMark::Utf16Be)),
+        3 => Some(Some(ByteOrderMark::Utf16Le)),
+        _ => None,
     }
 }

@@ -27,7 +27,7 @@ impl EncoderHandle {
     ghost use Rattle.encoding_front.specs.calls.Encoder.{new_state};
     ghost use Rattle.jillapun_c.specs.Coders.{encoder_in};
     ghost use Rattle.jillapun_c.specs.EncoderWords.{GoesOnAs};
-    ghost use Rattle.jillapun_c.specs.HeldTables.{lists_in, no_lists};
+    ghost use Rattle.jillapun_c.specs.HeldTables.{held_lists, no_lists};
 
     /// One that holds nothing.
     pub(crate) fn none() -> EncoderHandle
@@ -41,8 +41,8 @@ impl EncoderHandle {
 
     /// One that holds an encoder of a new stream, into the output encoding.
     pub(crate) fn of_new(tables: TablesHandle, encoding: Encoding) -> EncoderHandle
-        requires { IsReady (lists_in tables.tables) (output_encoding_of encoding) }
-        ensures { encoder_in result ≡ Some (new_state (lists_in tables.tables) encoding) }
+        requires { IsReady (held_lists tables.tables) (output_encoding_of encoding) }
+        ensures { encoder_in result ≡ Some (new_state (held_lists tables.tables) encoding) }
     {
         let words = EncoderWords::of(SavedEncoder {
             encoding: encoding.output_encoding(),

@@ -5,13 +5,13 @@ use crate::decoder::queries::{
     jillapun_decoder_max_utf8_length, jillapun_decoder_max_utf16_length,
 };
 use crate::decoder::utf8::jillapun_decoder_decode_to_utf8;
-use crate::decoder::{DecoderHandle, jillapun_decoder_free, jillapun_decoder_new};
+use crate::decoder::{DecoderHandle, jillapun_decoder_new};
 use crate::encoder::handle::EncoderHandle;
+use crate::encoder::jillapun_encoder_new;
 use crate::encoder::queries::{
     jillapun_encoder_encoding, jillapun_encoder_has_pending_state,
     jillapun_encoder_max_length_from_utf16_without_replacement,
 };
-use crate::encoder::{jillapun_encoder_free, jillapun_encoder_new};
 use crate::index_files::IndexFile;
 use crate::progress::Progress;
 use crate::status::{CLOSED, FINISHED, KEEP, NO_ENCODING, OK, REFUSED, SNIFF};
@@ -40,7 +40,7 @@ fn decoder(alloc: Global, encoding: u8, mark: u8) -> DecoderHandle {
 }
 
 // What a decoder tells.
-fn latin1_length(alloc: Global, handle: &mut DecoderHandle) -> (u8, usize) {
+fn latin1_length(alloc: Global, handle: &DecoderHandle) -> (u8, usize) {
     let mut length = 9;
     let status = jillapun_decoder_latin1_byte_compatible_up_to(
         alloc,
@@ -86,8 +86,8 @@ fn latin1_is_found(rt: HostRuntime) {
     let mut handle = decoder(alloc, WINDOWS_1252, KEEP);
     assert_eq!(rt; length_after(alloc, &mut handle, b"a", false), (OK, 3));
     assert_eq!(rt; length_after(alloc, &mut handle, b"a", true), (FINISHED, 0));
-    jillapun_decoder_free(alloc, &mut handle);
-    assert_eq!(rt; latin1_length(alloc, &mut handle), (CLOSED, 0));
+    handle = DecoderHandle::none();
+    assert_eq!(rt; latin1_length(alloc, &handle), (CLOSED, 0));
     let mut handle = decoder(alloc, UTF_8, KEEP);
     assert_eq!(rt; length_after(alloc, &mut handle, b"a", false), (OK, 1));
     assert_eq!(rt;
@@ -95,7 +95,7 @@ fn latin1_is_found(rt: HostRuntime) {
         (OK, REFUSED)
     );
     let mut handle = decoder(alloc, UTF_8, SNIFF);
-    assert_eq!(rt; latin1_length(alloc, &mut handle), (OK, REFUSED));
+    assert_eq!(rt; latin1_length(alloc, &handle), (OK, REFUSED));
 }
 
 #[test]
@@ -112,7 +112,7 @@ fn decoders_are_asked(rt: HostRuntime) {
     length_after(alloc, &mut handle, b"a", true);
     assert_eq!(rt; units_for(&handle, 5), (FINISHED, 0));
     assert_eq!(rt; jillapun_decoder_encoding(&handle), WINDOWS_1252);
-    jillapun_decoder_free(alloc, &mut handle);
+    handle = DecoderHandle::none();
     assert_eq!(rt; jillapun_decoder_encoding(&handle), NO_ENCODING);
     assert_eq!(rt; bytes_for(&handle, 0), (CLOSED, 0));
 }
@@ -130,7 +130,7 @@ fn encoders_are_asked(rt: HostRuntime) {
     assert_eq!(rt; jillapun_encoder_encoding(&handle), UTF_8);
     assert_eq!(rt; encoded_length(&handle, 5), (OK, 15));
     assert_eq!(rt; encoded_length(&handle, usize::MAX), (OK, REFUSED));
-    jillapun_encoder_free(&mut handle);
+    handle = EncoderHandle::none();
     assert_eq!(rt; jillapun_encoder_encoding(&handle), NO_ENCODING);
     assert_eq!(rt; encoded_length(&handle, 0), (CLOSED, 0));
 }

@@ -3,7 +3,7 @@
 use crate::decoder::text::{
     jillapun_decoder_decode_to_str, jillapun_decoder_decode_to_str_without_replacement,
 };
-use crate::decoder::{DecoderHandle, jillapun_decoder_free, jillapun_decoder_new};
+use crate::decoder::{DecoderHandle, jillapun_decoder_new};
 use crate::progress::Progress;
 use crate::status::{CLOSED, FINISHED, INPUT_EMPTY, KEEP, MALFORMED, OK};
 use crate::tests::euro;
@@ -34,7 +34,7 @@ fn text_stays_text(rt: HostRuntime) {
     let dst = &mut text;
     let status = jillapun_decoder_decode_to_str(alloc, &mut handle, src, dst, true, &mut progress);
     assert_eq!(rt; (status, progress.written), (FINISHED, 0));
-    jillapun_decoder_free(alloc, &mut handle);
+    handle = DecoderHandle::none();
     let dst = &mut text;
     let status = jillapun_decoder_decode_to_str(alloc, &mut handle, src, dst, true, &mut progress);
     assert_eq!(rt; status, CLOSED);

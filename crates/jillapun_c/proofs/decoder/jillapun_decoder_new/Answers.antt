@@ -1,13 +1,21 @@
-use Rattle.std.proofs.Common.{refl, ap, sym, ◌∙◌, Some}
-use Rattle.jillapun_c.specs.Coders.{decoder_in}
-use Rattle.jillapun_c.specs.DecoderCalls.{MakesDecoder}
-use Rattle.jillapun_c.proofs.CoderLemmas.{opened, made_decoder}
+use Rattle.std.proofs.Common.{sym, refl, subst}
+use Rattle.encoding_tables.specs.IndexLists.{IndexLists}
+use Rattle.encoding_front.specs.Encodings.{IsReady}
+use Rattle.encoding_front.specs.calls.DecoderViews.{decoder_view}
+use Rattle.encoding_front.specs.calls.Stream.{IsMadeFrom, IsNewDecoder}
+use Rattle.jillapun_c.proofs.HeldDecoderLemmas.{made_new}
 use Rattle.jillapun_c.proofs.decoder.jillapun_decoder_new.Goals as goal
 
-pub returns-in-Ok-clause-opens : goal.returns-in-Ok-clause-opens
-returns-in-Ok-clause-opens c = let new = c.put-in-Ok.new.self.coder.coder in
-    opened c.args.out.now.coder.coder c.args.tables.tables c.args.encoding c.in-Some-get.tables.now c.in-Some-encoding_of.encoding (MakesDecoder c.args.mark new 0) 0
-    c.in_default.ensures.coder c.in-Some-get.ensures (sym c.in-Some-encoding_of.ensures)
-    (made_decoder c.args.mark new c.in-Some-get.tables.now c.in-Some-encoding_of.encoding c.in-Some-mark_of.mark (sym c.in-Some-mark_of.ensures)
-    (c.is_ready.ensures.ready.0 (rw c.if-not-is_ready.false refl))
-    (record { decoder = c.new.result; held_is = ap decoder_in (c.put-in-Ok.ensures ∙ ap Some c.in-Ok.ensures.ok); is_new = c.new.ensures.begins }))
+pub of-requires : goal.of-requires
+of-requires c = subst (λ (l : IndexLists). IsMadeFrom l (decoder_view c.new-decoder.result)) c.or-lists.ensures c.new-decoder.ensures.begins.made
+
+pub returns-clause-makes : goal.returns-clause-makes
+returns-clause-makes c =
+    let t = c.or-lists.result.now in
+    let e = c.in-Some.encoding in
+    let m = c.in-Some-mark_of.mark in
+    let v = decoder_view c.new-decoder.result in
+    let ready : IsReady t e = c.is_ready.ensures.ready.0 (rw c.if-not-is_ready.false refl) in
+    made_new c.args.tables.tables c.args.encoding c.args.mark c.of.result e m v (sym c.in-Some.ensures) (sym c.in-Some-mark_of.ensures)
+    (subst (λ (l : IndexLists). IsReady l e) c.or-lists.ensures ready) c.of.ensures.holds c.of.ensures.tables
+    (subst (λ (l : IndexLists). IsNewDecoder v l m e) c.or-lists.ensures c.new-decoder.ensures.begins)

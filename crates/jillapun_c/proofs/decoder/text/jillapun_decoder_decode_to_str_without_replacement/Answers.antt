@@ -1,5 +1,6 @@
 use Rattle.std.proofs.Common.{◌-◌, ap, sym, ◌∙◌, arith, length-drop}
-use Rattle.jillapun_c.proofs.TextDecodeLemmas.{decodes_part_over, done_of, not_done}
+use Rattle.std.proofs.Props.{props}
+use Rattle.jillapun_c.proofs.TextDecodeLemmas.{decodes_part_over, if_done, not_done}
 use Rattle.jillapun_c.proofs.decoder.text.jillapun_decoder_decode_to_str_without_replacement.Goals as goal
 
 pub returns-then-status-ne-OK-clause-decodes : goal.returns-then-status-ne-OK-clause-decodes
@@ -7,8 +8,8 @@ returns-then-status-ne-OK-clause-decodes c = not_done _ _ _ _ c.jillapun_decoder
 
 pub clear_rest-requires : goal.clear_rest-requires
 clear_rest-requires c =
-    let did = done_of _ _ _ c.jillapun_decoder_decode_to_utf8_without_replacement-status.ensures.decodes c.if-status-ne-OK.false in
-    omega (arith, did.1.call.law.writes.within, c.jillapun_decoder_decode_to_utf8_without_replacement-status.auto.dst)
+    if_done _ _ _ _ (hlevel props) c.jillapun_decoder_decode_to_utf8_without_replacement-status.ensures.decodes c.if-status-ne-OK.false
+    (λ v did. omega (arith, did.call.law.writes.within, c.jillapun_decoder_decode_to_utf8_without_replacement-status.auto.dst))
 
 pub returns-clause-decodes : goal.returns-clause-decodes
 returns-clause-decodes c =

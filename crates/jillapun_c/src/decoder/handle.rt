@@ -1,0 +1,44 @@
+//! The handle of a decoder, as C holds it.
+
+ghost use Rattle.std.specs.Prelude.{◌≡◌, None};
+ghost use Rattle.jillapun_c.specs.HeldDecoders.{IsSound, saved_in};
+
+use crate::decoder::words::DecoderWords;
+use crate::tables_handle::TablesHandle;
+
+/// A decoder of a stream. Begin with `{0}`, which holds none; `jillapun_decoder_new` fills it. All
+/// that it keeps stands in it: it may be moved, a copy is a decoder of its own that goes on from
+/// here, and nothing has to be freed. What a call of this library did not write into it, or into
+/// what it was copied from, is no decoder.
+/// Calls that take a `const` one may be made by any number of threads at once, and others by one
+/// thread at a time.
+#[repr(C)]
+#[derive(Drop)]
+pub struct DecoderHandle {
+    pub tables: TablesHandle,
+    pub(crate) words: DecoderWords,
+    ghost sound: { IsSound tables.tables words },
+}
+
+impl DecoderHandle {
+    /// One that holds nothing.
+    pub(crate) fn none() -> DecoderHandle
+        ensures closed { saved_in result.words ≡ None }
+        ensures tables { result.tables.tables ≡ None }
+    {
+        DecoderHandle {
+            tables: TablesHandle::none(),
+            words: DecoderWords::none(),
+        }
+    }
+
+    /// Another one that holds the same.
+    pub(crate) fn copied(&self) -> DecoderHandle
+        ensures { result ≡ self.now }
+    {
+        DecoderHandle {
+            tables: self.tables.copied(),
+            words: self.words,
+        }
+    }
+}
