@@ -24,14 +24,11 @@ use Rattle.jillapun_c.specs.EncodingNumbers.{encoding_at}
 use Rattle.jillapun_c.specs.HeldTables.{held_lists}
 use Rattle.jillapun_c.specs.declared.encoder.words.EncoderWords.{EncoderWords}
 use Rattle.jillapun_c.specs.declared.status.TheConstants.{CLOSED, NOT_READY, OK}
-use Rattle.jillapun_c.proofs.HandleWordLemmas.{found_at}
+use Rattle.jillapun_c.proofs.EncodingNumberLemmas.{found_at, same_some}
 
 AreThere-prop : (t : IndexLists) (kinds : List IndexKind) → IsProp (AreThere t kinds)
 AreThere-prop t [] = Unit-prop
 AreThere-prop t (kind ∷ kinds) = ×_prop (Bool-set _ _) (AreThere-prop t kinds)
-
-same_some : {X : Type 0} (x y : X) → Some x ≡ Some y → x ≡ y
-same_some x y same = ap (λ o. elim o [ None ↦ x | Some z ↦ z ]) same
 
 -- calls that come from ASCII to a set, and from that to another, come from ASCII to the other
 moves_on : (e : Coding) (s s' : EscapeState) → Moves e Ascii s → Moves e s s' → Moves e Ascii s'

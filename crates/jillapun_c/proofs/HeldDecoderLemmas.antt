@@ -34,6 +34,7 @@ use Rattle.encoding_front.specs.declared.seeking.ByteOrderMark.{ByteOrderMark}
 use Rattle.encoding_front.specs.declared.seeking.ByteOrderMark.TheVariants.{Utf8, Utf16Be, Utf16Le}
 use Rattle.encoding_front.specs.laws.SavedDecoders.{call_alike, text_alike}
 use Rattle.encoding_front.specs.laws.Stream.{held_taken}
+use Rattle.jillapun_c.proofs.EncodingNumberLemmas.{same_some}
 use Rattle.jillapun_c.specs.DecoderCalls.{AnswersDecoder, AsksRoom, Decodes, DecodesUpToFault, GoesOn, HoldsOne, IsOutcome, MakesDecoder, TellsIfKnown, TellsWhyNot, text_outcome}
 use Rattle.jillapun_c.specs.EncodingNumbers.{encoding_at, mark_at}
 use Rattle.jillapun_c.specs.HeldDecoders.{HoldsDecoder, IsSound, number_of_taken, saved_in, taken_at}
@@ -43,16 +44,9 @@ use Rattle.jillapun_c.specs.declared.decoder.words.DecoderWords.{DecoderWords}
 use Rattle.jillapun_c.specs.declared.progress.Progress.{Progress}
 use Rattle.jillapun_c.specs.declared.status.TheConstants.{CLOSED, FINISHED, OK, REFUSED}
 
-same_some : {X : Type 0} (x y : X) → Some x ≡ Some y → x ≡ y
-same_some x y same = ap (λ o. elim o [ None ↦ x | Some z ↦ z ]) same
-
 -- ---- the words
 
--- each encoding stands at its number, and each mark at its own
-pub found_at : (e : Encoding) → encoding_at (number_of e) ≡ Some e
-found_at Big5 = refl
-found_at _ = refl
-
+-- each mark stands at its number
 pub mark_found_at : (mark : Option ByteOrderMark) → taken_at (number_of_taken mark) ≡ Some mark
 mark_found_at None = refl
 mark_found_at (Some Utf8) = refl

@@ -1,6 +1,5 @@
 -- The lemmas.
 mod AskedLemmas
-mod CoderLemmas
 mod ConversionLemmas
 mod ConverterRunLemmas
 mod ConverterTurnLemmas

@@ -1,7 +1,7 @@
 use Rattle.std.proofs.Common.{ap, sym, subst, ◌≡◌, ◌∙◌, Some}
 use Rattle.jillapun_c.specs.ConverterRuns.{JoinsToCalls}
 use Rattle.jillapun_c.specs.declared.converter.Converter.{Converter}
-use Rattle.jillapun_c.proofs.CoderLemmas.{same_some}
+use Rattle.jillapun_c.proofs.EncodingNumberLemmas.{same_some}
 use Rattle.jillapun_c.proofs.converter.step.jillapun_converter_step.Goals as goal
 
 pub returns-clause-converts : goal.returns-clause-converts

@@ -1,5 +1,6 @@
 use Rattle.std.proofs.Common.{refl}
-use Rattle.jillapun_c.proofs.HeldDecoderLemmas.{found_at, mark_found_at}
+use Rattle.jillapun_c.proofs.EncodingNumberLemmas.{found_at}
+use Rattle.jillapun_c.proofs.HeldDecoderLemmas.{mark_found_at}
 use Rattle.jillapun_c.proofs.decoder.words.DecoderWords.of.Goals as goal
 
 pub returns : goal.returns
