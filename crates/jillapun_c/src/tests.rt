@@ -47,6 +47,24 @@ pub(crate) fn euro(alloc: Global) -> TablesHandle {
     tables
 }
 
+/// Tables with the indexes that ISO-2022-JP needs, of one row each.
+pub(crate) fn japanese(alloc: Global) -> TablesHandle {
+    let mut tables = TablesHandle::none();
+    let mut fault = IndexFault { file: 9, line: 9 };
+    let files = [
+        IndexFile {
+            name: b"index-jis0208.txt",
+            text: b"  0\t0x3000\n",
+        },
+        IndexFile {
+            name: b"index-iso-2022-jp-katakana.txt",
+            text: b"  0\t0x3002\n",
+        },
+    ];
+    jillapun_tables_new(alloc, &files, &mut tables, &mut fault);
+    tables
+}
+
 #[test]
 fn encodings_are_found(rt: HostRuntime) {
     let mut length = 9;

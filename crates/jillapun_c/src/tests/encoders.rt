@@ -6,11 +6,9 @@ use crate::encoder::queries::{jillapun_encoder_encoding, jillapun_encoder_has_pe
 use crate::encoder::utf8::jillapun_encoder_encode_from_utf8;
 use crate::encoder::utf16::jillapun_encoder_encode_from_utf16;
 use crate::encoder_progress::EncoderProgress;
-use crate::index_files::IndexFile;
 use crate::status::{INPUT_EMPTY, NO_ENCODING, NOT_READY, OK, UNKNOWN};
-use crate::tables::{IndexFault, jillapun_tables_new};
 use crate::tables_handle::TablesHandle;
-use crate::tests::euro;
+use crate::tests::{euro, japanese};
 use std::alloc::Global;
 
 const ISO_2022_JP: u8 = 6;
@@ -20,24 +18,6 @@ const UTF_8: u8 = 25;
 const UTF_16LE: u8 = 27;
 
 const WINDOWS_1252: u8 = 31;
-
-// Tables with the indexes that ISO-2022-JP needs, of one row each.
-fn japanese(alloc: Global) -> TablesHandle {
-    let mut tables = TablesHandle::none();
-    let mut fault = IndexFault { file: 9, line: 9 };
-    let files = [
-        IndexFile {
-            name: b"index-jis0208.txt",
-            text: b"  0\t0x3000\n",
-        },
-        IndexFile {
-            name: b"index-iso-2022-jp-katakana.txt",
-            text: b"  0\t0x3002\n",
-        },
-    ];
-    jillapun_tables_new(alloc, &files, &mut tables, &mut fault);
-    tables
-}
 
 // A copy, byte for byte.
 fn copied(handle: &EncoderHandle) -> EncoderHandle {
