@@ -19,7 +19,7 @@ use Rattle.encoding_front.specs.laws.Encoder.{output_twice}
 use Rattle.encoding_front.specs.declared.encoder.saved_encoder.SavedEncoder.{SavedEncoder}
 use Rattle.encoding_front.specs.declared.encoding.Encoding.{Encoding}
 use Rattle.jillapun_c.specs.EncoderCalls.{AnswersEncoder, MakesEncoder}
-use Rattle.jillapun_c.specs.EncoderWords.{AreSound, GoesOnAs, IsSound, encoder_of, saved_encoder_in, saved_with, set_at, state_with}
+use Rattle.jillapun_c.specs.EncoderWords.{AreSoundWords, GoesOnAs, IsSoundEncoder, encoder_of, saved_encoder_in, saved_with, set_at, state_with}
 use Rattle.jillapun_c.specs.EncodingNumbers.{encoding_at}
 use Rattle.jillapun_c.specs.HeldTables.{held_lists}
 use Rattle.jillapun_c.specs.declared.encoder.words.EncoderWords.{EncoderWords}
@@ -37,17 +37,17 @@ moves_on e s s' h (inr moved) = inr moved
 
 -- ---- of the encoder that the words are of
 
-sound_in : (tables : Option IndexLists) (w : EncoderWords) (x : EncoderState) → encoder_of tables w ≡ Some x → ∥ AreSound tables w ∥₁ → ∥ IsSound x ∥₁
-sound_in tables w x is h = ∥∥₁_map {B = IsSound x} h (λ (k : AreSound tables w). subst (λ o. IfSome o IsSound) is k)
+sound_in : (tables : Option IndexLists) (w : EncoderWords) (x : EncoderState) → encoder_of tables w ≡ Some x → ∥ AreSoundWords tables w ∥₁ → ∥ IsSoundEncoder x ∥₁
+sound_in tables w x is h = ∥∥₁_map {B = IsSoundEncoder x} h (λ (k : AreSoundWords tables w). subst (λ o. IfSome o IsSoundEncoder) is k)
 
-module _ (tables : Option IndexLists) (w : EncoderWords) (saved : SavedEncoder) (is : saved_encoder_in w ≡ Some saved) (h : ∥ AreSound tables w ∥₁) where
+module _ (tables : Option IndexLists) (w : EncoderWords) (saved : SavedEncoder) (is : saved_encoder_in w ≡ Some saved) (h : ∥ AreSoundWords tables w ∥₁) where
   abbrev x : EncoderState
   x = state_with (held_lists tables) saved
 
   pub held_is : encoder_of tables w ≡ Some x
   held_is = ap (option_map (state_with (held_lists tables))) is
 
-  sound : ∥ IsSound x ∥₁
+  sound : ∥ IsSoundEncoder x ∥₁
   sound = sound_in tables w x held_is h
 
   pub held_ready : IsReady (held_lists tables) (output_encoding_of saved.encoding)
@@ -76,11 +76,11 @@ module _ (tables : Option IndexLists) (w w' : EncoderWords) (x x' : EncoderState
   pub kept_is : encoder_of tables w' ≡ Some x'
   kept_is = ap (option_map (state_with (held_lists tables))) is ∙ ap (λ l. Some (state_with l (saved_of x'))) (sym of_tables)
 
-  still_sound : IsSound x → IsSound x'
-  still_sound k = subst IsSound (sym goes.same) (record { ready = k.ready; output = k.output; set = moves_on (coding_in x) x.set x'.set k.set goes.moves })
+  still_sound : IsSoundEncoder x → IsSoundEncoder x'
+  still_sound k = subst IsSoundEncoder (sym goes.same) (record { ready = k.ready; output = k.output; set = moves_on (coding_in x) x.set x'.set k.set goes.moves })
 
-  pub kept_sound : ∥ AreSound tables w ∥₁ → ∥ AreSound tables w' ∥₁
-  kept_sound h = ∥∥₁_map {B = AreSound tables w'} (sound_in tables w x held h) (λ k. subst (λ o. IfSome o IsSound) (sym kept_is) (still_sound k))
+  pub kept_sound : ∥ AreSoundWords tables w ∥₁ → ∥ AreSoundWords tables w' ∥₁
+  kept_sound h = ∥∥₁_map {B = AreSoundWords tables w'} (sound_in tables w x held h) (λ k. subst (λ o. IfSome o IsSoundEncoder) (sym kept_is) (still_sound k))
 
 -- what is so of an encoder, if there is one, and there is one
 abbrev pub IsThere : Option EncoderState → (EncoderState → Type 0) → Type 0
@@ -91,7 +91,7 @@ there None Holds h = absurd h
 there (Some x) Holds h = (x, refl, h)
 
 -- the words of an encoder of a new stream
-new_sound : (t : IndexLists) (e : Encoding) → IsReady t (output_encoding_of e) → IsSound (new_state t e)
+new_sound : (t : IndexLists) (e : Encoding) → IsReady t (output_encoding_of e) → IsSoundEncoder (new_state t e)
 new_sound t e ready = record {
   ready = subst (IsReady t) (sym (output_twice e)) ready;
   output = output_twice e;
@@ -103,8 +103,8 @@ pub new_is : (tables : Option IndexLists) (w : EncoderWords) (e : Encoding) → 
 new_is tables w e is = ap (option_map (state_with (held_lists tables))) is
 
 pub new_are_sound : (tables : Option IndexLists) (w : EncoderWords) (e : Encoding) → saved_encoder_in w ≡ Some (saved_with (output_encoding_of e) Ascii)
-    → IsReady (held_lists tables) (output_encoding_of e) → AreSound tables w
-new_are_sound tables w e is ready = subst (λ o. IfSome o IsSound) (sym (new_is tables w e is)) (new_sound (held_lists tables) e ready)
+    → IsReady (held_lists tables) (output_encoding_of e) → AreSoundWords tables w
+new_are_sound tables w e is ready = subst (λ o. IfSome o IsSoundEncoder) (sym (new_is tables w e is)) (new_sound (held_lists tables) e ready)
 
 -- words that are made of what was saved
 pub saved_is : (w : EncoderWords) (saved : SavedEncoder) → w.is_there ≡ true → w.encoding ≡ number_of saved.encoding → set_at w.set ≡ Some saved.set → saved_encoder_in w ≡ Some saved
@@ -114,8 +114,8 @@ saved_is w saved is_there number set = rw (is_there, number, found_at saved.enco
 pub none_is : (tables : Option IndexLists) (w : EncoderWords) → saved_encoder_in w ≡ None → encoder_of tables w ≡ None
 none_is tables w is = ap (option_map (state_with (held_lists tables))) is
 
-pub none_are_sound : (tables : Option IndexLists) (w : EncoderWords) → saved_encoder_in w ≡ None → AreSound tables w
-none_are_sound tables w is = subst (λ o. IfSome o IsSound) (sym (none_is tables w is)) tt
+pub none_are_sound : (tables : Option IndexLists) (w : EncoderWords) → saved_encoder_in w ≡ None → AreSoundWords tables w
+none_are_sound tables w is = subst (λ o. IfSome o IsSoundEncoder) (sym (none_is tables w is)) tt
 
 -- ---- of a call's status
 

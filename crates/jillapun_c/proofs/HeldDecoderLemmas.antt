@@ -35,9 +35,9 @@ use Rattle.encoding_front.specs.declared.seeking.ByteOrderMark.TheVariants.{Utf8
 use Rattle.encoding_front.specs.laws.SavedDecoders.{call_alike, text_alike}
 use Rattle.encoding_front.specs.laws.Stream.{held_taken}
 use Rattle.jillapun_c.proofs.EncodingNumberLemmas.{same_some}
-use Rattle.jillapun_c.specs.DecoderCalls.{AnswersDecoder, AsksRoom, Decodes, DecodesUpToFault, GoesOn, HoldsOne, IsOutcome, MakesDecoder, TellsIfKnown, TellsWhyNot, text_outcome}
+use Rattle.jillapun_c.specs.DecoderCalls.{AnswersDecoder, AsksRoom, Decodes, DecodesUpToFault, GoesOnFrom, HoldsOne, IsOutcome, MakesDecoder, TellsIfKnown, TellsWhyNot, text_outcome}
 use Rattle.jillapun_c.specs.EncodingNumbers.{encoding_at, mark_at}
-use Rattle.jillapun_c.specs.HeldDecoders.{HoldsDecoder, IsSound, number_of_taken, saved_in, taken_at}
+use Rattle.jillapun_c.specs.HeldDecoders.{HoldsDecoder, IsSoundDecoder, number_of_taken, saved_in, taken_at}
 use Rattle.jillapun_c.specs.HeldTables.{held_lists}
 use Rattle.jillapun_c.specs.declared.decoder.handle.DecoderHandle.{DecoderHandle}
 use Rattle.jillapun_c.specs.declared.decoder.words.DecoderWords.{DecoderWords}
@@ -70,7 +70,7 @@ pub held_by : (tables : Option IndexLists) (words : DecoderWords) (w : SavedDeco
     → HoldsDecoder tables words v
 held_by tables words w v is saves made = record { saved = w; is = is; saves = saves; made = made }
 
-pub sound_by : (tables : Option IndexLists) (words : DecoderWords) (v : DecoderView) → HoldsDecoder tables words v → IsSound tables words
+pub sound_by : (tables : Option IndexLists) (words : DecoderWords) (v : DecoderView) → HoldsDecoder tables words v → IsSoundDecoder tables words
 sound_by tables words v holds w is = ∣ (v, holds) ∣₁
 
 nothing_held : {X : Type 0} (h : DecoderHandle) (v : DecoderView) → saved_in h.words ≡ None → HoldsOne h v → X
@@ -120,7 +120,7 @@ not_opened h status Then why = record {
 }
 
 -- what was done with a decoder that goes on was done with the one that is held
-pub opened_answer : (h : DecoderHandle) (u : DecoderView) (Then : DecoderView → Type 0) → GoesOn h u → ((v : DecoderView) → ReadsAlike v u → Then v) → AnswersDecoder h OK Then
+pub opened_answer : (h : DecoderHandle) (u : DecoderView) (Then : DecoderView → Type 0) → GoesOnFrom h u → ((v : DecoderView) → ReadsAlike v u → Then v) → AnswersDecoder h OK Then
 opened_answer h u Then goes then = record {
   closed = λ none. absurd (goes.held none);
   finished = λ v holds ended. let same : v.finished ≡ u.finished = (goes.alike v holds).finished in let live : u.finished ≡ false = goes.open_ in absurd (cc);
@@ -134,7 +134,7 @@ pub some_held : (h : DecoderHandle) (w : SavedDecoder) → saved_in h.words ≡ 
 some_held h w is = ∥∥₁_map (h.sound w is) (λ s. (s.0, saves_held h w s.0 is s.1, s.1.made))
 
 pub goes_on : (h : DecoderHandle) (w : SavedDecoder) (t : IndexLists) (u : DecoderView) → saved_in h.words ≡ Some w → w.is_finished ≡ false → t ≡ held_lists h.tables.tables
-    → ((v : DecoderView) → Saves w v → IsMadeFrom t v → ReadsAlike v u) → IsMadeFrom t u → GoesOn h u
+    → ((v : DecoderView) → Saves w v → IsMadeFrom t v → ReadsAlike v u) → IsMadeFrom t u → GoesOnFrom h u
 goes_on h w t u is live over alike made = record {
   held = λ none. absurd (cc);
   alike = reads;
@@ -153,7 +153,7 @@ room_alike v u unit size free P h enough n asked within = enough n (ap (λ (o : 
 
 -- a call that writes U+FFFD for each malformed sequence
 pub decoded : (h after : DecoderHandle) (u u' : DecoderView) (unit : OutputUnit) (src : List ℕ) (last : Bool) (W : List ℕ → Type 0) (size : ℕ) (left : RoomLeft) (p : Progress) (outcome : CoderResult)
-    → GoesOn h u → HoldsOne after u' → p.outcome ≡ text_outcome outcome → (p.malformed_length ≡ 0) × (p.malformed_after ≡ 0)
+    → GoesOnFrom h u → HoldsOne after u' → p.outcome ≡ text_outcome outcome → (p.malformed_length ≡ 0) × (p.malformed_after ≡ 0)
     → TextCall u u' src last p.read W left outcome p.had_errors → IfRoomAsked u unit (length src) size (outcome ≢ text_.OutputFull)
     → AnswersDecoder h OK (λ v. Decodes unit v after src last W size left p)
 decoded h after u u' unit src last W size left p outcome goes holds told no_length call enough =
@@ -169,7 +169,7 @@ decoded h after u u' unit src last W size left p outcome goes holds told no_leng
 
 -- one that ends at the first
 pub decoded_up_to_fault : (h after : DecoderHandle) (u u' : DecoderView) (unit : OutputUnit) (src : List ℕ) (last : Bool) (W : List ℕ → Type 0) (size : ℕ) (left : RoomLeft) (p : Progress) (outcome : DecoderResult)
-    → GoesOn h u → HoldsOne after u' → IsOutcome outcome p.outcome p.malformed_length p.malformed_after → p.had_errors ≡ false
+    → GoesOnFrom h u → HoldsOne after u' → IsOutcome outcome p.outcome p.malformed_length p.malformed_after → p.had_errors ≡ false
     → DecoderCall u u' src last p.read W left outcome → IfRoomAsked u unit (length src) size (outcome ≢ raw_.OutputFull)
     → AnswersDecoder h OK (λ v. DecodesUpToFault unit v after src last W size left p)
 decoded_up_to_fault h after u u' unit src last W size left p outcome goes holds told none_replaced call enough =
@@ -222,7 +222,7 @@ latin1_alike v u bytes (Some n) h tells =
           (subst (λ (r : Reading). IsLatin1Prefix (latin1_rule (u.source [])) r.pieces bytes n) (sym h.own) tells.2),
     )
 
-pub latin1_told : (h : DecoderHandle) (u : DecoderView) (bytes : List ℕ) (known : Option ℕ) → GoesOn h u → TellsLatin1Prefix u bytes known
+pub latin1_told : (h : DecoderHandle) (u : DecoderView) (bytes : List ℕ) (known : Option ℕ) → GoesOnFrom h u → TellsLatin1Prefix u bytes known
     → AnswersDecoder h OK (λ v. TellsIfKnown v bytes (unwrap_or known REFUSED))
 latin1_told h u bytes known goes tells = opened_answer h u (λ v. TellsIfKnown v bytes (unwrap_or known REFUSED)) goes (λ v alike. record {
   known = known;

@@ -89,7 +89,7 @@ pub record TellsIfKnown (v : DecoderView) (bytes : List ℕ) (length : ℕ) : Ty
 
 -- A decoder goes on in place of the one that a handle holds: what calls do is the same, it was made from the same indexes,
 -- and its stream has not ended.
-pub record GoesOn (h : DecoderHandle) (u : DecoderView) : Type 0 where
+pub record GoesOnFrom (h : DecoderHandle) (u : DecoderView) : Type 0 where
   pub held : saved_in h.words ≢ None
   pub alike : (v : DecoderView) → HoldsOne h v → ReadsAlike v u
   pub made : IsMadeFrom (held_lists h.tables.tables) u

@@ -35,14 +35,14 @@ encoder_of tables w = option_map (state_with (held_lists tables)) (saved_encoder
 
 -- An encoder is one that calls can have left: its indexes are there, it writes in its own output encoding, and from ASCII
 -- its calls come to the set in force.
-pub record IsSound (x : EncoderState) : Type 0 where
+pub record IsSoundEncoder (x : EncoderState) : Type 0 where
   pub ready : IsReady x.tables (output_encoding_of x.encoding)
   pub output : output_encoding_of x.encoding ≡ x.encoding
   pub set : Moves (coding_in x) Ascii x.set
 
 -- so is the encoder that the words are of, if they are of one
-abbrev pub AreSound : (tables : Option IndexLists) → EncoderWords → Type 0
-AreSound tables w = IfSome (encoder_of tables w) IsSound
+abbrev pub AreSoundWords : (tables : Option IndexLists) → EncoderWords → Type 0
+AreSoundWords tables w = IfSome (encoder_of tables w) IsSoundEncoder
 
 -- an encoder is another one after a call: nothing but its set may have changed, which is one that its calls come to
 pub record GoesOnAs (x x' : EncoderState) : Type 0 where

@@ -47,5 +47,5 @@ pub record HoldsDecoder (tables : Option IndexLists) (words : DecoderWords) (v :
   pub made : IsMadeFrom (held_lists tables) v
 
 -- words that stand for a decoder are those of one
-abbrev pub IsSound : Option IndexLists → DecoderWords → Type 0
-IsSound tables words = ForSome (saved_in words) (λ saved. ∥ ((v : DecoderView) × HoldsDecoder tables words v) ∥₁)
+abbrev pub IsSoundDecoder : Option IndexLists → DecoderWords → Type 0
+IsSoundDecoder tables words = ForSome (saved_in words) (λ saved. ∥ ((v : DecoderView) × HoldsDecoder tables words v) ∥₁)

@@ -5,7 +5,7 @@ ghost use Rattle.encoding_mem.specs.declared.codec.room.OutputUnit.{OutputUnit};
 ghost use Rattle.encoding_front.specs.Encodings.{IsReady};
 ghost use Rattle.encoding_front.specs.calls.DecoderViews.{decoder_view};
 ghost use Rattle.encoding_front.specs.calls.Stream.{IsMadeFrom};
-ghost use Rattle.jillapun_c.specs.DecoderCalls.{AsksRoom, GoesOn, HoldsOne, MakesDecoder};
+ghost use Rattle.jillapun_c.specs.DecoderCalls.{AsksRoom, GoesOnFrom, HoldsOne, MakesDecoder};
 ghost use Rattle.jillapun_c.specs.DecoderCalls.{TellsWhyNot};
 ghost use Rattle.jillapun_c.specs.HeldDecoders.{saved_in};
 ghost use Rattle.jillapun_c.specs.HeldTables.{held_lists, no_lists};
@@ -45,7 +45,7 @@ impl DecoderHandle {
     // none. Else the status: `CLOSED`, it holds no decoder; `FINISHED`, the stream has ended.
     fn opened<'a>(&self, none: &'a Tables) -> Result<Decoder<'a>, u8>
         requires { none.now ≡ no_lists }
-        ensures { MatchResult result (λ d. GoesOn self.now (decoder_view d))
+        ensures { MatchResult result (λ d. GoesOnFrom self.now (decoder_view d))
             (λ status. TellsWhyNot self.now status) }
     {
         let Some(saved) = self.words.saved() else {

@@ -83,7 +83,8 @@ impl ConverterHandle {
         }
     }
 
-    /// Puts a converter into it. Only a closed one has to be filled: what an open one holds is lost.
+    /// Puts a converter into it. Only a closed one has to be filled: what an open one holds is
+    /// lost.
     pub(crate) fn put(&mut self, value: Box<Converter>)
         ensures { self.new.converter ≡ Some value.value }
     {

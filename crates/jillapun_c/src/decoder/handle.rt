@@ -1,7 +1,7 @@
 //! The handle of a decoder, as C holds it.
 
 ghost use Rattle.std.specs.Prelude.{◌≡◌, None};
-ghost use Rattle.jillapun_c.specs.HeldDecoders.{IsSound, saved_in};
+ghost use Rattle.jillapun_c.specs.HeldDecoders.{IsSoundDecoder, saved_in};
 
 use crate::decoder::words::DecoderWords;
 use crate::tables_handle::TablesHandle;
@@ -17,7 +17,7 @@ use crate::tables_handle::TablesHandle;
 pub struct DecoderHandle {
     pub tables: TablesHandle,
     pub(crate) words: DecoderWords,
-    ghost sound: { IsSound tables.tables words },
+    ghost sound: { IsSoundDecoder tables.tables words },
 }
 
 impl DecoderHandle {

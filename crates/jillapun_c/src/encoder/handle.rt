@@ -1,6 +1,6 @@
 //! The handle of an encoder, as C holds it.
 
-ghost use Rattle.jillapun_c.specs.EncoderWords.{AreSound};
+ghost use Rattle.jillapun_c.specs.EncoderWords.{AreSoundWords};
 
 use crate::encoder::words::EncoderWords;
 use crate::tables_handle::TablesHandle;
@@ -18,7 +18,7 @@ use encoding_tables::Tables;
 pub struct EncoderHandle {
     pub tables: TablesHandle,
     pub words: EncoderWords,
-    pub ghost sound: { ∥ AreSound tables.tables words ∥₁ },
+    pub ghost sound: { ∥ AreSoundWords tables.tables words ∥₁ },
 }
 
 impl EncoderHandle {
