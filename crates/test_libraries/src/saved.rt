@@ -1,8 +1,8 @@
-//! Decoders that are saved between two calls, and go on as others.
+//! Decoders and encoders that are saved between two calls, and go on as others.
 
 use encoding_front::{
-    CoderResult, Decoder, Encoding, GB18030, ISO_2022_JP, Mark, REPLACEMENT, UTF_8, UTF_16LE,
-    WINDOWS_1252,
+    CoderResult, Decoder, Encoder, Encoding, GB18030, ISO_2022_JP, Mark, REPLACEMENT, UTF_8,
+    UTF_16LE, WINDOWS_1252,
 };
 use encoding_tables::{IndexKind, TableFault, Tables};
 
@@ -17,11 +17,7 @@ fn goes_on(tables: &Tables, encoding: Encoding, bytes: &[u8], text: &str) -> boo
         let (begin, rest) = bytes.split_at(at);
         let mut room = [0; 64];
         let (result, _, start, _) = first.decode_to_utf8(begin, &mut room, false);
-        let saved = first.saved();
-        if !saved.encoding.is_ready(tables) {
-            return false;
-        }
-        let mut second = Decoder::resumed(saved, tables);
+        let mut second = Decoder::resumed(first.saved(), tables);
         if second.is_finished() || second.encoding() != first.encoding() {
             return false;
         }
@@ -34,6 +30,25 @@ fn goes_on(tables: &Tables, encoding: Encoding, bytes: &[u8], text: &str) -> boo
         }
     }
     true
+}
+
+// Returns whether two encoders write the bytes of a text, the second of which goes on from what was
+// saved of the first, after `begin`.
+fn encodes_on(tables: &Tables, encoding: Encoding, begin: &str, rest: &str, bytes: &[u8]) -> bool {
+    if !encoding.output_encoding().is_ready(tables) {
+        return false;
+    }
+    let mut first = encoding.new_encoder(tables);
+    let mut room = [0; 64];
+    let (result, _, start, _) = first.encode_from_utf8(begin, &mut room, false);
+    let mut second = Encoder::resumed(first.saved(), tables);
+    if second.has_pending_state() != first.has_pending_state() {
+        return false;
+    }
+    let (last, _, more, _) = second.encode_from_utf8(rest, &mut room[start..], true);
+    result == CoderResult::InputEmpty
+        && last == CoderResult::InputEmpty
+        && &room[..start + more] == bytes
 }
 
 // Takes a list of one entry.
@@ -87,6 +102,11 @@ fn with_indexes(rt: HostRuntime) {
     let text = "a\u{3042}\u{A5}\u{203E}\u{FF71}a";
     assert!(rt; goes_on(&tables, ISO_2022_JP, bytes, text));
     assert!(rt; goes_on(&tables, ISO_2022_JP, b"\x1B$B\x1B(J\\", "\u{FFFD}\u{A5}"));
+    let bytes = b"a\x1B$B$\"$\"\x1B(B";
+    assert!(rt; encodes_on(&tables, ISO_2022_JP, "a\u{3042}", "\u{3042}", bytes));
+    let bytes = b"\x1B(J\\~a\x1B(B";
+    assert!(rt; encodes_on(&tables, ISO_2022_JP, "\u{A5}", "\u{203E}a", bytes));
+    assert!(rt; encodes_on(&tables, UTF_16LE, "a", "\u{E9}", b"a\xC3\xA9"));
     assert!(rt;
         goes_on(
             &tables,
@@ -108,7 +128,6 @@ fn finished_and_not_ready(rt: HostRuntime) {
     assert_eq!(rt; answer, (CoderResult::InputEmpty, 1, 1, false));
     let saved = decoder.saved();
     assert!(rt; saved.encoding == UTF_8);
-    assert!(rt; saved.encoding.is_ready(&tables));
     assert!(rt; Decoder::resumed(saved, &tables).is_finished());
     assert!(rt; !goes_on(&tables, WINDOWS_1252, b"a", "a"));
 }
