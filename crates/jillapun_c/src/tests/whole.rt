@@ -143,6 +143,8 @@ fn long_text_is_encoded(rt: HostRuntime) {
     let text = [0x61; 600];
     let status = jillapun_encode(alloc, tables, WINDOWS_1252, &text, &mut dst, &mut written);
     assert_eq!(rt; (status, written), (OK, 600));
+    assert!(rt; dst.starts_with(&text));
+    assert_eq!(rt; (dst[600], dst[601]), (0x2E, 0x2E));
 }
 
 #[test]
