@@ -1,6 +1,6 @@
 -- The decoder that a handle holds, as its calls see it.
 use mathlib.Core.Bool.{Bool-set}
-use Rattle.std.proofs.Common.{◌≡◌, ◌≢◌, ℕ, Bool, true, false, cond, List, [], ◌∷◌, ◌++◌, length, Option, Some, None, inl, refl, sym, ◌∙◌, ap, subst, ◌+◌, unwrap_or}
+use Rattle.std.proofs.Common.{◌≡◌, ◌≢◌, ℕ, Bool, true, false, List, [], length, Option, Some, None, inl, refl, sym, ◌∙◌, ap, subst, ◌+◌, unwrap_or}
 use Rattle.std.proofs.Math.Logic.{∥∥₁_elim, ∥∥₁_map}
 use Rattle.encoding_mem.specs.calls.DecodedLength.{queried, decoded_length_utf8, decoded_length_utf16}
 use Rattle.encoding_mem.specs.calls.Decoding.{DecoderState}
@@ -10,26 +10,19 @@ use Rattle.encoding_mem.specs.declared.codec.decoder_result.DecoderResult.TheVar
 use Rattle.encoding_mem.specs.declared.codec.room.OutputUnit.{OutputUnit}
 use Rattle.encoding_mem.specs.declared.codec.room.DecodedLength.{DecodedLength}
 use Rattle.encoding_tables.specs.IndexLists.{IndexLists}
-use Rattle.encoding_tables.specs.declared.index_kind.IndexKind.{IndexKind}
-use Rattle.encoding_front.specs.EncodingTable.{number_of}
-use Rattle.encoding_front.specs.Encodings.{AreThere, IsReady, needs_of}
-use Rattle.encoding_front.specs.Marks.{source_of}
+use Rattle.encoding_front.specs.Encodings.{IsReady}
 use Rattle.encoding_front.specs.calls.CodecBounds.{decoded_length_of}
 use Rattle.encoding_front.specs.calls.DecoderCall.{DecoderCall, IfRoomAsked, RoomLeft, TextCall}
 use Rattle.encoding_front.specs.calls.Latin1Prefix.{IsAtRest, IsLatin1Prefix, Latin1Rule, by_ascii, by_index, by_mode, latin1_rule, untold}
 use Rattle.encoding_front.specs.calls.RoomRules.{room_by, room_rule_of}
 use Rattle.encoding_front.specs.calls.SavedDecoders.{ReadsAlike, Saves}
-use Rattle.encoding_front.specs.calls.Seeking.{is_sought, find_mark, mark_seen}
-use Rattle.encoding_front.specs.calls.Stream.{DecoderView, IsMadeFrom, IsNewDecoder, Opening, SeeksNoMark, TellsLatin1Prefix, ahead, encoding_after, greater_if, room_asked}
+use Rattle.encoding_front.specs.calls.Stream.{DecoderView, IsMadeFrom, IsNewDecoder, Opening, SeeksNoMark, TellsLatin1Prefix, encoding_after, greater_if, room_asked}
 use Rattle.encoding_front.specs.declared.coder_result.CoderResult.{CoderResult}
 use Rattle.encoding_front.specs.declared.coder_result.CoderResult.TheVariants as text_
 use Rattle.encoding_front.specs.declared.decoder.room_rule.RoomRule.{RoomRule}
 use Rattle.encoding_front.specs.declared.decoder.saved_decoder.SavedDecoder.{SavedDecoder}
 use Rattle.encoding_front.specs.declared.encoding.Encoding.{Encoding}
-use Rattle.encoding_front.specs.declared.encoding.Encoding.TheVariants.{Big5}
 use Rattle.encoding_front.specs.declared.mark.Mark.{Mark}
-use Rattle.encoding_front.specs.declared.seeking.BomMatch.{BomMatch}
-use Rattle.encoding_front.specs.declared.seeking.BomMatch.TheVariants.{Prefix, Whole, Other}
 use Rattle.encoding_front.specs.declared.seeking.ByteOrderMark.{ByteOrderMark}
 use Rattle.encoding_front.specs.declared.seeking.ByteOrderMark.TheVariants.{Utf8, Utf16Be, Utf16Le}
 use Rattle.encoding_front.specs.laws.SavedDecoders.{call_alike, text_alike}

@@ -1,4 +1,3 @@
-use Rattle.std.proofs.Common.{ap}
 use Rattle.jillapun_c.proofs.tables_handle.no_tables.Goals as goal
 
 pub returns : goal.returns
