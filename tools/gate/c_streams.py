@@ -181,8 +181,7 @@ class Streams:
                     length = next((at for at, byte in enumerate(data) if byte not in own), len(data))
                     wanted = length if is_known else NUMBERS["REFUSED"]
                     self.same("latin1", (name, mark, data), self.told_length("latin1", call(handle, data, found), found), wanted)
-                self.library.jillapun_decoder_free(handle)
-                self.must("latin1 when freed", call(handle, b"a", found), "CLOSED")
+        self.must("latin1 of no decoder", call(self.library.struct("DecoderHandle")(), b"a", found), "CLOSED")
 
     def decoded(self, call, job, parts, to_units):
         """A stream by a decoder of its own: its text, its faults, and whether a call told of errors."""
@@ -212,9 +211,8 @@ class Streams:
             else:
                 raise Wrong("%s does not end" % call)
         self.must("after the end", getattr(self.library, call)(handle, b"", room, True, progress), "FINISHED")
-        self.library.jillapun_decoder_free(handle)
-        self.library.jillapun_decoder_free(handle)
-        self.must("after it is freed", getattr(self.library, call)(handle, b"", room, True, progress), "CLOSED")
+        closed = self.library.struct("DecoderHandle")()
+        self.must("no decoder", getattr(self.library, call)(closed, b"", room, True, progress), "CLOSED")
         return text.decode("utf-16-le" if to_units else "utf-8"), faults, had_errors
 
     def some_text(self, size):
@@ -258,7 +256,6 @@ class Streams:
             handle = self.library.struct("DecoderHandle")()
             new = self.library.jillapun_decoder_new(self.tables, self.numbers[job.source], MARKS[job.mark], handle)
             self.must("decoder_new", new)
-            self.must("decoder_new twice", self.library.jillapun_decoder_new(self.tables, 0, 0, handle), "IN_USE")
             self.same("encoding", job, self.library.jillapun_decoder_encoding(handle), self.numbers[job.source])
             size = self.asked_room("jillapun_decoder_max_%s_length" % name, handle, len(data))
             room = bytearray(size) if name == "utf8" else (units([0] * size), size)
@@ -266,7 +263,6 @@ class Streams:
             self.must(call, getattr(self.library, call)(handle, data, room, True, progress))
             written = room[: progress.written] if name == "utf8" else bytes(room[0])[: 2 * progress.written]
             self.same(call, (job, data), (progress.outcome, written.decode(codec)), (NUMBERS["INPUT_EMPTY"], text))
-            self.library.jillapun_decoder_free(handle)
 
     def queried_without_faults(self, job, data, text):
         """A whole stream that has no malformed sequence, up to the first, in the room that the query for that asks for."""
@@ -278,7 +274,6 @@ class Streams:
         self.must(call, getattr(self.library, call)(handle, data, room, True, progress))
         written = bytes(room[: progress.written]).decode()
         self.same("room without U+FFFD", (job, data), (progress.outcome, written), (NUMBERS["INPUT_EMPTY"], text))
-        self.library.jillapun_decoder_free(handle)
 
     def in_one_call(self, call, words, given, output, had):
         """A whole input or text at once: in room that is enough, perhaps surely so, which stays as it was after the output, and
@@ -348,8 +343,8 @@ class Streams:
         # Then it is as a new one.
         self.must("after the end", getattr(self.library, call)(handle, self.source("", of_units), room, True, progress))
         self.same("after the end", target, (progress.read, progress.written), (0, 0))
-        self.library.jillapun_encoder_free(handle)
-        self.must("freed", getattr(self.library, call)(handle, self.source("", of_units), room, True, progress), "CLOSED")
+        closed = self.library.struct("EncoderHandle")()
+        self.must("no encoder", getattr(self.library, call)(closed, self.source("", of_units), room, True, progress), "CLOSED")
         return bytes(output), lost, had
 
     @staticmethod
@@ -411,7 +406,6 @@ class Streams:
             room = bytearray(14)
             self.must(call, getattr(self.library, call)(handle, b"", room, True, progress))
             self.same(call, (job, broken), bytes(made + room[: progress.written]), want)
-            self.library.jillapun_encoder_free(handle)
 
     def handle_of(self, target):
         """An encoder of a new stream."""
@@ -439,7 +433,6 @@ class Streams:
         self.must(call, getattr(self.library, call)(handle, source, room, True, progress))
         self.same(query, (job, points), (progress.outcome, bytes(room[: progress.written])), (NUMBERS["INPUT_EMPTY"], plain))
         self.same("after the end", job.target, self.library.jillapun_encoder_has_pending_state(handle), False)
-        self.library.jillapun_encoder_free(handle)
 
     def pending(self):
         """The set in force of ISO-2022-JP, up to the end of the text."""
@@ -448,7 +441,6 @@ class Streams:
         for text, last, is_pending in (("a", False, False), ("\u3042", False, True), ("b", False, False), ("\u3042", True, False)):
             self.library.jillapun_encoder_encode_from_utf8(handle, text.encode(), bytearray(40), last, progress)
             self.same("pending", text, self.library.jillapun_encoder_has_pending_state(handle), is_pending)
-        self.library.jillapun_encoder_free(handle)
 
     def conversions(self, job, data):
         """An input from memory to memory, in one call and by steps."""
