@@ -15,11 +15,14 @@
  * except a handle, and a text (`_to_str`). A `bool` is 0 or 1.
  *
  * Handles. A handle, a struct with members that begin with `private_`, begins as `{0}` (in C++, as
- * `{}`), is filled by a function with `_new` in its name and emptied by one with `_free`. It is not
- * copied, unless its type says that it may be, and its members are left alone. Two threads may use
- * two handles at once, but not the same one, unless its type says that they may. A call that takes a
- * handle by a pointer to `const` writes nothing to it: any number of such calls may be made with one
- * handle at once, while no other call is.
+ * `{}`), and is filled by a function with `_new` in its name. Its members are left alone: nothing
+ * but calls of this library writes to them. A converter has memory of its own: it is emptied by
+ * `jillapun_converter_free`, and never copied. Tables, decoders and encoders have nothing to free.
+ * They may be moved, and copied within the process: a copy of a decoder or an encoder goes on by
+ * itself from where the stream was. Two threads may use two handles at once, but not the same one,
+ * unless its type says that they may. A call that takes a handle by a pointer to `const` writes
+ * nothing to it: any number of such calls may be made with one handle at once, while no other call
+ * is, and nothing else writes to it.
  *
  * Lengths. A function that writes and returns a length has written nothing if that is greater than
  * the room: so much is wanted. SIZE_MAX stands in place of a length if there is none.
@@ -266,6 +269,8 @@ typedef struct {
  *
  * The tables live as long as the process, and are never changed. So a copy of this is as good
  * as this, and any number of threads may use the same tables at once.
+ *
+ * It takes 16 bytes.
  */
 typedef struct {
     const void *private_at;
@@ -288,31 +293,33 @@ typedef struct {
     size_t line;
 } jillapun_index_fault;
 
-/** The address of a decoder or an encoder, for calls of this library alone. */
-typedef struct {
-    void *private_at;
-    bool private_is_open;
-} jillapun_coder;
-
-/** What a decoder's handle tells of the decoder, for calls of this library alone. */
+/** What a decoder keeps between calls, for calls of this library alone. */
 typedef struct {
     bool private_is_there;
     bool private_is_finished;
     uint8_t private_encoding;
-    bool private_may_be_utf8;
-    bool private_may_be_utf16;
-    size_t private_ahead;
-    size_t private_pending;
+    uint8_t private_taken;
+    bool private_seeks_utf8;
+    bool private_seeks_utf16_be;
+    bool private_seeks_utf16_le;
+    uint8_t private_mode;
+    uint8_t private_held_len;
+    uint8_t private_held[6];
+    uint8_t private_pending_len;
+    uint8_t private_pending[6];
 } jillapun_decoder_words;
 
 /**
- * A decoder of a stream. Begin with `{0}`, which holds none; `jillapun_decoder_new` fills it,
- * and `jillapun_decoder_free` empties it. Never copy it: only one of the copies may be used.
- * Calls that take a `const` one may be made by any number of threads at once, and others by one
- * thread at a time.
+ * A decoder of a stream. Begin with `{0}`, which holds none; `jillapun_decoder_new` fills it.
+ * All that it keeps stands in it: it may be moved, a copy is a decoder of its own that goes on
+ * from here, and nothing has to be freed. What a call of this library did not write into it, or
+ * into what it was copied from, is no decoder. Calls that take a `const` one may be made by any
+ * number of threads at once, and others by one thread at a time.
+ *
+ * It takes 40 bytes.
  */
 typedef struct {
-    jillapun_coder private_coder;
+    jillapun_tables private_tables;
     jillapun_decoder_words private_words;
 } jillapun_decoder;
 
@@ -335,21 +342,24 @@ typedef struct {
     bool had_errors;
 } jillapun_progress;
 
-/** What an encoder's handle tells of the encoder, for calls of this library alone. */
+/** What an encoder's handle keeps of the encoder, for calls of this library alone. */
 typedef struct {
     bool private_is_there;
-    bool private_has_pending_state;
     uint8_t private_encoding;
+    uint8_t private_set;
 } jillapun_encoder_words;
 
 /**
- * An encoder of a stream. Begin with `{0}`, which holds none; `jillapun_encoder_new` fills it,
- * and `jillapun_encoder_free` empties it. Never copy it: only one of the copies may be used.
- * Calls that take a `const` one may be made by any number of threads at once, and others by one
- * thread at a time.
+ * An encoder of a stream. Begin with `{0}`, which holds none; `jillapun_encoder_new` fills it.
+ *
+ * It is plain words: it may be moved, there is nothing to free, and a copy goes on from where
+ * it was copied. Calls that take a `const` one may be made by any number of threads at once,
+ * and others by one thread at a time.
+ *
+ * It takes 24 bytes.
  */
 typedef struct {
-    jillapun_coder private_coder;
+    jillapun_tables private_tables;
     jillapun_encoder_words private_words;
 } jillapun_encoder;
 
@@ -428,9 +438,12 @@ typedef struct {
  * A conversion by steps. Begin with `{0}`, which holds none; `jillapun_converter_new` fills it,
  * and `jillapun_converter_free` empties it. Never copy it: only one of the copies may be used.
  * One thread at a time.
+ *
+ * It takes 16 bytes.
  */
 typedef struct {
-    jillapun_coder private_coder;
+    void *private_at;
+    bool private_is_open;
 } jillapun_converter;
 
 /** What a call of a converter did. */
@@ -447,6 +460,19 @@ typedef struct {
      */
     bool wants_room;
 } jillapun_converter_progress;
+
+/* The sizes of the handles, which the library was built with. */
+#if defined(__cplusplus) && __cplusplus >= 201103L
+static_assert(sizeof(jillapun_tables) == 16, "the size of jillapun_tables");
+static_assert(sizeof(jillapun_decoder) == 40, "the size of jillapun_decoder");
+static_assert(sizeof(jillapun_encoder) == 24, "the size of jillapun_encoder");
+static_assert(sizeof(jillapun_converter) == 16, "the size of jillapun_converter");
+#elif defined(__STDC_VERSION__) && __STDC_VERSION__ >= 201112L
+_Static_assert(sizeof(jillapun_tables) == 16, "the size of jillapun_tables");
+_Static_assert(sizeof(jillapun_decoder) == 40, "the size of jillapun_decoder");
+_Static_assert(sizeof(jillapun_encoder) == 24, "the size of jillapun_encoder");
+_Static_assert(sizeof(jillapun_converter) == 16, "the size of jillapun_converter");
+#endif
 
 /**
  * All index files of the Encoding Standard, as `jillapun_tables_new` takes them, and how many they
@@ -555,18 +581,16 @@ uint8_t jillapun_tables_new(const jillapun_index_file *files, size_t files_len,
 
 /**
  * Makes a decoder of a new stream, in the encoding with this number, and `mark` says what
- * becomes of a byte order mark at its start.
+ * becomes of a byte order mark at its start. `tables` may be `{0}` if the encoding needs no
+ * index. What `out` held is overwritten, whether or not its stream has ended.
  *
- * Returns `JILLAPUN_OK`, and `out` holds the decoder. Else nothing is made: `JILLAPUN_IN_USE`,
- * `out` holds one already; `JILLAPUN_CLOSED`, there are no tables; `JILLAPUN_UNKNOWN`, no
- * encoding or no handling of marks has the number; `JILLAPUN_NOT_READY`, the tables lack an
- * index of the encoding; `JILLAPUN_NO_MEMORY`, memory was refused.
+ * Returns `JILLAPUN_OK`, and `out` holds the decoder. Else nothing is made, and `out` stays as
+ * it is: `JILLAPUN_UNKNOWN`, no encoding or no handling of marks has the number;
+ * `JILLAPUN_NOT_READY`, the tables lack an index of the encoding, or there are none and it
+ * needs one.
  */
 uint8_t jillapun_decoder_new(jillapun_tables tables, uint8_t encoding, uint8_t mark,
     jillapun_decoder *out);
-
-/** Ends a decoder, and empties its handle. Nothing is done with one that holds none. */
-void jillapun_decoder_free(jillapun_decoder *decoder);
 
 /* What a decoder tells of itself. */
 
@@ -616,7 +640,7 @@ uint8_t jillapun_decoder_max_utf16_length(const jillapun_decoder *decoder, size_
  * Returns `JILLAPUN_OK`. Else `length` is 0: `JILLAPUN_CLOSED`, the handle holds no decoder;
  * `JILLAPUN_FINISHED`, the stream has ended.
  */
-uint8_t jillapun_decoder_latin1_byte_compatible_up_to(jillapun_decoder *decoder,
+uint8_t jillapun_decoder_latin1_byte_compatible_up_to(const jillapun_decoder *decoder,
     const uint8_t *bytes, size_t bytes_len, size_t *length);
 
 /* The exports that decode to UTF-8 over a text. */
@@ -728,17 +752,14 @@ uint8_t jillapun_decoder_decode_to_utf8_without_replacement(jillapun_decoder *de
 
 /**
  * Makes an encoder of a new stream into the output encoding of the one with this number (the
- * Encoding Standard, section 4.3).
+ * Encoding Standard, section 4.3), in the place of what `out` holds. Tables `{0}` have no
+ * index, and do for an output encoding that needs none.
  *
- * Returns `JILLAPUN_OK`, and `out` holds the encoder. Else nothing is made: `JILLAPUN_IN_USE`,
- * `out` holds one already; `JILLAPUN_CLOSED`, there are no tables; `JILLAPUN_UNKNOWN`, no
- * encoding has the number; `JILLAPUN_NOT_READY`, the tables lack an index of the output
- * encoding; `JILLAPUN_NO_MEMORY`, memory was refused.
+ * Returns `JILLAPUN_OK`, and `out` holds the encoder. Else `out` is as it was:
+ * `JILLAPUN_UNKNOWN`, no encoding has the number; `JILLAPUN_NOT_READY`, the tables lack an
+ * index of the output encoding.
  */
 uint8_t jillapun_encoder_new(jillapun_tables tables, uint8_t encoding, jillapun_encoder *out);
-
-/** Ends an encoder, and empties its handle. Nothing is done with one that holds none. */
-void jillapun_encoder_free(jillapun_encoder *encoder);
 
 /* What an encoder tells of itself. */
 

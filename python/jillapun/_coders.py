@@ -11,35 +11,40 @@ INPUT_EMPTY, OUTPUT_FULL, MALFORMED, UNMAPPABLE = range(4)
 
 
 class DecoderWords(ctypes.Structure):
-    """What a decoder's handle tells the library of the decoder."""
+    """What a decoder keeps between calls: the library's own."""
 
     _fields_ = [
         ("is_there", ctypes.c_bool),
         ("is_finished", ctypes.c_bool),
         ("encoding", c.Byte),
-        ("may_be_utf8", ctypes.c_bool),
-        ("may_be_utf16", ctypes.c_bool),
-        ("ahead", c.Size),
-        ("pending", c.Size),
+        ("taken", c.Byte),
+        ("seeks_utf8", ctypes.c_bool),
+        ("seeks_utf16_be", ctypes.c_bool),
+        ("seeks_utf16_le", ctypes.c_bool),
+        ("mode", c.Byte),
+        ("held_len", c.Byte),
+        ("held", c.Byte * 6),
+        ("pending_len", c.Byte),
+        ("pending", c.Byte * 6),
     ]
 
 
 class EncoderWords(ctypes.Structure):
-    """What an encoder's handle tells the library of the encoder."""
+    """What an encoder keeps between calls: the library's own."""
 
-    _fields_ = [("is_there", ctypes.c_bool), ("has_pending_state", ctypes.c_bool), ("encoding", c.Byte)]
+    _fields_ = [("is_there", ctypes.c_bool), ("encoding", c.Byte), ("set", c.Byte)]
 
 
 class Decoder(ctypes.Structure):
-    """The handle of a decoder; it is never copied."""
+    """A decoder: there is nothing to free."""
 
-    _fields_ = [("coder", c.Handle), ("words", DecoderWords)]
+    _fields_ = [("tables", c.Tables), ("words", DecoderWords)]
 
 
 class Encoder(ctypes.Structure):
-    """The handle of an encoder; it is never copied."""
+    """An encoder: there is nothing to free."""
 
-    _fields_ = [("coder", c.Handle), ("words", EncoderWords)]
+    _fields_ = [("tables", c.Tables), ("words", EncoderWords)]
 
 
 class Progress(ctypes.Structure):
@@ -90,20 +95,17 @@ encoding_in_force = _declared("jillapun_decoder_encoding", _DECODER)
 
 _new_decoder = _declared("jillapun_decoder_new", c.Tables, c.Byte, c.Byte, _DECODER)
 _new_encoder = _declared("jillapun_encoder_new", c.Tables, c.Byte, _ENCODER)
-free_decoder, free_encoder = c.library["jillapun_decoder_free"], c.library["jillapun_encoder_free"]
-for _free, _handle in ((free_decoder, _DECODER), (free_encoder, _ENCODER)):
-    _free.restype, _free.argtypes = None, [_handle]
 
 
 def new_decoder(tables: c.Tables, encoding: int, mark: int) -> Decoder:
-    """A decoder of a new stream; `free_decoder` ends it."""
+    """A decoder of a new stream."""
     handle = Decoder()
     checked(_new_decoder(tables, encoding, mark, handle))
     return handle
 
 
 def new_encoder(tables: c.Tables, encoding: int) -> Encoder:
-    """An encoder of a new stream; `free_encoder` ends it."""
+    """An encoder of a new stream."""
     handle = Encoder()
     checked(_new_encoder(tables, encoding, handle))
     return handle

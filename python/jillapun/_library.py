@@ -45,7 +45,7 @@ class IndexFault(ctypes.Structure):
 
 
 class Handle(ctypes.Structure):
-    """What the library keeps behind a handle is its own; a handle is never copied."""
+    """What the library keeps behind an address is its own; a converter's handle is never copied."""
 
     _fields_ = [("at", ctypes.c_void_p), ("is_open", ctypes.c_bool)]
 

@@ -91,5 +91,4 @@ def places_in(
                     text.column += 1
             before = (before + data)[-_BEHIND:]
     finally:
-        coders.free_decoder(handle)
         rooms.give(room)

@@ -222,9 +222,6 @@ class _Decoding:
         if begin:
             self._call(coders.decode_stopping, c.address_of(begin), len(begin), False)
 
-    def _close(self) -> None:
-        coders.free_decoder(self._handle)
-
     def _call(self, call: Any, at: int, size: int, last: bool) -> int:
         coders.checked(call(self._handle, at, size, self._room.at, _ROOM, last, self._progress))
         return int(self._progress.outcome)
@@ -246,7 +243,6 @@ class _Decoding:
                 outcome = self._step(call, final)
             end = len(self._data) - (0 if final else self._undecided())
         finally:
-            self._close()
             _rooms.append(self._room)
         return "".join(self._parts), end, self._state_at(end)
 
@@ -262,7 +258,6 @@ class _Decoding:
         text, position = _handled(self._errors, fault, len(self._data))
         self._parts.append(text)  # type: ignore[arg-type]
         if position != end:
-            self._close()
             self._state = self._state_at(end)
             self._base = self._at = position
             self._open()
@@ -300,7 +295,6 @@ class _Encoding:
                 at, size = (self._replace(fault), _SMALL) if fault else (at + len(block), min(2 * size, _BLOCK))
             self._put(b"", final)
         finally:
-            coders.free_encoder(self._handle)
             _rooms.append(self._room)
         return b"".join(self._parts), self._state
 

@@ -179,14 +179,14 @@ class Streams:
                 for _ in range(20):
                     data = bytes(self.random.choices(own or [0], k=self.random.randint(0, 9))) + self.random.randbytes(3)
                     length = next((at for at, byte in enumerate(data) if byte not in own), len(data))
-                    wanted = length if is_known else NUMBERS["REFUSED"]
+                    wanted, before = length if is_known else NUMBERS["REFUSED"], bytes(handle)
                     self.same("latin1", (name, mark, data), self.told_length("latin1", call(handle, data, found), found), wanted)
-                self.library.jillapun_decoder_free(handle)
-                self.must("latin1 when freed", call(handle, b"a", found), "CLOSED")
+                    self.same("a query writes", (name, mark, data), bytes(handle), before)
+        self.must("latin1 of no decoder", call(self.library.struct("DecoderHandle")(), b"a", found), "CLOSED")
 
     def decoded(self, call, job, parts, to_units):
         """A stream by a decoder of its own: its text, its faults, and whether a call told of errors."""
-        handle = self.library.struct("DecoderHandle")()
+        handle = self.used_decoder() if self.random.random() < 0.5 else self.library.struct("DecoderHandle")()
         new = self.library.jillapun_decoder_new(self.tables, self.numbers[job.source], MARKS[job.mark], handle)
         self.must("decoder_new", new)
         text, faults, had_errors, before = bytearray(), [], False, 0
@@ -212,10 +212,19 @@ class Streams:
             else:
                 raise Wrong("%s does not end" % call)
         self.must("after the end", getattr(self.library, call)(handle, b"", room, True, progress), "FINISHED")
-        self.library.jillapun_decoder_free(handle)
-        self.library.jillapun_decoder_free(handle)
-        self.must("after it is freed", getattr(self.library, call)(handle, b"", room, True, progress), "CLOSED")
+        closed = self.library.struct("DecoderHandle")()
+        self.must("no decoder", getattr(self.library, call)(closed, b"", room, True, progress), "CLOSED")
         return text.decode("utf-16-le" if to_units else "utf-8"), faults, had_errors
+
+    def used_decoder(self):
+        """A decoder of another stream, which has read a part of a character, and may be at its end: one may be made in its
+        place."""
+        handle, progress = self.library.struct("DecoderHandle")(), self.library.struct("Progress")()
+        number = self.numbers[self.random.choice(sorted(self.numbers))]
+        self.must("decoder_new", self.library.jillapun_decoder_new(self.tables, number, MARKS["keep"], handle))
+        last = self.random.random() < 0.5
+        self.must("to_utf8", self.library.jillapun_decoder_decode_to_utf8(handle, b"\x1b$B\x81", bytearray(40), last, progress))
+        return handle
 
     def some_text(self, size):
         """A text of so many bytes."""
@@ -241,6 +250,79 @@ class Streams:
         if not faults:
             self.queried_without_faults(job, data, text)
 
+    def some_calls(self, call, handle, progress, data, last, count, least):
+        """What so many calls write, with room for so many bytes at least, and how much they read; fewer, if one reads all."""
+        output, read = bytearray(), 0
+        for _ in range(count):
+            room = bytearray(self.random.randint(least, 40))
+            self.must(call, getattr(self.library, call)(handle, data[read:], room, last, progress))
+            output, read = output + room[: progress.written], read + progress.read
+            if progress.outcome == NUMBERS["INPUT_EMPTY"]:
+                break
+        return bytes(output), read
+
+    def copied(self, call, handle, progress, data, cut, least, wanted):
+        """A stream whose handle is copied to another address after some calls: both go on with the rest, each by itself, and
+        the one that is at its end first is wiped before the other goes on."""
+        begin, read = self.some_calls(call, handle, progress, data[:cut], False, self.random.randint(0, 9), least)
+        handles = [handle, type(handle).from_buffer_copy(handle)]
+        self.random.shuffle(handles)
+        for one in handles:
+            rest, _ = self.some_calls(call, one, progress, data[read:], True, MOST_CALLS, least)
+            self.same("%s, copied after %d" % (call, read), data, (progress.outcome, begin + rest), (NUMBERS["INPUT_EMPTY"], wanted))
+            ctypes.memset(ctypes.addressof(one), 0xFF, ctypes.sizeof(one))
+
+    def copied_decoder(self, job, data):
+        """A decoder that is copied in the middle of its stream, wherever that is cut."""
+        pieces = plain_recode.pieces(self.encodings, job, data)[1]
+        text = text_of(point for _, _, points in pieces for point in ((0xFFFD,) if points is None else points)).encode()
+        for call in ("jillapun_decoder_decode_to_utf8", "jillapun_decoder_decode_to_str"):
+            handle, progress = self.library.struct("DecoderHandle")(), self.library.struct("Progress")()
+            new = self.library.jillapun_decoder_new(self.tables, self.numbers[job.source], MARKS[job.mark], handle)
+            self.must("decoder_new", new)
+            self.copied(call, handle, progress, data, self.random.randint(0, len(data)), 4, text)
+
+    def copied_encoder(self, job, size):
+        """An encoder that is copied in the middle of a text, which is cut between characters."""
+        points = self.inputs.text(self.random, [job.source, job.target], size)
+        replaced = encoded(self.encodings[self.encodings[job.target].output].encoder(), points)[1]
+        data, cut = text_of(points).encode(), len(text_of(points[: self.random.randint(0, len(points))]).encode())
+        progress = self.library.struct("EncoderProgress")()
+        self.copied("jillapun_encoder_encode_from_utf8", self.handle_of(job.target), progress, data, cut, 14, replaced)
+
+    def without_tables(self):
+        """A decoder or an encoder is made without tables if its encoding needs no index. If none is made, what was in its place
+        stays."""
+        new_decoder, new_encoder = self.library.jillapun_decoder_new, self.library.jillapun_encoder_new
+        none = self.library.struct("TablesHandle")()
+        for name, number in self.numbers.items():
+            handle = self.used_decoder()
+            before = bytes(handle)
+            needs_none = self.library.jillapun_needs(number, 0, bytearray(40)) == NUMBERS["REFUSED"]
+            self.must("decoder_new of %s" % name, new_decoder(none, number, 0, handle), "OK" if needs_none else "NOT_READY")
+            self.same("decoder_new", name, bytes(handle) == before, not needs_none)
+            handle, output = self.handle_of("ISO-2022-JP"), self.library.jillapun_output_encoding(number)
+            before = bytes(handle)
+            needs_none = self.library.jillapun_needs(output, 0, bytearray(40)) == NUMBERS["REFUSED"]
+            self.must("encoder_new of %s" % name, new_encoder(none, number, handle), "OK" if needs_none else "NOT_READY")
+            self.same("encoder_new", name, bytes(handle) == before, not needs_none)
+        for number, mark in ((len(self.numbers), 0), (0, len(MARKS))):
+            handle = self.used_decoder()
+            before = bytes(handle)
+            self.must("decoder_new", new_decoder(self.tables, number, mark, handle), "UNKNOWN")
+            self.same("decoder_new", (number, mark), bytes(handle), before)
+        handle = self.handle_of("Big5")
+        before = bytes(handle)
+        self.must("encoder_new", new_encoder(self.tables, len(self.numbers), handle), "UNKNOWN")
+        self.same("encoder_new", len(self.numbers), bytes(handle), before)
+        progress, room = self.library.struct("Progress")(), bytearray(40)
+        for name, data in (("UTF-8", b"\xef\xbb\xbf\xe6\x97"), ("UTF-16LE", b"\xff\xfe\xe5\x65\x0d"), ("UTF-8", b"\xfe\xff\x65\xe5")):
+            handle = self.library.struct("DecoderHandle")()
+            self.must("decoder_new", new_decoder(none, self.numbers[name], MARKS["sniff"], handle))
+            self.must("to_utf8", self.library.jillapun_decoder_decode_to_utf8(handle, data, room, True, progress))
+            wanted = data.decode("utf-16" if data[0] > 0xEF else "utf-8-sig", "replace").encode()
+            self.same("without tables", (name, data), bytes(room[: progress.written]), wanted)
+
     def told_length(self, call, status, length):
         """A length that a call tells beside its status."""
         self.must(call, status)
@@ -258,7 +340,6 @@ class Streams:
             handle = self.library.struct("DecoderHandle")()
             new = self.library.jillapun_decoder_new(self.tables, self.numbers[job.source], MARKS[job.mark], handle)
             self.must("decoder_new", new)
-            self.must("decoder_new twice", self.library.jillapun_decoder_new(self.tables, 0, 0, handle), "IN_USE")
             self.same("encoding", job, self.library.jillapun_decoder_encoding(handle), self.numbers[job.source])
             size = self.asked_room("jillapun_decoder_max_%s_length" % name, handle, len(data))
             room = bytearray(size) if name == "utf8" else (units([0] * size), size)
@@ -266,7 +347,6 @@ class Streams:
             self.must(call, getattr(self.library, call)(handle, data, room, True, progress))
             written = room[: progress.written] if name == "utf8" else bytes(room[0])[: 2 * progress.written]
             self.same(call, (job, data), (progress.outcome, written.decode(codec)), (NUMBERS["INPUT_EMPTY"], text))
-            self.library.jillapun_decoder_free(handle)
 
     def queried_without_faults(self, job, data, text):
         """A whole stream that has no malformed sequence, up to the first, in the room that the query for that asks for."""
@@ -278,7 +358,6 @@ class Streams:
         self.must(call, getattr(self.library, call)(handle, data, room, True, progress))
         written = bytes(room[: progress.written]).decode()
         self.same("room without U+FFFD", (job, data), (progress.outcome, written), (NUMBERS["INPUT_EMPTY"], text))
-        self.library.jillapun_decoder_free(handle)
 
     def in_one_call(self, call, words, given, output, had):
         """A whole input or text at once: in room that is enough, perhaps surely so, which stays as it was after the output, and
@@ -348,8 +427,8 @@ class Streams:
         # Then it is as a new one.
         self.must("after the end", getattr(self.library, call)(handle, self.source("", of_units), room, True, progress))
         self.same("after the end", target, (progress.read, progress.written), (0, 0))
-        self.library.jillapun_encoder_free(handle)
-        self.must("freed", getattr(self.library, call)(handle, self.source("", of_units), room, True, progress), "CLOSED")
+        closed = self.library.struct("EncoderHandle")()
+        self.must("no encoder", getattr(self.library, call)(closed, self.source("", of_units), room, True, progress), "CLOSED")
         return bytes(output), lost, had
 
     @staticmethod
@@ -411,7 +490,6 @@ class Streams:
             room = bytearray(14)
             self.must(call, getattr(self.library, call)(handle, b"", room, True, progress))
             self.same(call, (job, broken), bytes(made + room[: progress.written]), want)
-            self.library.jillapun_encoder_free(handle)
 
     def handle_of(self, target):
         """An encoder of a new stream."""
@@ -439,7 +517,6 @@ class Streams:
         self.must(call, getattr(self.library, call)(handle, source, room, True, progress))
         self.same(query, (job, points), (progress.outcome, bytes(room[: progress.written])), (NUMBERS["INPUT_EMPTY"], plain))
         self.same("after the end", job.target, self.library.jillapun_encoder_has_pending_state(handle), False)
-        self.library.jillapun_encoder_free(handle)
 
     def pending(self):
         """The set in force of ISO-2022-JP, up to the end of the text."""
@@ -448,7 +525,6 @@ class Streams:
         for text, last, is_pending in (("a", False, False), ("\u3042", False, True), ("b", False, False), ("\u3042", True, False)):
             self.library.jillapun_encoder_encode_from_utf8(handle, text.encode(), bytearray(40), last, progress)
             self.same("pending", text, self.library.jillapun_encoder_has_pending_state(handle), is_pending)
-        self.library.jillapun_encoder_free(handle)
 
     def conversions(self, job, data):
         """An input from memory to memory, in one call and by steps."""
@@ -561,6 +637,7 @@ def faults(library):
     streams.pending()
     streams.refused()
     streams.latin1()
+    streams.without_tables()
     for _ in range(ROUNDS):
         job = fuzz.job_of(streams.random, fuzz.WEIGHTED)
         data = streams.inputs.data(streams.random, job, streams.random.choice((5, 40, 300)))
@@ -568,6 +645,8 @@ def faults(library):
         try:
             streams.decoders(job, data, parts)
             streams.encoders(job, streams.random.choice((3, 20, 150)))
+            streams.copied_decoder(job, data)
+            streams.copied_encoder(job, streams.random.choice((3, 20, 150)))
             streams.conversions(job, data)
         except Wrong as fault:
             streams.wrong.append("%s: %s" % (job, fault))

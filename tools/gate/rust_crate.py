@@ -40,9 +40,12 @@ TYPES = {"size_t": "usize", "uint8_t": "u8", "uint32_t": "u32", "bool": "bool", 
 
 def in_rust(declared):
     """A C declaration of a parameter, a member or a result, as Rust has it: a name, and a type."""
-    const, base, pointer, name = re.fullmatch(r"(const )?(\w+) ?(\*?) ?(\w*)", " ".join(declared.split())).groups()
+    form = r"(const )?(\w+) ?(\*?) ?(\w*)(?:\[(\d+)\])?"
+    const, base, pointer, name, many = re.fullmatch(form, " ".join(declared.split())).groups()
     camel = "".join(word.capitalize() for word in base.removeprefix("jillapun_").split("_"))
     known = TYPES.get(base, camel)
+    if many:
+        return name, "[%s; %s]" % (known, many)
     return name, ("*const " if const else "*mut ") + known if pointer else known
 
 

@@ -34,6 +34,9 @@ NUMBERS = {
     "i16": "int16_t", "i32": "int32_t", "i64": "int64_t", "isize": "ptrdiff_t", "bool": "bool", "*mut u8": "void *",
     "*const u8": "const void *",
 }  # fmt: skip
+# How many bytes numbers take: at as many they are aligned.
+SIZES = {"u8": 1, "u16": 2, "u32": 4, "i8": 1, "i16": 2, "i32": 4, "bool": 1}
+POINTER = 8
 # A slice in a struct is a pointer and a length, as a type of its own.
 SLICES = {"u8": PREFIX + "_bytes", "u16": PREFIX + "_units"}
 # Words that are no names in C or in C++.
@@ -68,11 +71,14 @@ HEAD = """/*
  * except a handle, and a text (`_to_str`). A `bool` is 0 or 1.
  *
  * Handles. A handle, a struct with members that begin with `private_`, begins as `{0}` (in C++, as
- * `{}`), is filled by a function with `_new` in its name and emptied by one with `_free`. It is not
- * copied, unless its type says that it may be, and its members are left alone. Two threads may use
- * two handles at once, but not the same one, unless its type says that they may. A call that takes a
- * handle by a pointer to `const` writes nothing to it: any number of such calls may be made with one
- * handle at once, while no other call is.
+ * `{}`), and is filled by a function with `_new` in its name. Its members are left alone: nothing
+ * but calls of this library writes to them. A converter has memory of its own: it is emptied by
+ * `jillapun_converter_free`, and never copied. Tables, decoders and encoders have nothing to free.
+ * They may be moved, and copied within the process: a copy of a decoder or an encoder goes on by
+ * itself from where the stream was. Two threads may use two handles at once, but not the same one,
+ * unless its type says that they may. A call that takes a handle by a pointer to `const` writes
+ * nothing to it: any number of such calls may be made with one handle at once, while no other call
+ * is, and nothing else writes to it.
  *
  * Lengths. A function that writes and returns a length has written nothing if that is greater than
  * the room: so much is wanted. SIZE_MAX stands in place of a length if there is none.
@@ -196,12 +202,14 @@ class Struct:
 
     def __init__(self, name, said, body):
         self.name, self.said, self.fields = snake(name), said, []
+        self.is_handle = name.endswith("Handle")
+        is_of_handle = name.endswith(("Handle", "Words"))
         lines = body.split("\n")
         for index, line in enumerate(lines):
             field = FIELD.fullmatch(line)
             if field and not field[2] and field[4] != "Global":
                 doc = above([line.strip() for line in lines], index)[0]
-                is_open_to_c = field[1] and not field[4].endswith("Handle")
+                is_open_to_c = field[1] and not is_of_handle and not field[4].endswith("Handle")
                 self.fields.append((doc, field[3] if is_open_to_c else "private_" + field[3], field[4]))
 
 
@@ -259,8 +267,39 @@ class Header:
             lines = []
             for said, name, it in struct.fields:
                 lines += comment(said, "    ") + ["    %s;" % self.member(name, re.sub(r"&'\w+ ", "&", it))]
+            if struct.is_handle:
+                struct.said += ["", "It takes %d bytes." % self.layout(struct)[0]]
             self.declared.append((struct, [*comment(struct.said), "typedef struct {", *lines, "} %s;" % struct.name]))
         return struct.name
+
+    def layout(self, struct):
+        """The size and the alignment of a struct, in bytes."""
+        end, most = 0, 1
+        for _, _, it in struct.fields:
+            size, align = self.room(it)
+            end, most = rounded(end, align) + size, max(most, align)
+        return rounded(end, most), most
+
+    def room(self, it):
+        """Those of a member."""
+        if it.startswith("&"):
+            return 2 * POINTER, POINTER
+        if found := re.fullmatch(r"\[(\w+); (\d+)\]", it):
+            size, align = self.room(found[1])
+            return size * int(found[2]), align
+        if it in self.structs:
+            return self.layout(self.structs[it])
+        return (SIZES.get(it, POINTER),) * 2
+
+    def sizes(self):
+        """Assertions that handles are as large as the library takes them to be, for compilers that have some."""
+        handles = [(struct.name, self.layout(struct)[0]) for struct, _ in self.declared if struct.is_handle]
+        lines = ["/* The sizes of the handles, which the library was built with. */"]
+        for test, word in (("if defined(__cplusplus) && __cplusplus >= 201103L", "static_assert"),
+                           ("elif defined(__STDC_VERSION__) && __STDC_VERSION__ >= 201112L", "_Static_assert")):  # fmt: skip
+            lines.append("#" + test)
+            lines += ['%s(sizeof(%s) == %d, "the size of %s");' % (word, name, size, name) for name, size in handles]
+        return "\n".join([*lines, "#endif"])
 
     def member(self, name, it):
         if found := re.fullmatch(r"&\[(\w+)\]", it):
@@ -305,7 +344,13 @@ class Header:
         version = VERSION.search(read(VERSION_SOURCE))[1]
         top = [HEAD, "#ifndef JILLAPUN_H\n#define JILLAPUN_H", "#include <stdbool.h>\n#include <stddef.h>\n#include <stdint.h>",
                '#define JILLAPUN_VERSION "%s"' % version, PLATFORM]
+        structs.append(self.sizes())
         return "\n\n".join([*top, *constants(), encodings(), *slices, *structs, FILES, *sections, TAIL]) + "\n"
+
+
+def rounded(place, align):
+    """The first place from there on that is a multiple."""
+    return -(-place // align) * align
 
 
 def parts(parameters):

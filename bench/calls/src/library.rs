@@ -28,15 +28,9 @@ struct IndexFault {
 }
 
 #[repr(C)]
-struct Coder {
-    at: *mut c_void,
-    is_open: bool,
-}
-
-#[repr(C)]
 pub struct Handle {
-    coder: Coder,
-    // What the handle tells of the encoder: three numbers of a byte each.
+    tables: Tables,
+    // What an encoder keeps between calls: three numbers of a byte each.
     words: [u8; 3],
 }
 
@@ -54,7 +48,6 @@ extern "C" {
     fn jillapun_tables_new(files: *const IndexFile, count: usize, out: *mut Tables, fault: *mut IndexFault) -> u8;
     fn jillapun_for_label(label: *const u8, len: usize) -> u8;
     fn jillapun_encoder_new(tables: Tables, encoding: u8, out: *mut Handle) -> u8;
-    fn jillapun_encoder_free(encoder: *mut Handle);
     fn jillapun_encoder_encode_from_utf8(encoder: *mut Handle, text: *const u8, text_len: usize, dst: *mut u8,
         dst_len: usize, last: bool, progress: *mut EncoderProgress) -> u8;
     fn jillapun_encode(tables: Tables, encoding: u8, text: *const u8, text_len: usize, dst: *mut u8, dst_len: usize,
@@ -94,7 +87,7 @@ pub struct Encoder(Handle);
 
 impl Encoder {
     pub fn new(tables: Tables, encoding: u8) -> Self {
-        let mut handle = Handle { coder: Coder { at: std::ptr::null_mut(), is_open: false }, words: [0; 3] };
+        let mut handle = Handle { tables: Tables { at: std::ptr::null(), is_open: false }, words: [0; 3] };
         assert_eq!(unsafe { jillapun_encoder_new(tables, encoding, &mut handle) }, 0);
         Encoder(handle)
     }
@@ -106,12 +99,6 @@ impl Encoder {
         };
         assert_eq!(status, 0);
         progress
-    }
-}
-
-impl Drop for Encoder {
-    fn drop(&mut self) {
-        unsafe { jillapun_encoder_free(&mut self.0) }
     }
 }
 

@@ -48,6 +48,5 @@ int main(int argc, char **argv) {
         } while (told.outcome != JILLAPUN_INPUT_EMPTY);
         before += len;
     }
-    jillapun_decoder_free(&decoder);
     return 0;
 }

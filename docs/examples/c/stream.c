@@ -30,5 +30,4 @@ int main(void) {
       i++;
   }
   printf("\n");
-  jillapun_decoder_free(&decoder);
 }

@@ -307,7 +307,7 @@ impl Encoding {
     ///
     /// # Panics
     ///
-    /// If memory is refused, for the decoder or for the indexes of its encoding.
+    /// If memory is refused for the indexes of its encoding, which the first call loads.
     ///
     /// Proved: `jillapun_decoder_new`.
     pub fn new_decoder(&'static self) -> Decoder {

@@ -35,9 +35,8 @@
 //! # Limits
 //!
 //! - The library is code for x86-64 with SSE4.2 on Linux with glibc, and the crate wants `std`.
-//! - A decoder or an encoder takes memory from the heap when it is made. The first call that decodes or encodes in an
-//!   encoding loads the indexes that the encoding needs, in a few milliseconds, and keeps them as long as the process.
-//!   If memory is refused, the call panics.
+//! - The first call that decodes or encodes in an encoding loads the indexes that the encoding needs, in a few
+//!   milliseconds, and keeps them as long as the process. If memory is refused, the call panics.
 //! - The features `alloc` and `std`, and those for speed, change nothing. `serde` is as in encoding_rs.
 //! - The build script gives the library's functions for memory names of the crate's own, so that a program may have
 //!   the crate encoding_c_mem, too, which has functions of the names that they have in C.

@@ -328,6 +328,27 @@ fn calls_of_a_decoder() {
     assert_eq!(format!("{decoder:?}"), "Decoder { encoding: Encoding { name: \"Shift_JIS\", .. }, .. }");
 }
 
+/// Decoders and encoders go on where they are moved to, within a character or an escape.
+#[test]
+fn coders_are_moved() {
+    let mut decoders: Vec<_> = (0..2).map(|_| SHIFT_JIS.new_decoder()).collect();
+    let mut dst = [0; 8];
+    for decoder in &mut decoders {
+        assert_eq!(decoder.decode_to_utf8(b"a\x83", &mut dst, false), (CoderResult::InputEmpty, 2, 1, false));
+    }
+    for mut decoder in decoders.into_iter().rev().map(Box::new) {
+        assert_eq!(decoder.decode_to_utf8(b"\x6E", &mut dst, true), (CoderResult::InputEmpty, 1, 3, false));
+        assert_eq!(dst[..3], *"ハ".as_bytes());
+    }
+    let mut encoder = ISO_2022_JP.new_encoder();
+    assert_eq!(encoder.encode_from_utf8("日", &mut dst, false), (CoderResult::OutputFull, 0, 0, false));
+    let (mut encoder, mut dst) = (Box::new(encoder), [0; 20]);
+    assert_eq!(encoder.encode_from_utf8("日", &mut dst, false), (CoderResult::InputEmpty, 3, 5, false));
+    let mut encoder = *encoder;
+    assert_eq!(encoder.encode_from_utf8("", &mut dst, true), (CoderResult::InputEmpty, 0, 3, false));
+    assert_eq!(dst[..3], *b"\x1B(B");
+}
+
 #[test]
 fn marks_of_a_decoder() {
     let mut dst = [0; 8];

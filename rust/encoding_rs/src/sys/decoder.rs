@@ -26,36 +26,30 @@ pub(crate) struct Decoded {
     pub(crate) had_errors: bool,
 }
 
-/// A decoder. Its queries write nothing, so that threads may ask at once.
-pub(crate) struct Decoder {
-    handle: raw::Decoder,
-    tables: Tables,
-    // Whether it is known how far bytes that come next are Latin1.
-    knows_latin1: bool,
-}
+/// A decoder: words that the library reads and writes, and nothing to free. Its queries write nothing, so that threads
+/// may ask at once.
+pub(crate) struct Decoder(raw::Decoder);
 
-// SAFETY: the header lets threads use a handle one after the other; what it holds is the library's, on the heap.
+// SAFETY: the header lets threads use a handle one after the other, and lets it be moved; the tables that it has the
+// address of never change, and any number of threads may use them.
 unsafe impl Send for raw::Decoder {}
 // SAFETY: the header lets any number of threads make calls at once that take a `const` handle, and no others are made
 // through a shared reference.
 unsafe impl Sync for raw::Decoder {}
 
 impl Decoder {
-    /// A decoder of a new stream, in the encoding with a number. Panics if memory is refused.
+    /// A decoder of a new stream, in the encoding with a number, of which the tables have the indexes.
     pub(crate) fn new(tables: Tables, encoding: u8, mark: Mark) -> Decoder {
         let mut handle = raw::Decoder::default();
         // SAFETY: the handle begins empty.
-        let status = unsafe { raw::jillapun_decoder_new(tables.0, encoding, mark as u8, &mut handle) };
-        made(status);
-        let mut decoder = Decoder { handle, tables, knows_latin1: false };
-        decoder.knows_latin1 = decoder.latin1_length(&[]).is_some();
-        decoder
+        made(unsafe { raw::jillapun_decoder_new(tables.0, encoding, mark as u8, &mut handle) });
+        Decoder(handle)
     }
 
     /// The number of the encoding in force.
     pub(crate) fn encoding(&self) -> u8 {
         // SAFETY: the handle is open.
-        unsafe { raw::jillapun_decoder_encoding(&self.handle) }
+        unsafe { raw::jillapun_decoder_encoding(&self.0) }
     }
 
     pub(crate) fn max_utf8_length(&self, bytes: usize) -> Option<usize> {
@@ -70,23 +64,12 @@ impl Decoder {
         self.room(raw::jillapun_decoder_max_utf16_length, bytes)
     }
 
-    /// The library's call takes a handle that it may write to. So another decoder is asked: if it is known, what comes
-    /// next is decoded as from the start of an input without a mark.
     pub(crate) fn latin1_byte_compatible_up_to(&self, bytes: &[u8]) -> Option<usize> {
-        self.assert_not_ended();
-        if !self.knows_latin1 {
-            return None;
-        }
-        Decoder::new(self.tables, self.encoding(), Mark::Keep).latin1_length(bytes)
-    }
-
-    fn latin1_length(&mut self, bytes: &[u8]) -> Option<usize> {
         let (at, len, mut known) = (bytes.as_ptr(), bytes.len(), 0);
         // SAFETY: the handle is open; a slice is what the header asks of a pointer and a length, and `known` is a place
         // of its own.
-        let status =
-            unsafe { raw::jillapun_decoder_latin1_byte_compatible_up_to(&mut self.handle, at, len, &mut known) };
-        length(known).filter(|_| status == raw::OK)
+        answered(unsafe { raw::jillapun_decoder_latin1_byte_compatible_up_to(&self.0, at, len, &mut known) });
+        length(known)
     }
 
     pub(crate) fn decode_to_utf8(&mut self, src: &[u8], dst: &mut [u8], last: bool, at_error: OnMalformed) -> Decoded {
@@ -137,33 +120,20 @@ impl Decoder {
         &mut self, export: raw::Decode<Unit>, src: &[u8], dst: *mut Unit, room: usize, last: bool,
     ) -> Decoded {
         let mut progress = raw::Progress::default();
-        answered(export(&mut self.handle, src.as_ptr(), src.len(), dst, room, last, &mut progress));
+        answered(export(&mut self.0, src.as_ptr(), src.len(), dst, room, last, &mut progress));
         let result = match progress.outcome {
             raw::INPUT_EMPTY => DecoderResult::InputEmpty,
             raw::OUTPUT_FULL => DecoderResult::OutputFull,
             _ => DecoderResult::Malformed(progress.malformed_length, progress.malformed_after),
         };
-        self.knows_latin1 = self.latin1_length(&[]).is_some();
         Decoded { result, read: progress.read, written: progress.written, had_errors: progress.had_errors }
     }
 
     fn room(&self, export: raw::Room<raw::Decoder>, bytes: usize) -> Option<usize> {
         let mut enough = 0;
         // SAFETY: the handle is open, and `enough` is a place of its own.
-        answered(unsafe { export(&self.handle, bytes, &mut enough) });
+        answered(unsafe { export(&self.0, bytes, &mut enough) });
         length(enough)
-    }
-
-    /// Panics after the end of the stream, as each query does.
-    fn assert_not_ended(&self) {
-        self.max_utf16_length(0);
-    }
-}
-
-impl Drop for Decoder {
-    fn drop(&mut self) {
-        // SAFETY: the handle is open, and not used again.
-        unsafe { raw::jillapun_decoder_free(&mut self.handle) }
     }
 }
 
@@ -183,11 +153,7 @@ fn answered(status: u8) {
     }
 }
 
-/// Panics unless a decoder or an encoder was made.
+/// Panics unless a decoder or an encoder was made: so it is if the tables have the indexes of its encoding.
 pub(super) fn made(status: u8) {
-    match status {
-        raw::OK => {}
-        raw::NO_MEMORY => panic!("memory was refused for a decoder or an encoder"),
-        _ => panic!("the library makes no decoder or encoder: status {status}"),
-    }
+    assert!(status == raw::OK, "the library makes no decoder or encoder: status {status}");
 }

@@ -19,22 +19,23 @@ pub(crate) struct Encoded {
     pub(crate) had_unmappable: bool,
 }
 
-/// An encoder. Its queries write nothing, so that threads may ask at once.
+/// An encoder: words that the library reads and writes, and nothing to free. Its queries write nothing, so that threads
+/// may ask at once.
 pub(crate) struct Encoder(raw::Encoder);
 
-// SAFETY: the header lets threads use a handle one after the other; what it holds is the library's, on the heap.
+// SAFETY: the header lets threads use a handle one after the other, and lets it be moved; the tables that it has the
+// address of never change, and any number of threads may use them.
 unsafe impl Send for raw::Encoder {}
 // SAFETY: the header lets any number of threads make calls at once that take a `const` handle, and no others are made
 // through a shared reference.
 unsafe impl Sync for raw::Encoder {}
 
 impl Encoder {
-    /// An encoder of a new text, into the output encoding of that with a number. Panics if memory is refused.
+    /// An encoder of a new text, into the output encoding of that with a number, of which the tables have the indexes.
     pub(crate) fn new(tables: Tables, encoding: u8) -> Encoder {
         let mut handle = raw::Encoder::default();
         // SAFETY: the handle begins empty.
-        let status = unsafe { raw::jillapun_encoder_new(tables.0, encoding, &mut handle) };
-        made(status);
+        made(unsafe { raw::jillapun_encoder_new(tables.0, encoding, &mut handle) });
         Encoder(handle)
     }
 
@@ -116,13 +117,6 @@ impl Encoder {
         let status = unsafe { export(&self.0, units, &mut enough) };
         assert!(status == raw::OK, "the library does not answer: status {status}");
         length(enough)
-    }
-}
-
-impl Drop for Encoder {
-    fn drop(&mut self) {
-        // SAFETY: the handle is open, and not used again.
-        unsafe { raw::jillapun_encoder_free(&mut self.0) }
     }
 }
 

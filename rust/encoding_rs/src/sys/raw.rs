@@ -46,29 +46,27 @@ pub(super) struct IndexFault {
     pub(super) line: usize,
 }
 
-/// The address of a decoder or an encoder.
-#[repr(C)]
-pub(super) struct Coder {
-    pub(super) private_at: *mut c_void,
-    pub(super) private_is_open: bool,
-}
-
 #[repr(C)]
 #[derive(Default)]
 pub(super) struct DecoderWords {
     pub(super) private_is_there: bool,
     pub(super) private_is_finished: bool,
     pub(super) private_encoding: u8,
-    pub(super) private_may_be_utf8: bool,
-    pub(super) private_may_be_utf16: bool,
-    pub(super) private_ahead: usize,
-    pub(super) private_pending: usize,
+    pub(super) private_taken: u8,
+    pub(super) private_seeks_utf8: bool,
+    pub(super) private_seeks_utf16_be: bool,
+    pub(super) private_seeks_utf16_le: bool,
+    pub(super) private_mode: u8,
+    pub(super) private_held_len: u8,
+    pub(super) private_held: [u8; 6],
+    pub(super) private_pending_len: u8,
+    pub(super) private_pending: [u8; 6],
 }
 
 #[repr(C)]
 #[derive(Default)]
 pub(super) struct Decoder {
-    pub(super) private_coder: Coder,
+    pub(super) private_tables: Tables,
     pub(super) private_words: DecoderWords,
 }
 
@@ -76,20 +74,20 @@ pub(super) struct Decoder {
 #[derive(Default)]
 pub(super) struct EncoderWords {
     pub(super) private_is_there: bool,
-    pub(super) private_has_pending_state: bool,
     pub(super) private_encoding: u8,
+    pub(super) private_set: u8,
 }
 
 #[repr(C)]
 #[derive(Default)]
 pub(super) struct Encoder {
-    pub(super) private_coder: Coder,
+    pub(super) private_tables: Tables,
     pub(super) private_words: EncoderWords,
 }
 
-impl Default for Coder {
-    fn default() -> Coder {
-        Coder { private_at: ptr::null_mut(), private_is_open: false }
+impl Default for Tables {
+    fn default() -> Tables {
+        Tables { private_at: ptr::null(), private_is_open: false }
     }
 }
 
@@ -139,7 +137,6 @@ extern "C" {
     ) -> u8;
 
     pub(super) fn jillapun_decoder_new(tables: Tables, encoding: u8, mark: u8, out: *mut Decoder) -> u8;
-    pub(super) fn jillapun_decoder_free(decoder: *mut Decoder);
     pub(super) fn jillapun_decoder_encoding(decoder: *const Decoder) -> u8;
     pub(super) fn jillapun_decoder_max_utf8_length(decoder: *const Decoder, n: usize, length: *mut usize) -> u8;
     pub(super) fn jillapun_decoder_max_utf8_length_without_replacement(
@@ -147,7 +144,7 @@ extern "C" {
     ) -> u8;
     pub(super) fn jillapun_decoder_max_utf16_length(decoder: *const Decoder, n: usize, length: *mut usize) -> u8;
     pub(super) fn jillapun_decoder_latin1_byte_compatible_up_to(
-        decoder: *mut Decoder, bytes: *const u8, bytes_len: usize, length: *mut usize,
+        decoder: *const Decoder, bytes: *const u8, bytes_len: usize, length: *mut usize,
     ) -> u8;
     pub(super) fn jillapun_decoder_decode_to_utf8(
         decoder: *mut Decoder, src: *const u8, src_len: usize, dst: *mut u8, dst_len: usize, last: bool,
@@ -175,7 +172,6 @@ extern "C" {
     ) -> u8;
 
     pub(super) fn jillapun_encoder_new(tables: Tables, encoding: u8, out: *mut Encoder) -> u8;
-    pub(super) fn jillapun_encoder_free(encoder: *mut Encoder);
     pub(super) fn jillapun_encoder_encoding(encoder: *const Encoder) -> u8;
     pub(super) fn jillapun_encoder_has_pending_state(encoder: *const Encoder) -> bool;
     pub(super) fn jillapun_encoder_max_length_from_utf8_if_no_unmappables(

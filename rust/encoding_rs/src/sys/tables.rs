@@ -1,7 +1,6 @@
 //! Tables of indexes, which live as long as the process.
 
 use super::raw;
-use std::ptr;
 
 /// Tables that were loaded. A copy is as good.
 #[derive(Clone, Copy)]
@@ -17,7 +16,7 @@ impl Tables {
     pub(crate) fn load(files: &[(&'static str, &'static [u8])]) -> Tables {
         let list: Vec<_> =
             files.iter().map(|(name, text)| raw::IndexFile { name: lent(name.as_bytes()), text: lent(text) }).collect();
-        let mut tables = raw::Tables { private_at: ptr::null(), private_is_open: false };
+        let mut tables = raw::Tables::default();
         let mut fault = raw::IndexFault::default();
         // SAFETY: the list and the texts live as long as the call, and `tables` begins empty.
         let status = unsafe { raw::jillapun_tables_new(list.as_ptr(), list.len(), &mut tables, &mut fault) };
