@@ -8,7 +8,7 @@ ghost use Rattle.encoding_front.specs.calls.Stream.{IsMadeFrom};
 ghost use Rattle.jillapun_c.specs.DecoderCalls.{AsksRoom, GoesOnFrom, HoldsOne, MakesDecoder};
 ghost use Rattle.jillapun_c.specs.DecoderCalls.{TellsWhyNot};
 ghost use Rattle.jillapun_c.specs.HeldDecoders.{saved_in};
-ghost use Rattle.jillapun_c.specs.HeldTables.{held_lists, no_lists};
+ghost use Rattle.jillapun_c.specs.HeldTables.{IsSpare, held_lists};
 ghost use Rattle.jillapun_c.specs.declared.status.TheConstants.{OK};
 
 mod handle;
@@ -21,7 +21,7 @@ mod words;
 use crate::decoder::words::DecoderWords;
 use crate::encoding_number::{encoding_of, mark_of};
 use crate::status::{CLOSED, FINISHED, NOT_READY, OK, REFUSED, UNKNOWN};
-use crate::tables_handle::{TablesHandle, no_tables};
+use crate::tables_handle::TablesHandle;
 use encoding_front::Decoder;
 use encoding_mem::room::OutputUnit;
 use encoding_tables::Tables;
@@ -41,10 +41,9 @@ impl DecoderHandle {
         }
     }
 
-    // The decoder that it holds, over its tables, or over these, which have no index, if it has
-    // none. Else the status: `CLOSED`, it holds no decoder; `FINISHED`, the stream has ended.
-    fn opened<'a>(&self, none: &'a Tables) -> Result<Decoder<'a>, u8>
-        requires { none.now ≡ no_lists }
+    // The decoder that it holds, over its tables, or over the spare ones if it has none. Else the status: `CLOSED`, it holds no decoder; `FINISHED`, the stream has ended.
+    fn opened<'a>(&self, spare: &'a Option<Tables>) -> Result<Decoder<'a>, u8>
+        requires { IsSpare self.now.tables.tables spare.now }
         ensures { MatchResult result (λ d. GoesOnFrom self.now (decoder_view d))
             (λ status. TellsWhyNot self.now status) }
     {
@@ -54,7 +53,7 @@ impl DecoderHandle {
         if saved.is_finished {
             return Err(FINISHED);
         }
-        Ok(Decoder::resumed(saved, self.tables.or(none)))
+        Ok(Decoder::resumed(saved, self.tables.or(spare)))
     }
 
     // Keeps a decoder, which was made from its tables, in place of what it held.
@@ -110,8 +109,8 @@ pub extern "C" fn jillapun_decoder_new(
     let Some(mark) = mark_of(mark) else {
         return UNKNOWN;
     };
-    let none = no_tables(alloc);
-    let lists = tables.or(&none);
+    let spare = tables.spare(alloc);
+    let lists = tables.or(&spare);
     if !encoding.is_ready(lists) {
         return NOT_READY;
     }

@@ -15,7 +15,7 @@ pub(crate) mod words;
 use crate::encoder::handle::EncoderHandle;
 use crate::encoding_number::encoding_of;
 use crate::status::{NOT_READY, OK, UNKNOWN};
-use crate::tables_handle::{TablesHandle, no_tables};
+use crate::tables_handle::TablesHandle;
 use std::alloc::Global;
 
 /// Makes an encoder of a new stream into the output encoding of the one with this number (the
@@ -37,8 +37,8 @@ pub extern "C" fn jillapun_encoder_new(
     let Some(encoding) = encoding_of(encoding) else {
         return UNKNOWN;
     };
-    let none = no_tables(alloc);
-    if !encoding.output_encoding().is_ready(tables.or(&none)) {
+    let spare = tables.spare(alloc);
+    if !encoding.output_encoding().is_ready(tables.or(&spare)) {
         return NOT_READY;
     }
     *out = EncoderHandle::of_new(tables, encoding);

@@ -6,7 +6,7 @@ ghost use Rattle.std.specs.declared.option.Option.{Option};
 ghost use Rattle.std.specs.declared.option.Option.TheVariants.{None, Some};
 ghost use Rattle.encoding_tables.specs.IndexLists.{IndexLists};
 ghost use Rattle.encoding_tables.specs.contracts.tables.Tables.{the_row};
-ghost use Rattle.jillapun_c.specs.HeldTables.{held_lists, no_lists};
+ghost use Rattle.jillapun_c.specs.HeldTables.{IsSpare, held_lists};
 ghost use Rattle.jillapun_c.specs.Ownership.{tables_handle_owns};
 
 use encoding_tables::Tables;
@@ -66,14 +66,26 @@ impl TablesHandle {
         }
     }
 
-    /// The tables that it holds, and these, which have no index, if it holds none.
-    pub(crate) fn or<'a>(&self, none: &'a Tables) -> &'a Tables
-        requires { none.now ≡ no_lists }
-        ensures { result.now ≡ held_lists self.now.tables }
+    /// Tables with no index, which take no memory, if it holds none: `or` falls back on them. They
+    /// are some kilobytes of the stack, which a call with tables does not touch.
+    pub(crate) fn spare(&self, alloc: Global) -> Option<Tables>
+        ensures { IsSpare self.now.tables result }
     {
         match self.lent() {
-            Some(tables) => tables,
-            None => none,
+            Some(_) => None,
+            None => Some(Tables::new(alloc)),
+        }
+    }
+
+    /// The tables that it holds, and the spare ones if it holds none.
+    pub(crate) fn or<'a>(&self, spare: &'a Option<Tables>) -> &'a Tables
+        requires { IsSpare self.now.tables spare.now }
+        ensures { result.now ≡ held_lists self.now.tables }
+    {
+        match (self.lent(), spare) {
+            (Some(tables), _) => tables,
+            (None, Some(none)) => none,
+            (None, None) => unreachable!(),
         }
     }
 
@@ -104,11 +116,4 @@ impl TablesHandle {
     {
         self.copied().get()
     }
-}
-
-/// Tables with no index, which take no memory: for a coder that needs none.
-pub(crate) fn no_tables(alloc: Global) -> Tables
-    ensures { result ≡ no_lists }
-{
-    Tables::new(alloc)
 }

@@ -12,7 +12,6 @@ ghost use Rattle.jillapun_c.specs.declared.status.TheConstants.{NO_ENCODING, OK}
 use crate::decoder::DecoderHandle;
 use crate::encoding_number::number_of;
 use crate::status::{NO_ENCODING, OK, REFUSED};
-use crate::tables_handle::no_tables;
 use encoding_mem::room::OutputUnit;
 use std::alloc::Global;
 
@@ -100,8 +99,8 @@ pub extern "C" fn jillapun_decoder_latin1_byte_compatible_up_to(
     ensures nothing { result ≢ OK → length.new ≡ 0 }
 {
     *length = 0;
-    let none = no_tables(alloc);
-    let opened = match decoder.opened(&none) {
+    let spare = decoder.tables.spare(alloc);
+    let opened = match decoder.opened(&spare) {
         Ok(opened) => opened,
         Err(status) => return status,
     };

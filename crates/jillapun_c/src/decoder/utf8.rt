@@ -11,7 +11,6 @@ ghost use Rattle.jillapun_c.specs.declared.status.TheConstants.{OK};
 use crate::decoder::DecoderHandle;
 use crate::progress::{Progress, outcome_of, part_outcome_of};
 use crate::status::OK;
-use crate::tables_handle::no_tables;
 use std::alloc::Global;
 
 /// Decodes the next bytes of a stream to UTF-8, with U+FFFD for each malformed sequence. `last`
@@ -43,8 +42,8 @@ pub extern "C" fn jillapun_decoder_decode_to_utf8(
     ensures tables { decoder.new.tables.tables ≡ decoder.old.tables.tables }
 {
     *progress = Progress::NONE;
-    let none = no_tables(alloc);
-    let mut opened = match decoder.opened(&none) {
+    let spare = decoder.tables.spare(alloc);
+    let mut opened = match decoder.opened(&spare) {
         Ok(opened) => opened,
         Err(status) => return status,
     };
@@ -93,8 +92,8 @@ pub extern "C" fn jillapun_decoder_decode_to_utf8_without_replacement(
     ensures tables { decoder.new.tables.tables ≡ decoder.old.tables.tables }
 {
     *progress = Progress::NONE;
-    let none = no_tables(alloc);
-    let mut opened = match decoder.opened(&none) {
+    let spare = decoder.tables.spare(alloc);
+    let mut opened = match decoder.opened(&spare) {
         Ok(opened) => opened,
         Err(status) => return status,
     };

@@ -27,7 +27,7 @@ impl EncoderHandle {
     ghost use Rattle.encoding_front.specs.calls.Encoder.{new_state};
     ghost use Rattle.jillapun_c.specs.Coders.{encoder_in};
     ghost use Rattle.jillapun_c.specs.EncoderWords.{GoesOnAs};
-    ghost use Rattle.jillapun_c.specs.HeldTables.{held_lists, no_lists};
+    ghost use Rattle.jillapun_c.specs.HeldTables.{IsSpare, held_lists};
 
     /// One that holds nothing.
     pub(crate) fn none() -> EncoderHandle
@@ -51,13 +51,14 @@ impl EncoderHandle {
         EncoderHandle { tables, words }
     }
 
-    /// The encoder that it holds, as an encoder that goes on; `none` has no index.
-    pub(crate) fn opened<'a>(&self, none: &'a Tables) -> Option<Encoder<'a>>
-        requires { none.now ≡ no_lists }
+    /// The encoder that it holds, as one that goes on, over its tables, or over the spare ones if it
+    /// has none.
+    pub(crate) fn opened<'a>(&self, spare: &'a Option<Tables>) -> Option<Encoder<'a>>
+        requires { IsSpare self.now.tables.tables spare.now }
         ensures { result ≡ encoder_in self.now }
     {
         let saved = self.words.saved()?;
-        Some(Encoder::resumed(saved, self.tables.or(none)))
+        Some(Encoder::resumed(saved, self.tables.or(spare)))
     }
 
     /// Keeps what a call has left of the encoder that it holds.

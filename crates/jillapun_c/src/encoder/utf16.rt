@@ -12,7 +12,6 @@ use crate::encoder::handle::EncoderHandle;
 use crate::encoder_progress::{EncoderProgress, encoder_outcome_of};
 use crate::progress::outcome_of;
 use crate::status::{CLOSED, OK};
-use crate::tables_handle::no_tables;
 use std::alloc::Global;
 
 /// Encodes the next part of a text in UTF-16, with the decimal reference (`&#8364;`) of each
@@ -44,8 +43,8 @@ pub extern "C" fn jillapun_encoder_encode_from_utf16(
     ensures nothing { result ≢ OK → progress.new ≡ NONE }
 {
     *progress = EncoderProgress::NONE;
-    let none = no_tables(alloc);
-    let Some(mut opened) = encoder.opened(&none) else {
+    let spare = encoder.tables.spare(alloc);
+    let Some(mut opened) = encoder.opened(&spare) else {
         return CLOSED;
     };
     let (outcome, read, written, had_unmappable) = opened.encode_from_utf16(text, dst, last);
@@ -92,8 +91,8 @@ pub extern "C" fn jillapun_encoder_encode_from_utf16_without_replacement(
     ensures nothing { result ≢ OK → progress.new ≡ NONE }
 {
     *progress = EncoderProgress::NONE;
-    let none = no_tables(alloc);
-    let Some(mut opened) = encoder.opened(&none) else {
+    let spare = encoder.tables.spare(alloc);
+    let Some(mut opened) = encoder.opened(&spare) else {
         return CLOSED;
     };
     let (outcome, read, written) = opened.encode_from_utf16_without_replacement(text, dst, last);

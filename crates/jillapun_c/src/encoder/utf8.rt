@@ -15,7 +15,6 @@ use crate::encoder::part::{first_part, most_read};
 use crate::encoder_progress::{EncoderProgress, encoder_outcome_of, told_outcome};
 use crate::progress::outcome_of;
 use crate::status::{CLOSED, NOT_UTF8, OK};
-use crate::tables_handle::no_tables;
 use std::alloc::Global;
 
 /// Encodes the next part of a text in UTF-8, with the decimal reference (`&#8364;`) of each
@@ -63,8 +62,8 @@ pub extern "C" fn jillapun_encoder_encode_from_utf8(
     let Some((part, is_whole)) = first_part(text, most) else {
         return NOT_UTF8;
     };
-    let none = no_tables(alloc);
-    let Some(mut opened) = encoder.opened(&none) else {
+    let spare = encoder.tables.spare(alloc);
+    let Some(mut opened) = encoder.opened(&spare) else {
         return CLOSED;
     };
     let is_last = last & is_whole;
@@ -125,8 +124,8 @@ pub extern "C" fn jillapun_encoder_encode_from_utf8_without_replacement(
     let Some((part, is_whole)) = first_part(text, most) else {
         return NOT_UTF8;
     };
-    let none = no_tables(alloc);
-    let Some(mut opened) = encoder.opened(&none) else {
+    let spare = encoder.tables.spare(alloc);
+    let Some(mut opened) = encoder.opened(&spare) else {
         return CLOSED;
     };
     let is_last = last & is_whole;
