@@ -41,7 +41,8 @@ impl DecoderHandle {
         }
     }
 
-    // The decoder that it holds, over its tables, or over the spare ones if it has none. Else the status: `CLOSED`, it holds no decoder; `FINISHED`, the stream has ended.
+    // The decoder that it holds, over its tables, or over the spare ones if it has none. Else the
+    // status: `CLOSED`, it holds no decoder; `FINISHED`, the stream has ended.
     fn opened<'a>(&self, spare: &'a Option<Tables>) -> Result<Decoder<'a>, u8>
         requires { IsSpare self.now.tables.tables spare.now }
         ensures { MatchResult result (λ d. GoesOnFrom self.now (decoder_view d))

@@ -51,8 +51,8 @@ impl EncoderHandle {
         EncoderHandle { tables, words }
     }
 
-    /// The encoder that it holds, as one that goes on, over its tables, or over the spare ones if it
-    /// has none.
+    /// The encoder that it holds, as one that goes on, over its tables, or over the spare ones if
+    /// it has none.
     pub(crate) fn opened<'a>(&self, spare: &'a Option<Tables>) -> Option<Encoder<'a>>
         requires { IsSpare self.now.tables.tables spare.now }
         ensures { result ≡ encoder_in self.now }
