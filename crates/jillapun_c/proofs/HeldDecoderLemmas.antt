@@ -28,7 +28,8 @@ use Rattle.encoding_front.specs.declared.seeking.ByteOrderMark.TheVariants.{Utf8
 use Rattle.encoding_front.specs.laws.SavedDecoders.{call_alike, text_alike}
 use Rattle.encoding_front.specs.laws.Stream.{held_taken}
 use Rattle.jillapun_c.proofs.EncodingNumberLemmas.{same_some}
-use Rattle.jillapun_c.specs.DecoderCalls.{AnswersDecoder, AsksRoom, Decodes, DecodesUpToFault, GoesOnFrom, HoldsOne, IsOutcome, MakesDecoder, TellsIfKnown, TellsWhyNot, text_outcome}
+use Rattle.jillapun_c.specs.Openings.{IfReady}
+use Rattle.jillapun_c.specs.DecoderCalls.{AnswersDecoder, AsksRoom, Decodes, DecodesUpToFault, GoesOnFrom, HoldsNewDecoder, HoldsOne, IsOutcome, MakesDecoder, TellsIfKnown, TellsWhyNot, text_outcome}
 use Rattle.jillapun_c.specs.EncodingNumbers.{encoding_at, mark_at}
 use Rattle.jillapun_c.specs.HeldDecoders.{HoldsDecoder, IsSoundDecoder, number_of_taken, saved_in, taken_at}
 use Rattle.jillapun_c.specs.HeldTables.{held_lists}
@@ -225,6 +226,6 @@ latin1_told h u bytes known goes tells = opened_answer h u (λ v. TellsIfKnown v
 
 -- ---- a decoder is made
 
-pub made_new : (tables : Option IndexLists) (number mark : ℕ) (new : DecoderHandle) (e : Encoding) (m : Mark) (v : DecoderView) → encoding_at number ≡ Some e → mark_at mark ≡ Some m
-    → IsReady (held_lists tables) e → HoldsOne new v → new.tables.tables ≡ tables → IsNewDecoder v (held_lists tables) m e → MakesDecoder tables number mark new OK
-made_new tables number mark new e m v at marked ready holds over is_new = rw at (rw marked (inl (ready, (refl, record { view = v; holds = holds; over = over; is_new = is_new }))))
+pub made_new : (tables : Option IndexLists) (new : DecoderHandle) (e : Encoding) (m : Mark) (v : DecoderView) → IsReady (held_lists tables) e → HoldsOne new v
+    → new.tables.tables ≡ tables → IsNewDecoder v (held_lists tables) m e → IfReady (held_lists tables) e ((OK ≡ OK) × HoldsNewDecoder tables e m new) OK
+made_new tables new e m v ready holds over is_new = inl (ready, (refl, record { view = v; holds = holds; over = over; is_new = is_new }))

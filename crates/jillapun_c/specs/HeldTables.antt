@@ -1,5 +1,5 @@
 -- The indexes that a handle of tables holds.
-use Rattle.std.specs.Prelude.{◌≡◌, Option, None, Some}
+use Rattle.std.specs.Prelude.{Option, None, Some}
 use Rattle.encoding_tables.specs.IndexLists.{IndexLists}
 
 -- no index
@@ -10,7 +10,3 @@ no_lists = record { flats = λ kind. None; rows = None }
 abbrev pub held_lists : Option IndexLists → IndexLists
 held_lists None = no_lists
 held_lists (Some lists) = lists
-
--- what there is in place of tables, if there are none: tables with no index
-abbrev pub IsSpare : (tables spare : Option IndexLists) → Type 0
-IsSpare tables spare = tables ≡ None → spare ≡ Some no_lists

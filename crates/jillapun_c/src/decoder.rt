@@ -1,14 +1,14 @@
 //! The exports that decode streams.
 
-ghost use Rattle.std.specs.Prelude.{◌≡◌, ◌≢◌, [], None, MatchResult};
+ghost use Rattle.std.specs.Prelude.{◌≡◌, ◌≢◌, None, MatchResult};
 ghost use Rattle.encoding_mem.specs.declared.codec.room.OutputUnit.{OutputUnit};
-ghost use Rattle.encoding_front.specs.Encodings.{IsReady};
 ghost use Rattle.encoding_front.specs.calls.DecoderViews.{decoder_view};
 ghost use Rattle.encoding_front.specs.calls.Stream.{IsMadeFrom};
-ghost use Rattle.jillapun_c.specs.DecoderCalls.{AsksRoom, GoesOnFrom, HoldsOne, MakesDecoder};
-ghost use Rattle.jillapun_c.specs.DecoderCalls.{TellsWhyNot};
+ghost use Rattle.jillapun_c.specs.DecoderCalls.{AsksRoom, GoesOnFrom, HoldsNewDecoder, HoldsOne};
+ghost use Rattle.jillapun_c.specs.DecoderCalls.{MakesDecoder, TellsWhyNot};
 ghost use Rattle.jillapun_c.specs.HeldDecoders.{saved_in};
-ghost use Rattle.jillapun_c.specs.HeldTables.{IsSpare, held_lists};
+ghost use Rattle.jillapun_c.specs.HeldTables.{held_lists};
+ghost use Rattle.jillapun_c.specs.Openings.{IfReady};
 ghost use Rattle.jillapun_c.specs.declared.status.TheConstants.{OK};
 
 mod handle;
@@ -21,8 +21,8 @@ mod words;
 use crate::decoder::words::DecoderWords;
 use crate::encoding_number::{encoding_of, mark_of};
 use crate::status::{CLOSED, FINISHED, NOT_READY, OK, REFUSED, UNKNOWN};
-use crate::tables_handle::TablesHandle;
-use encoding_front::Decoder;
+use crate::tables_handle::{TablesHandle, no_tables};
+use encoding_front::{Decoder, Encoding, Mark};
 use encoding_mem::room::OutputUnit;
 use encoding_tables::Tables;
 pub use handle::DecoderHandle;
@@ -41,10 +41,10 @@ impl DecoderHandle {
         }
     }
 
-    // The decoder that it holds, over its tables, or over the spare ones if it has none. Else the
-    // status: `CLOSED`, it holds no decoder; `FINISHED`, the stream has ended.
-    fn opened<'a>(&self, spare: &'a Option<Tables>) -> Result<Decoder<'a>, u8>
-        requires { IsSpare self.now.tables.tables spare.now }
+    // The decoder that it holds, over these tables: its own, or such with no index if it has none.
+    // Else the status: `CLOSED`, it holds no decoder; `FINISHED`, the stream has ended.
+    fn opened<'a>(&self, tables: &'a Tables) -> Result<Decoder<'a>, u8>
+        requires { tables.now ≡ held_lists self.now.tables.tables }
         ensures { MatchResult result (λ d. GoesOnFrom self.now (decoder_view d))
             (λ status. TellsWhyNot self.now status) }
     {
@@ -54,7 +54,7 @@ impl DecoderHandle {
         if saved.is_finished {
             return Err(FINISHED);
         }
-        Ok(Decoder::resumed(saved, self.tables.or(spare)))
+        Ok(Decoder::resumed(saved, tables))
     }
 
     // Keeps a decoder, which was made from its tables, in place of what it held.
@@ -110,8 +110,26 @@ pub extern "C" fn jillapun_decoder_new(
     let Some(mark) = mark_of(mark) else {
         return UNKNOWN;
     };
-    let spare = tables.spare(alloc);
-    let lists = tables.or(&spare);
+    if let Some(lists) = tables.lent() {
+        return new_over(tables, lists, encoding, mark, out);
+    }
+    let none = no_tables(alloc);
+    new_over(tables, &none, encoding, mark, out)
+}
+
+// Makes a decoder over these tables: those of the handle, or such with no index if it has none.
+fn new_over(
+    tables: TablesHandle,
+    lists: &Tables,
+    encoding: Encoding,
+    mark: Mark,
+    out: &mut DecoderHandle,
+) -> u8
+    requires { lists.now ≡ held_lists tables.tables }
+    ensures makes { IfReady (held_lists tables.tables) encoding
+        ((result ≡ OK) × HoldsNewDecoder tables.tables encoding mark out.new) result }
+    ensures unchanged { result ≢ OK → out.new ≡ out.old }
+{
     if !encoding.is_ready(lists) {
         return NOT_READY;
     }

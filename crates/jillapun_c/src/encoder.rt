@@ -37,8 +37,7 @@ pub extern "C" fn jillapun_encoder_new(
     let Some(encoding) = encoding_of(encoding) else {
         return UNKNOWN;
     };
-    let spare = tables.spare(alloc);
-    if !encoding.output_encoding().is_ready(tables.or(&spare)) {
+    if !tables.is_ready(alloc, encoding.output_encoding()) {
         return NOT_READY;
     }
     *out = EncoderHandle::of_new(tables, encoding);

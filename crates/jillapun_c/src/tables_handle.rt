@@ -1,14 +1,16 @@
 //! Loaded tables, as C holds them.
 
-ghost use Rattle.std.specs.Prelude.{◌≡◌, MatchOption};
+ghost use Rattle.std.specs.Prelude.{◌≡◌, ◌↔◌, IsTrue, MatchOption};
 ghost use Rattle.std.specs.Coded.{coded_option};
 ghost use Rattle.std.specs.declared.option.Option.{Option};
 ghost use Rattle.std.specs.declared.option.Option.TheVariants.{None, Some};
 ghost use Rattle.encoding_tables.specs.IndexLists.{IndexLists};
 ghost use Rattle.encoding_tables.specs.contracts.tables.Tables.{the_row};
-ghost use Rattle.jillapun_c.specs.HeldTables.{IsSpare, held_lists};
+ghost use Rattle.encoding_front.specs.Encodings.{IsReady};
+ghost use Rattle.jillapun_c.specs.HeldTables.{held_lists, no_lists};
 ghost use Rattle.jillapun_c.specs.Ownership.{tables_handle_owns};
 
+use encoding_front::Encoding;
 use encoding_tables::Tables;
 use std::alloc::Global;
 use std::marker::Model;
@@ -66,29 +68,6 @@ impl TablesHandle {
         }
     }
 
-    /// Tables with no index, which take no memory, if it holds none: `or` falls back on them. They
-    /// are some kilobytes of the stack, which a call with tables does not touch.
-    pub(crate) fn spare(&self, alloc: Global) -> Option<Tables>
-        ensures { IsSpare self.now.tables result }
-    {
-        match self.lent() {
-            Some(_) => None,
-            None => Some(Tables::new(alloc)),
-        }
-    }
-
-    /// The tables that it holds, and the spare ones if it holds none.
-    pub(crate) fn or<'a>(&self, spare: &'a Option<Tables>) -> &'a Tables
-        requires { IsSpare self.now.tables spare.now }
-        ensures { result.now ≡ held_lists self.now.tables }
-    {
-        match (self.lent(), spare) {
-            (Some(tables), _) => tables,
-            (None, Some(none)) => none,
-            (None, None) => unreachable!(),
-        }
-    }
-
     /// The tables that it holds.
     pub(crate) fn get(self) -> Option<&'static Tables>
         ensures { MatchOption result (self.tables ≡ None) (λ t. self.tables ≡ Some t.now) }
@@ -110,10 +89,28 @@ impl TablesHandle {
         }
     }
 
+    /// Whether it has each index that an encoding needs, which may be none.
+    pub(crate) fn is_ready(&self, alloc: Global, encoding: Encoding) -> bool
+        ensures { IsTrue result ↔ IsReady (held_lists self.now.tables) encoding }
+    {
+        match self.lent() {
+            Some(tables) => encoding.is_ready(tables),
+            None => encoding.is_ready(&no_tables(alloc)),
+        }
+    }
+
     /// The tables that it holds, where it cannot be moved.
     pub(crate) fn lent(&self) -> Option<&'static Tables>
         ensures { MatchOption result (self.now.tables ≡ None) (λ t. self.now.tables ≡ Some t.now) }
     {
         self.copied().get()
     }
+}
+
+/// Tables with no index, which take no memory: for a coder that needs none. They are some kilobytes
+/// of the stack, so they are made for a handle without tables alone.
+pub(crate) fn no_tables(alloc: Global) -> Tables
+    ensures { result ≡ no_lists }
+{
+    Tables::new(alloc)
 }

@@ -5,6 +5,7 @@ ghost use Rattle.encoding_mem.specs.declared.codec.room.OutputUnit.TheVariants.{
 ghost use Rattle.encoding_mem.specs.declared.codec.room.OutputUnit.TheVariants.{Replaced};
 ghost use Rattle.encoding_front.specs.EncodingTable.{number_of};
 ghost use Rattle.encoding_front.specs.calls.Stream.{DecoderView};
+ghost use Rattle.jillapun_c.specs.HeldTables.{held_lists};
 ghost use Rattle.jillapun_c.specs.DecoderCalls.{AnswersDecoder, AsksRoom, HoldsOne, TellsIfKnown};
 ghost use Rattle.jillapun_c.specs.HeldDecoders.{saved_in};
 ghost use Rattle.jillapun_c.specs.declared.status.TheConstants.{NO_ENCODING, OK};
@@ -12,7 +13,9 @@ ghost use Rattle.jillapun_c.specs.declared.status.TheConstants.{NO_ENCODING, OK}
 use crate::decoder::DecoderHandle;
 use crate::encoding_number::number_of;
 use crate::status::{NO_ENCODING, OK, REFUSED};
+use crate::tables_handle::no_tables;
 use encoding_mem::room::OutputUnit;
+use encoding_tables::Tables;
 use std::alloc::Global;
 
 /// The number of the encoding in force: the one that the decoder was made for, or that of the byte
@@ -98,9 +101,23 @@ pub extern "C" fn jillapun_decoder_latin1_byte_compatible_up_to(
         (λ v. TellsIfKnown v bytes.now length.new) }
     ensures nothing { result ≢ OK → length.new ≡ 0 }
 {
+    if let Some(tables) = decoder.tables.lent() {
+        return latin1_length(decoder, tables, bytes, length);
+    }
+    let none = no_tables(alloc);
+    latin1_length(decoder, &none, bytes, length)
+}
+
+// Tells how many bytes are their own characters in Latin1. The tables are
+// those of the handle, or have no index if it has none.
+fn latin1_length(decoder: &DecoderHandle, tables: &Tables, bytes: &[u8], length: &mut usize) -> u8
+    requires { tables.now ≡ held_lists decoder.now.tables.tables }
+    ensures tells { AnswersDecoder decoder.now result
+        (λ v. TellsIfKnown v bytes.now length.new) }
+    ensures nothing { result ≢ OK → length.new ≡ 0 }
+{
     *length = 0;
-    let spare = decoder.tables.spare(alloc);
-    let opened = match decoder.opened(&spare) {
+    let opened = match decoder.opened(tables) {
         Ok(opened) => opened,
         Err(status) => return status,
     };

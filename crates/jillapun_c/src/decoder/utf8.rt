@@ -4,6 +4,7 @@ ghost use Rattle.std.specs.Prelude.{◌≡◌, ◌≢◌, drop, length, encode_u
 ghost use Rattle.encoding_mem.specs.calls.Writing.{Adds};
 ghost use Rattle.encoding_mem.specs.declared.codec.room.OutputUnit.TheVariants.{Bytes, Replaced};
 ghost use Rattle.encoding_front.specs.calls.DecoderCall.{free_bytes};
+ghost use Rattle.jillapun_c.specs.HeldTables.{held_lists};
 ghost use Rattle.jillapun_c.specs.DecoderCalls.{AnswersDecoder, Decodes, DecodesUpToFault};
 ghost use Rattle.jillapun_c.specs.declared.progress.TheConstants.Progress.{NONE};
 ghost use Rattle.jillapun_c.specs.declared.status.TheConstants.{OK};
@@ -11,6 +12,8 @@ ghost use Rattle.jillapun_c.specs.declared.status.TheConstants.{OK};
 use crate::decoder::DecoderHandle;
 use crate::progress::{Progress, outcome_of, part_outcome_of};
 use crate::status::OK;
+use crate::tables_handle::no_tables;
+use encoding_tables::Tables;
 use std::alloc::Global;
 
 /// Decodes the next bytes of a stream to UTF-8, with U+FFFD for each malformed sequence. `last`
@@ -41,9 +44,34 @@ pub extern "C" fn jillapun_decoder_decode_to_utf8(
     ensures nothing { result ≢ OK → progress.new ≡ NONE }
     ensures tables { decoder.new.tables.tables ≡ decoder.old.tables.tables }
 {
+    if let Some(tables) = decoder.tables.lent() {
+        return to_utf8(decoder, tables, src, dst, last, progress);
+    }
+    let none = no_tables(alloc);
+    to_utf8(decoder, &none, src, dst, last, progress)
+}
+
+// Decodes to UTF-8. The tables are
+// those of the handle, or have no index if it has none.
+fn to_utf8(
+    decoder: &mut DecoderHandle,
+    tables: &Tables,
+    src: &[u8],
+    dst: &mut [u8],
+    last: bool,
+    progress: &mut Progress,
+) -> u8
+    requires { tables.now ≡ held_lists decoder.old.tables.tables }
+    ensures decodes { AnswersDecoder decoder.old result
+        (λ v. Decodes Replaced v decoder.new src.now last
+        (λ text. Adds dst.old 0 (encode_utf8_all text) dst.new progress.new.written)
+        (length dst.old) (free_bytes (length (drop progress.new.written dst.new))) progress.new) }
+    ensures unchanged { result ≢ OK → (dst.new ≡ dst.old) × (decoder.new ≡ decoder.old) }
+    ensures nothing { result ≢ OK → progress.new ≡ NONE }
+    ensures tables { decoder.new.tables.tables ≡ decoder.old.tables.tables }
+{
     *progress = Progress::NONE;
-    let spare = decoder.tables.spare(alloc);
-    let mut opened = match decoder.opened(&spare) {
+    let mut opened = match decoder.opened(tables) {
         Ok(opened) => opened,
         Err(status) => return status,
     };
@@ -91,9 +119,34 @@ pub extern "C" fn jillapun_decoder_decode_to_utf8_without_replacement(
     ensures nothing { result ≢ OK → progress.new ≡ NONE }
     ensures tables { decoder.new.tables.tables ≡ decoder.old.tables.tables }
 {
+    if let Some(tables) = decoder.tables.lent() {
+        return to_utf8_part(decoder, tables, src, dst, last, progress);
+    }
+    let none = no_tables(alloc);
+    to_utf8_part(decoder, &none, src, dst, last, progress)
+}
+
+// Decodes to UTF-8 up to the first malformed sequence. The tables are
+// those of the handle, or have no index if it has none.
+fn to_utf8_part(
+    decoder: &mut DecoderHandle,
+    tables: &Tables,
+    src: &[u8],
+    dst: &mut [u8],
+    last: bool,
+    progress: &mut Progress,
+) -> u8
+    requires { tables.now ≡ held_lists decoder.old.tables.tables }
+    ensures decodes { AnswersDecoder decoder.old result
+        (λ v. DecodesUpToFault Bytes v decoder.new src.now last
+        (λ text. Adds dst.old 0 (encode_utf8_all text) dst.new progress.new.written)
+        (length dst.old) (free_bytes (length (drop progress.new.written dst.new))) progress.new) }
+    ensures unchanged { result ≢ OK → (dst.new ≡ dst.old) × (decoder.new ≡ decoder.old) }
+    ensures nothing { result ≢ OK → progress.new ≡ NONE }
+    ensures tables { decoder.new.tables.tables ≡ decoder.old.tables.tables }
+{
     *progress = Progress::NONE;
-    let spare = decoder.tables.spare(alloc);
-    let mut opened = match decoder.opened(&spare) {
+    let mut opened = match decoder.opened(tables) {
         Ok(opened) => opened,
         Err(status) => return status,
     };

@@ -27,7 +27,7 @@ impl EncoderHandle {
     ghost use Rattle.encoding_front.specs.calls.Encoder.{new_state};
     ghost use Rattle.jillapun_c.specs.Coders.{encoder_in};
     ghost use Rattle.jillapun_c.specs.EncoderWords.{GoesOnAs};
-    ghost use Rattle.jillapun_c.specs.HeldTables.{IsSpare, held_lists};
+    ghost use Rattle.jillapun_c.specs.HeldTables.{held_lists};
 
     /// One that holds nothing.
     pub(crate) fn none() -> EncoderHandle
@@ -51,14 +51,14 @@ impl EncoderHandle {
         EncoderHandle { tables, words }
     }
 
-    /// The encoder that it holds, as one that goes on, over its tables, or over the spare ones if
-    /// it has none.
-    pub(crate) fn opened<'a>(&self, spare: &'a Option<Tables>) -> Option<Encoder<'a>>
-        requires { IsSpare self.now.tables.tables spare.now }
+    /// The encoder that it holds, as one that goes on, over these tables: its own, or such with no
+    /// index if it has none.
+    pub(crate) fn opened<'a>(&self, tables: &'a Tables) -> Option<Encoder<'a>>
+        requires { tables.now ≡ held_lists self.now.tables.tables }
         ensures { result ≡ encoder_in self.now }
     {
         let saved = self.words.saved()?;
-        Some(Encoder::resumed(saved, self.tables.or(spare)))
+        Some(Encoder::resumed(saved, tables))
     }
 
     /// Keeps what a call has left of the encoder that it holds.

@@ -5,6 +5,7 @@ ghost use Rattle.std.specs.Str.{IsUtf8, chars};
 ghost use Rattle.encoding_mem.specs.Conversions.{text_prefix};
 ghost use Rattle.encoding_front.specs.calls.Encoder.{ReadsText};
 ghost use Rattle.jillapun_c.specs.Coders.{encoder_in};
+ghost use Rattle.jillapun_c.specs.HeldTables.{held_lists};
 ghost use Rattle.jillapun_c.specs.EncoderCalls.{AnswersEncoder, EncodesAll, EncodesUpToLost};
 ghost use Rattle.jillapun_c.specs.TextParts.{BeginsMalformed, IsToldOfPart};
 ghost use Rattle.jillapun_c.specs.declared.encoder_progress.TheConstants.EncoderProgress.{NONE};
@@ -15,6 +16,8 @@ use crate::encoder::part::{first_part, most_read};
 use crate::encoder_progress::{EncoderProgress, encoder_outcome_of, told_outcome};
 use crate::progress::outcome_of;
 use crate::status::{CLOSED, NOT_UTF8, OK};
+use crate::tables_handle::no_tables;
+use encoding_tables::Tables;
 use std::alloc::Global;
 
 /// Encodes the next part of a text in UTF-8, with the decimal reference (`&#8364;`) of each
@@ -57,13 +60,43 @@ pub extern "C" fn jillapun_encoder_encode_from_utf8(
     ensures unchanged { result ≢ OK → (dst.new ≡ dst.old) × (encoder.new ≡ encoder.old) }
     ensures nothing { result ≢ OK → progress.new ≡ NONE }
 {
+    if let Some(tables) = encoder.tables.lent() {
+        return from_utf8(encoder, tables, text, dst, last, progress);
+    }
+    let none = no_tables(alloc);
+    from_utf8(encoder, &none, text, dst, last, progress)
+}
+
+// Encodes UTF-8. The tables are
+// those of the handle, or have no index if it has none.
+fn from_utf8(
+    encoder: &mut EncoderHandle,
+    tables: &Tables,
+    text: &[u8],
+    dst: &mut [u8],
+    last: bool,
+    progress: &mut EncoderProgress,
+) -> u8
+    requires { tables.now ≡ held_lists encoder.old.tables.tables }
+    ensures malformed { BeginsMalformed text.now → result ≡ NOT_UTF8 }
+    ensures encodes { IsUtf8 text.now → AnswersEncoder (encoder_in encoder.old) result
+        (λ e. EncodesAll false e (encoder_in encoder.new) last (chars text.now)
+        (chars (drop progress.new.read text.now)) (length text.now) dst.old dst.new progress.new) }
+    ensures encodes_before { ¬ (IsUtf8 text.now) → text_prefix text.now ≢ []
+        → AnswersEncoder (encoder_in encoder.old) result (λ e. IsToldOfPart false progress.new
+        (EncodesAll false e (encoder_in encoder.new) false (chars (text_prefix text.now))
+        (chars (drop progress.new.read (text_prefix text.now))) (length (text_prefix text.now))
+        dst.old dst.new)) }
+    ensures read { result ≡ OK → ReadsText (text_prefix text.now) progress.new.read }
+    ensures unchanged { result ≢ OK → (dst.new ≡ dst.old) × (encoder.new ≡ encoder.old) }
+    ensures nothing { result ≢ OK → progress.new ≡ NONE }
+{
     *progress = EncoderProgress::NONE;
     let most = most_read(encoder, dst.len());
     let Some((part, is_whole)) = first_part(text, most) else {
         return NOT_UTF8;
     };
-    let spare = encoder.tables.spare(alloc);
-    let Some(mut opened) = encoder.opened(&spare) else {
+    let Some(mut opened) = encoder.opened(tables) else {
         return CLOSED;
     };
     let is_last = last & is_whole;
@@ -119,13 +152,43 @@ pub extern "C" fn jillapun_encoder_encode_from_utf8_without_replacement(
     ensures unchanged { result ≢ OK → (dst.new ≡ dst.old) × (encoder.new ≡ encoder.old) }
     ensures nothing { result ≢ OK → progress.new ≡ NONE }
 {
+    if let Some(tables) = encoder.tables.lent() {
+        return from_utf8_part(encoder, tables, text, dst, last, progress);
+    }
+    let none = no_tables(alloc);
+    from_utf8_part(encoder, &none, text, dst, last, progress)
+}
+
+// Encodes UTF-8 up to the first character without bytes. The tables are
+// those of the handle, or have no index if it has none.
+fn from_utf8_part(
+    encoder: &mut EncoderHandle,
+    tables: &Tables,
+    text: &[u8],
+    dst: &mut [u8],
+    last: bool,
+    progress: &mut EncoderProgress,
+) -> u8
+    requires { tables.now ≡ held_lists encoder.old.tables.tables }
+    ensures malformed { BeginsMalformed text.now → result ≡ NOT_UTF8 }
+    ensures encodes { IsUtf8 text.now → AnswersEncoder (encoder_in encoder.old) result
+        (λ e. EncodesUpToLost false e (encoder_in encoder.new) last (chars text.now)
+        (chars (drop progress.new.read text.now)) (length text.now) dst.old dst.new progress.new) }
+    ensures encodes_before { ¬ (IsUtf8 text.now) → text_prefix text.now ≢ []
+        → AnswersEncoder (encoder_in encoder.old) result (λ e. IsToldOfPart false progress.new
+        (EncodesUpToLost false e (encoder_in encoder.new) false (chars (text_prefix text.now))
+        (chars (drop progress.new.read (text_prefix text.now))) (length (text_prefix text.now))
+        dst.old dst.new)) }
+    ensures read { result ≡ OK → ReadsText (text_prefix text.now) progress.new.read }
+    ensures unchanged { result ≢ OK → (dst.new ≡ dst.old) × (encoder.new ≡ encoder.old) }
+    ensures nothing { result ≢ OK → progress.new ≡ NONE }
+{
     *progress = EncoderProgress::NONE;
     let most = most_read(encoder, dst.len());
     let Some((part, is_whole)) = first_part(text, most) else {
         return NOT_UTF8;
     };
-    let spare = encoder.tables.spare(alloc);
-    let Some(mut opened) = encoder.opened(&spare) else {
+    let Some(mut opened) = encoder.opened(tables) else {
         return CLOSED;
     };
     let is_last = last & is_whole;

@@ -10,8 +10,8 @@ pub returns-then-saved : goal.returns-then-saved
 returns-then-saved c = finished_why c.args.self.now c.in-Some.saved (sym c.in-Some.ensures) c.if-saved.true
 
 pub resumed-requires : goal.resumed-requires
-resumed-requires c = rw c.or.ensures (some_held c.args.self.now c.in-Some.saved (sym c.in-Some.ensures))
+resumed-requires c = rw c.requires (some_held c.args.self.now c.in-Some.saved (sym c.in-Some.ensures))
 
 pub returns : goal.returns
 returns c =
-    goes_on c.args.self.now c.in-Some.saved c.or.result.now (decoder_view c.resumed.result) (sym c.in-Some.ensures) c.if-saved.false c.or.ensures c.resumed.ensures.alike c.resumed.ensures.made
+    goes_on c.args.self.now c.in-Some.saved c.args.tables.now (decoder_view c.resumed.result) (sym c.in-Some.ensures) c.if-saved.false c.requires c.resumed.ensures.alike c.resumed.ensures.made
