@@ -18,8 +18,8 @@
  * `{}`), and is filled by a function with `_new` in its name. Its members are left alone: nothing
  * but calls of this library writes to them. A converter has memory of its own: it is emptied by
  * `jillapun_converter_free`, and never copied. Tables, decoders and encoders have nothing to free.
- * They may be moved, and copied within the process: a copy of a decoder or an encoder goes on by
- * itself from where the stream was. Two threads may use two handles at once, but not the same one,
+ * They may be moved, and copied within the process: a copy of a decoder or an encoder is at the same
+ * place of its stream, and independent of the original. Two threads may use two handles at once, but not the same one,
  * unless its type says that they may. A call that takes a handle by a pointer to `const` writes
  * nothing to it: any number of such calls may be made with one handle at once, while no other call
  * is, and nothing else writes to it.
@@ -80,7 +80,7 @@ enum {
     JILLAPUN_NO_MEMORY = 5,
     /** The handle holds nothing: it is zeroed, or was freed. Nothing was done. */
     JILLAPUN_CLOSED = 6,
-    /** The handle that is to be filled holds something already: free it first. Nothing was done. */
+    /** The handle that is to be filled holds something already. Nothing was done. */
     JILLAPUN_IN_USE = 7,
     /** The stream has ended: an earlier call was the last. Nothing was read or written. */
     JILLAPUN_FINISHED = 8,
@@ -312,9 +312,9 @@ typedef struct {
 /**
  * A decoder of a stream. Begin with `{0}`, which holds none; `jillapun_decoder_new` fills it.
  * All that it keeps stands in it: it may be moved, a copy is a decoder of its own that goes on
- * from here, and nothing has to be freed. What a call of this library did not write into it, or
- * into what it was copied from, is no decoder. Calls that take a `const` one may be made by any
- * number of threads at once, and others by one thread at a time.
+ * from here, and nothing has to be freed. Nothing but this library, or a copy of what it wrote,
+ * may be written into it. Calls that take a `const` one may be made by any number of threads at
+ * once, and others by one thread at a time.
  *
  * It takes 40 bytes.
  */
@@ -351,10 +351,10 @@ typedef struct {
 
 /**
  * An encoder of a stream. Begin with `{0}`, which holds none; `jillapun_encoder_new` fills it.
- *
- * It is plain words: it may be moved, there is nothing to free, and a copy goes on from where
- * it was copied. Calls that take a `const` one may be made by any number of threads at once,
- * and others by one thread at a time.
+ * All that it keeps stands in it: it may be moved, a copy is an encoder of its own that goes on
+ * from here, and nothing has to be freed. Nothing but this library, or a copy of what it wrote,
+ * may be written into it. Calls that take a `const` one may be made by any number of threads at
+ * once, and others by one thread at a time.
  *
  * It takes 24 bytes.
  */
@@ -461,7 +461,7 @@ typedef struct {
     bool wants_room;
 } jillapun_converter_progress;
 
-/* The sizes of the handles, which the library was built with. */
+/* A caller lays out handles as the library does: so these are their sizes. */
 #if defined(__cplusplus) && __cplusplus >= 201103L
 static_assert(sizeof(jillapun_tables) == 16, "the size of jillapun_tables");
 static_assert(sizeof(jillapun_decoder) == 40, "the size of jillapun_decoder");
@@ -752,12 +752,12 @@ uint8_t jillapun_decoder_decode_to_utf8_without_replacement(jillapun_decoder *de
 
 /**
  * Makes an encoder of a new stream into the output encoding of the one with this number (the
- * Encoding Standard, section 4.3), in the place of what `out` holds. Tables `{0}` have no
- * index, and do for an output encoding that needs none.
+ * Encoding Standard, section 4.3). `tables` may be `{0}` if the output encoding needs no index.
+ * What `out` held is overwritten.
  *
- * Returns `JILLAPUN_OK`, and `out` holds the encoder. Else `out` is as it was:
- * `JILLAPUN_UNKNOWN`, no encoding has the number; `JILLAPUN_NOT_READY`, the tables lack an
- * index of the output encoding.
+ * Returns `JILLAPUN_OK`, and `out` holds the encoder. Else nothing is made, and `out` stays as
+ * it is: `JILLAPUN_UNKNOWN`, no encoding has the number; `JILLAPUN_NOT_READY`, the tables lack
+ * an index of the output encoding, or there are none and it needs one.
  */
 uint8_t jillapun_encoder_new(jillapun_tables tables, uint8_t encoding, jillapun_encoder *out);
 

@@ -74,8 +74,8 @@ HEAD = """/*
  * `{}`), and is filled by a function with `_new` in its name. Its members are left alone: nothing
  * but calls of this library writes to them. A converter has memory of its own: it is emptied by
  * `jillapun_converter_free`, and never copied. Tables, decoders and encoders have nothing to free.
- * They may be moved, and copied within the process: a copy of a decoder or an encoder goes on by
- * itself from where the stream was. Two threads may use two handles at once, but not the same one,
+ * They may be moved, and copied within the process: a copy of a decoder or an encoder is at the same
+ * place of its stream, and independent of the original. Two threads may use two handles at once, but not the same one,
  * unless its type says that they may. A call that takes a handle by a pointer to `const` writes
  * nothing to it: any number of such calls may be made with one handle at once, while no other call
  * is, and nothing else writes to it.
@@ -294,7 +294,7 @@ class Header:
     def sizes(self):
         """Assertions that handles are as large as the library takes them to be, for compilers that have some."""
         handles = [(struct.name, self.layout(struct)[0]) for struct, _ in self.declared if struct.is_handle]
-        lines = ["/* The sizes of the handles, which the library was built with. */"]
+        lines = ["/* A caller lays out handles as the library does: so these are their sizes. */"]
         for test, word in (("if defined(__cplusplus) && __cplusplus >= 201103L", "static_assert"),
                            ("elif defined(__STDC_VERSION__) && __STDC_VERSION__ >= 201112L", "_Static_assert")):  # fmt: skip
             lines.append("#" + test)

@@ -1,7 +1,5 @@
 -- What the words of a handle keep of an encoder.
-use mathlib.Core.HLevel.{×_prop, Unit-prop}
-use mathlib.Core.Bool.{Bool-set}
-use Rattle.std.proofs.Common.{◌≡◌, ℕ, inl, inr, true, List, [], ◌∷◌, Option, Some, None, refl, sym, ◌∙◌, ap, subst}
+use Rattle.std.proofs.Common.{◌≡◌, ℕ, inl, inr, true, Option, Some, None, refl, sym, ◌∙◌, ap, subst}
 use Rattle.std.proofs.Math.Logic.{∥∥₁_elim, ∥∥₁_map}
 use Rattle.std.proofs.Props.{props}
 use Rattle.std.specs.Prelude.{IfSome, IsSomeAnd, option_map}
@@ -10,9 +8,8 @@ use Rattle.encoding_mem.specs.calls.EncoderRule.{Moves}
 use Rattle.encoding_mem.specs.declared.codec.form.EscapeState.{EscapeState}
 use Rattle.encoding_mem.specs.declared.codec.form.EscapeState.TheVariants.{Ascii}
 use Rattle.encoding_tables.specs.IndexLists.{IndexLists}
-use Rattle.encoding_tables.specs.declared.index_kind.IndexKind.{IndexKind}
 use Rattle.encoding_front.specs.EncodingTable.{number_of}
-use Rattle.encoding_front.specs.Encodings.{AreThere, IsReady, output_encoding_of}
+use Rattle.encoding_front.specs.Encodings.{IsReady, output_encoding_of}
 use Rattle.encoding_front.specs.calls.Encoder.{EncoderState, coding_in, new_state}
 use Rattle.encoding_front.specs.calls.SavedEncoders.{saved_of}
 use Rattle.encoding_front.specs.laws.Encoder.{output_twice}
@@ -21,14 +18,11 @@ use Rattle.encoding_front.specs.declared.encoding.Encoding.{Encoding}
 use Rattle.jillapun_c.specs.EncoderCalls.{AnswersEncoder, MakesEncoder}
 use Rattle.jillapun_c.specs.EncoderWords.{AreSoundWords, GoesOnAs, IsSoundEncoder, encoder_of, saved_encoder_in, saved_with, set_at, state_with}
 use Rattle.jillapun_c.specs.EncodingNumbers.{encoding_at}
+use Rattle.encoding_front.specs.laws.Ready.{AreThere-prop}
 use Rattle.jillapun_c.specs.HeldTables.{held_lists}
 use Rattle.jillapun_c.specs.declared.encoder.words.EncoderWords.{EncoderWords}
 use Rattle.jillapun_c.specs.declared.status.TheConstants.{CLOSED, NOT_READY, OK}
 use Rattle.jillapun_c.proofs.EncodingNumberLemmas.{found_at, same_some}
-
-AreThere-prop : (t : IndexLists) (kinds : List IndexKind) → IsProp (AreThere t kinds)
-AreThere-prop t [] = Unit-prop
-AreThere-prop t (kind ∷ kinds) = ×_prop (Bool-set _ _) (AreThere-prop t kinds)
 
 -- calls that come from ASCII to a set, and from that to another, come from ASCII to the other
 moves_on : (e : Coding) (s s' : EscapeState) → Moves e Ascii s → Moves e s s' → Moves e Ascii s'

@@ -29,8 +29,7 @@ use Rattle.encoding_front.specs.laws.SavedDecoders.{call_alike, text_alike}
 use Rattle.encoding_front.specs.laws.Stream.{held_taken}
 use Rattle.jillapun_c.proofs.EncodingNumberLemmas.{same_some}
 use Rattle.jillapun_c.specs.Openings.{IfReady}
-use Rattle.jillapun_c.specs.DecoderCalls.{AnswersDecoder, AsksRoom, Decodes, DecodesUpToFault, GoesOnFrom, HoldsNewDecoder, HoldsOne, IsOutcome, MakesDecoder, TellsIfKnown, TellsWhyNot, text_outcome}
-use Rattle.jillapun_c.specs.EncodingNumbers.{encoding_at, mark_at}
+use Rattle.jillapun_c.specs.DecoderCalls.{AnswersDecoder, AsksRoom, Decodes, DecodesUpToFault, GoesOnFrom, HoldsNewDecoder, HoldsOne, IsOutcome, TellsIfKnown, TellsWhyNot, text_outcome}
 use Rattle.jillapun_c.specs.HeldDecoders.{HoldsDecoder, IsSoundDecoder, number_of_taken, saved_in, taken_at}
 use Rattle.jillapun_c.specs.HeldTables.{held_lists}
 use Rattle.jillapun_c.specs.declared.decoder.handle.DecoderHandle.{DecoderHandle}

@@ -105,4 +105,4 @@ MakesConverter new status j = ((status ≡ OK) × HoldsNewConverter j new) ⊎ (
 -- a converter is made of the job that the numbers of a call ask for, unless the handle holds something already
 abbrev pub OpensConverter : (held : Option Converter) (tables : Option IndexLists) (from to mark policy limit : ℕ) (new : Option Converter) (status : ℕ) → Type 0
 OpensConverter held tables from to mark policy limit new status =
-    MatchOption held (IfAsked tables from to mark policy limit (MakesConverter new status) status) (λ coder. status ≡ IN_USE)
+    MatchOption held (IfAsked tables from to mark policy limit (MakesConverter new status) status) (λ converter. status ≡ IN_USE)

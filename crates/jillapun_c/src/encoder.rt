@@ -19,11 +19,12 @@ use crate::tables_handle::TablesHandle;
 use std::alloc::Global;
 
 /// Makes an encoder of a new stream into the output encoding of the one with this number (the
-/// Encoding Standard, section 4.3), in the place of what `out` holds. Tables `{0}` have no index,
-/// and do for an output encoding that needs none.
+/// Encoding Standard, section 4.3). `tables` may be `{0}` if the output encoding needs no index.
+/// What `out` held is overwritten.
 ///
-/// Returns `OK`, and `out` holds the encoder. Else `out` is as it was: `UNKNOWN`, no encoding has
-/// the number; `NOT_READY`, the tables lack an index of the output encoding.
+/// Returns `OK`, and `out` holds the encoder. Else nothing is made, and `out` stays as it is:
+/// `UNKNOWN`, no encoding has the number; `NOT_READY`, the tables lack an index of the output
+/// encoding, or there are none and it needs one.
 #[unsafe(no_mangle)]
 pub extern "C" fn jillapun_encoder_new(
     alloc: Global,

@@ -19,7 +19,7 @@ pub const BAD_INDEX: u8 = 4;
 pub const NO_MEMORY: u8 = 5;
 /// The handle holds nothing: it is zeroed, or was freed. Nothing was done.
 pub const CLOSED: u8 = 6;
-/// The handle that is to be filled holds something already: free it first. Nothing was done.
+/// The handle that is to be filled holds something already. Nothing was done.
 pub const IN_USE: u8 = 7;
 /// The stream has ended: an earlier call was the last. Nothing was read or written.
 pub const FINISHED: u8 = 8;

@@ -108,7 +108,7 @@ impl TablesHandle {
 }
 
 /// Tables with no index, which take no memory: for a coder that needs none. They are some kilobytes
-/// of the stack, so they are made for a handle without tables alone.
+/// of the stack, so they are filled for a handle without tables alone.
 pub(crate) fn no_tables(alloc: Global) -> Tables
     ensures { result ≡ no_lists }
 {

@@ -8,8 +8,8 @@ use crate::tables_handle::TablesHandle;
 
 /// A decoder of a stream. Begin with `{0}`, which holds none; `jillapun_decoder_new` fills it. All
 /// that it keeps stands in it: it may be moved, a copy is a decoder of its own that goes on from
-/// here, and nothing has to be freed. What a call of this library did not write into it, or into
-/// what it was copied from, is no decoder.
+/// here, and nothing has to be freed. Nothing but this library, or a copy of what it wrote, may be
+/// written into it.
 /// Calls that take a `const` one may be made by any number of threads at once, and others by one
 /// thread at a time.
 #[repr(C)]
@@ -17,7 +17,7 @@ use crate::tables_handle::TablesHandle;
 pub struct DecoderHandle {
     pub tables: TablesHandle,
     pub(crate) words: DecoderWords,
-    ghost sound: { IsSoundDecoder tables.tables words },
+    pub ghost sound: { IsSoundDecoder tables.tables words },
 }
 
 impl DecoderHandle {

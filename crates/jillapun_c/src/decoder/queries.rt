@@ -108,8 +108,8 @@ pub extern "C" fn jillapun_decoder_latin1_byte_compatible_up_to(
     latin1_length(decoder, &none, bytes, length)
 }
 
-// Tells how many bytes are their own characters in Latin1. The tables are
-// those of the handle, or have no index if it has none.
+// Tells how many bytes are their own characters in Latin1. If the
+// handle holds no tables, `tables` has no index.
 fn latin1_length(decoder: &DecoderHandle, tables: &Tables, bytes: &[u8], length: &mut usize) -> u8
     requires { tables.now ≡ held_lists decoder.now.tables.tables }
     ensures tells { AnswersDecoder decoder.now result

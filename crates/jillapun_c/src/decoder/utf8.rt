@@ -51,8 +51,8 @@ pub extern "C" fn jillapun_decoder_decode_to_utf8(
     to_utf8(decoder, &none, src, dst, last, progress)
 }
 
-// Decodes to UTF-8. The tables are
-// those of the handle, or have no index if it has none.
+// Decodes to UTF-8, with U+FFFD for each malformed sequence. If the
+// handle holds no tables, `tables` has no index.
 fn to_utf8(
     decoder: &mut DecoderHandle,
     tables: &Tables,
@@ -126,8 +126,8 @@ pub extern "C" fn jillapun_decoder_decode_to_utf8_without_replacement(
     to_utf8_part(decoder, &none, src, dst, last, progress)
 }
 
-// Decodes to UTF-8 up to the first malformed sequence. The tables are
-// those of the handle, or have no index if it has none.
+// Decodes to UTF-8 up to the first malformed sequence. If the
+// handle holds no tables, `tables` has no index.
 fn to_utf8_part(
     decoder: &mut DecoderHandle,
     tables: &Tables,

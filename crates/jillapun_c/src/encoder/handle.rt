@@ -8,11 +8,12 @@ use encoding_front::{Encoder, Encoding, SavedEncoder};
 use encoding_mem::form::EscapeState;
 use encoding_tables::Tables;
 
-/// An encoder of a stream. Begin with `{0}`, which holds none; `jillapun_encoder_new` fills it.
-///
-/// It is plain words: it may be moved, there is nothing to free, and a copy goes on from where it
-/// was copied. Calls that take a `const` one may be made by any number of threads at once, and
-/// others by one thread at a time.
+/// An encoder of a stream. Begin with `{0}`, which holds none; `jillapun_encoder_new` fills it. All
+/// that it keeps stands in it: it may be moved, a copy is an encoder of its own that goes on from
+/// here, and nothing has to be freed. Nothing but this library, or a copy of what it wrote, may be
+/// written into it.
+/// Calls that take a `const` one may be made by any number of threads at once, and others by one
+/// thread at a time.
 #[repr(C)]
 #[derive(Drop)]
 pub struct EncoderHandle {

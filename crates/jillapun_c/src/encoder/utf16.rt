@@ -52,8 +52,8 @@ pub extern "C" fn jillapun_encoder_encode_from_utf16(
     from_utf16(encoder, &none, text, dst, last, progress)
 }
 
-// Encodes UTF-16. The tables are
-// those of the handle, or have no index if it has none.
+// Encodes UTF-16, with a reference for each character without bytes. If the
+// handle holds no tables, `tables` has no index.
 fn from_utf16(
     encoder: &mut EncoderHandle,
     tables: &Tables,
@@ -126,8 +126,8 @@ pub extern "C" fn jillapun_encoder_encode_from_utf16_without_replacement(
     from_utf16_part(encoder, &none, text, dst, last, progress)
 }
 
-// Encodes UTF-16 up to the first character without bytes. The tables are
-// those of the handle, or have no index if it has none.
+// Encodes UTF-16 up to the first character without bytes. If the
+// handle holds no tables, `tables` has no index.
 fn from_utf16_part(
     encoder: &mut EncoderHandle,
     tables: &Tables,

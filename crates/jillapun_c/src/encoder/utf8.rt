@@ -67,8 +67,8 @@ pub extern "C" fn jillapun_encoder_encode_from_utf8(
     from_utf8(encoder, &none, text, dst, last, progress)
 }
 
-// Encodes UTF-8. The tables are
-// those of the handle, or have no index if it has none.
+// Encodes UTF-8, with a reference for each character without bytes. If the
+// handle holds no tables, `tables` has no index.
 fn from_utf8(
     encoder: &mut EncoderHandle,
     tables: &Tables,
@@ -159,8 +159,8 @@ pub extern "C" fn jillapun_encoder_encode_from_utf8_without_replacement(
     from_utf8_part(encoder, &none, text, dst, last, progress)
 }
 
-// Encodes UTF-8 up to the first character without bytes. The tables are
-// those of the handle, or have no index if it has none.
+// Encodes UTF-8 up to the first character without bytes. If the
+// handle holds no tables, `tables` has no index.
 fn from_utf8_part(
     encoder: &mut EncoderHandle,
     tables: &Tables,
