@@ -117,17 +117,20 @@ fn with_indexes(rt: HostRuntime) {
     );
 }
 
+// Returns whether a decoder that has ended its stream is saved as one that has.
+fn ends(tables: &Tables) -> bool {
+    let mut first = Decoder::new(UTF_8, Mark::Sniff, tables);
+    let mut room = [0; 8];
+    let (result, _, _, _) = first.decode_to_utf8(b"a", &mut room, true);
+    let second = Decoder::resumed(first.saved(), tables);
+    result == CoderResult::InputEmpty && second.is_finished()
+}
+
 // A finished decoder is saved as finished, and one of an encoding whose index is missing is not
 // made.
 #[test]
 fn finished_and_not_ready(rt: HostRuntime) {
     let tables = Tables::new(rt.alloc());
-    let mut decoder = UTF_8.new_decoder(&tables);
-    let mut room = [0; 8];
-    let answer = decoder.decode_to_utf8(b"a", &mut room, true);
-    assert_eq!(rt; answer, (CoderResult::InputEmpty, 1, 1, false));
-    let saved = decoder.saved();
-    assert!(rt; saved.encoding == UTF_8);
-    assert!(rt; Decoder::resumed(saved, &tables).is_finished());
+    assert!(rt; ends(&tables));
     assert!(rt; !goes_on(&tables, WINDOWS_1252, b"a", "a"));
 }
