@@ -1,7 +1,7 @@
 -- What some bytes show of a mark, and more bytes do not change. What a look for a mark does. The mark that a look
 -- for it finds is the one that is taken. Held bytes that are decoded before a source.
 use Rattle.std.proofs.Common.{◌≡◌, ℕ, suc, ◌+◌, ◌≤◌, ◌<◌, ◌==◌, ◌&&◌, ◌||◌, Bool, true, false, cond, List, [], ◌∷◌, ◌++◌, length, refl, arith, zero, ◌-◌, IsTrue, take, drop, sym, ◌∙◌, ap, subst, append_assoc, length-append, length-take, Some, Option, None, ◌⊎◌, inl, inr, length-drop}
-use Rattle.encoding_front.specs.calls.Seeking.{mark_len, is_sought, find_mark, find_second, find_end, mark_head, seeks, pieces_after_mark, pieces_seen, room_after_mark, sought_pieces, mark_seen, mark_taken, can_be, mark_needs, sought_needs, nothing_sought, encoding_of_mark, sought_by}
+use Rattle.encoding_front.specs.calls.Seeking.{mark_len, is_sought, find_mark, find_second, find_end, mark_head, seeks, pieces_after_mark, pieces_seen, room_after_mark, sought_pieces, can_be, mark_needs, sought_needs, nothing_sought, encoding_of_mark, sought_by, sought_encoding, encoding_seen}
 use Rattle.encoding_front.specs.declared.seeking.ByteOrderMark.{ByteOrderMark}
 use Rattle.encoding_front.specs.declared.seeking.ByteOrderMark.TheVariants.{Utf8, Utf16Be, Utf16Le}
 use Rattle.encoding_front.specs.declared.seeking.BomSet.{BomSet}
@@ -22,7 +22,7 @@ use Rattle.encoding_front.specs.Encodings.{first_mark, pieces_of}
 use Rattle.encoding_front.specs.calls.CodecBounds.{decoded_length_of}
 use Rattle.encoding_front.specs.Marks.{source_of, pieces_from, marked_pieces}
 use Rattle.encoding_mem.specs.declared.codec.room.DecodedLength.{DecodedLength}
-use Rattle.encoding_front.specs.calls.Stream.{Opening, encoding_after}
+use Rattle.encoding_front.specs.calls.Stream.{Opening}
 use Rattle.encoding_front.specs.declared.encoding.Encoding.{Encoding}
 use Rattle.encoding_front.specs.declared.mark.Mark.{Mark}
 use Rattle.encoding_mem.specs.declared.codec.decoder_result.DecoderResult.{DecoderResult}
@@ -90,15 +90,15 @@ len_some Utf16Le = (omega arith, omega arith)
 seen_is : (s : BomSet) (own : List ℕ → List Piece) (x : List ℕ) (F : BomMatch) → is_sought s ≡ true → find_mark s x ≡ F → sought_pieces s own x ≡ pieces_seen own x F
 seen_is s own x F e f = rw e (rw f refl)
 
-taken_is : (s : BomSet) (taken : Option ByteOrderMark) (x : List ℕ) (F : BomMatch) → is_sought s ≡ true → find_mark s x ≡ F → mark_taken s taken x ≡ mark_seen taken F
-taken_is s taken x F e f = rw e (rw f refl)
+named_is : (s : BomSet) (d : Encoding) (x : List ℕ) (F : BomMatch) → is_sought s ≡ true → find_mark s x ≡ F → sought_encoding s d x ≡ encoding_seen d F
+named_is s d x F e f = rw e (rw f refl)
 
 -- nothing is sought
 pub unmarked : (s : BomSet) (own : List ℕ → List Piece) (x : List ℕ) → is_sought s ≡ false → sought_pieces s own x ≡ own x
 unmarked s own x e = rw e refl
 
-pub untaken : (s : BomSet) (taken : Option ByteOrderMark) (x : List ℕ) → is_sought s ≡ false → mark_taken s taken x ≡ taken
-untaken s taken x e = rw e refl
+pub unnamed : (s : BomSet) (d : Encoding) (x : List ℕ) → is_sought s ≡ false → sought_encoding s d x ≡ d
+unnamed s d x e = rw e refl
 
 first_within : (ps : List Piece) (p : Piece) → head_piece ps ≡ Some p → piece_len p ≤ sizes ps
 first_within [] p e = cc
@@ -205,27 +205,27 @@ ended_is s own held src window r e cut_is f ends =
     let whole : held ++ (src ++ r) ≡ window = ap (λ x. held ++ (src ++ x)) ends ∙ ap (λ x. held ++ x) (append-nil src) ∙ sym all in
     seen_is s own (held ++ (src ++ r)) Prefix e (ap (find_mark s) whole ∙ f)
 
--- the mark that was taken, in each case
-pub taken_whole : (s : BomSet) (taken : Option ByteOrderMark) (held src window r : List ℕ) (m : ByteOrderMark) → is_sought s ≡ true → window ≡ take 3 (held ++ src) → find_mark s window ≡ Whole m → mark_taken s taken (held ++ (src ++ r)) ≡ Some m
-taken_whole s taken held src window r m e cut_is f =
+-- the encoding that an input turns out to be in, in each case
+pub named_whole : (s : BomSet) (d : Encoding) (held src window r : List ℕ) (m : ByteOrderMark) → is_sought s ≡ true → window ≡ take 3 (held ++ src) → find_mark s window ≡ Whole m → sought_encoding s d (held ++ (src ++ r)) ≡ encoding_of_mark m
+named_whole s d held src window r m e cut_is f =
     let sh : Shows (find_mark s) 0 window (Whole m) = subst (λ (F : BomMatch). Shows (find_mark s) 0 window F) f (shows_mark s window e) in
-    taken_is s taken (held ++ (src ++ r)) (Whole m) e (ap (find_mark s) (cut held src window r cut_is) ∙ sh.0 (drop 3 (held ++ src) ++ r))
+    named_is s d (held ++ (src ++ r)) (Whole m) e (ap (find_mark s) (cut held src window r cut_is) ∙ sh.0 (drop 3 (held ++ src) ++ r))
 
-pub taken_other : (s : BomSet) (taken : Option ByteOrderMark) (held src window r : List ℕ) → is_sought s ≡ true → window ≡ take 3 (held ++ src) → find_mark s window ≡ Other → mark_taken s taken (held ++ (src ++ r)) ≡ taken
-taken_other s taken held src window r e cut_is f =
+pub named_other : (s : BomSet) (d : Encoding) (held src window r : List ℕ) → is_sought s ≡ true → window ≡ take 3 (held ++ src) → find_mark s window ≡ Other → sought_encoding s d (held ++ (src ++ r)) ≡ d
+named_other s d held src window r e cut_is f =
     let sh : Shows (find_mark s) 0 window Other = subst (λ (F : BomMatch). Shows (find_mark s) 0 window F) f (shows_mark s window e) in
-    taken_is s taken (held ++ (src ++ r)) Other e (ap (find_mark s) (cut held src window r cut_is) ∙ sh (drop 3 (held ++ src) ++ r))
+    named_is s d (held ++ (src ++ r)) Other e (ap (find_mark s) (cut held src window r cut_is) ∙ sh (drop 3 (held ++ src) ++ r))
 
-pub taken_ended : (s : BomSet) (taken : Option ByteOrderMark) (held src window r : List ℕ) → is_sought s ≡ true → window ≡ take 3 (held ++ src) → find_mark s window ≡ Prefix → r ≡ [] → mark_taken s taken (held ++ (src ++ r)) ≡ taken
-taken_ended s taken held src window r e cut_is f ends =
+pub named_ended : (s : BomSet) (d : Encoding) (held src window r : List ℕ) → is_sought s ≡ true → window ≡ take 3 (held ++ src) → find_mark s window ≡ Prefix → r ≡ [] → sought_encoding s d (held ++ (src ++ r)) ≡ d
+named_ended s d held src window r e cut_is f ends =
     let all : window ≡ held ++ src = all_of held src window cut_is (prefix_short s window e f) in
     let whole : held ++ (src ++ r) ≡ window = ap (λ x. held ++ (src ++ x)) ends ∙ ap (λ x. held ++ x) (append-nil src) ∙ sym all in
-    taken_is s taken (held ++ (src ++ r)) Prefix e (ap (find_mark s) whole ∙ f)
+    named_is s d (held ++ (src ++ r)) Prefix e (ap (find_mark s) whole ∙ f)
 
-pub taken_prefix : (s : BomSet) (taken : Option ByteOrderMark) (held src window r : List ℕ) → is_sought s ≡ true → window ≡ take 3 (held ++ src) → find_mark s window ≡ Prefix → mark_taken s taken (held ++ (src ++ r)) ≡ mark_taken s taken (window ++ r)
-taken_prefix s taken held src window r e cut_is f =
+pub named_prefix : (s : BomSet) (d : Encoding) (held src window r : List ℕ) → is_sought s ≡ true → window ≡ take 3 (held ++ src) → find_mark s window ≡ Prefix → sought_encoding s d (held ++ (src ++ r)) ≡ sought_encoding s d (window ++ r)
+named_prefix s d held src window r e cut_is f =
     let all : window ≡ held ++ src = all_of held src window cut_is (prefix_short s window e f) in
-    ap (mark_taken s taken) (sym (append_assoc held src r) ∙ ap (λ x. x ++ r) (sym all))
+    ap (sought_encoding s d) (sym (append_assoc held src r) ∙ ap (λ x. x ++ r) (sym all))
 
 -- The room that is left.
 
@@ -452,20 +452,20 @@ pieces_are t mark e x =
     let s : BomSet = sought_by mark e in
     sym (ap (λ f. pieces_from t f x) (source_is mark e x) ∙ seen_pieces t e x (find_mark s x) ∙ sought_at (is_sought s) t e x (find_mark s x) (none_seen s x) (λ none. ap (find_mark s) none))
 
-seen_encoding : (e : Encoding) (F : BomMatch) → (seen_source e F).0 ≡ encoding_after e (mark_seen None F)
+seen_encoding : (e : Encoding) (F : BomMatch) → (seen_source e F).0 ≡ encoding_seen e F
 seen_encoding e Prefix = refl
 seen_encoding e (Whole m) = refl
 seen_encoding e Other = refl
 
-encoding_at : (b : Bool) (e : Encoding) (x : List ℕ) (F : BomMatch) → (b ≡ false → (F ≡ Other) ⊎ (x ≡ [])) → (x ≡ [] → F ≡ Prefix) → encoding_after e (mark_seen None F) ≡ encoding_after e (cond b (mark_seen None F) None)
+encoding_at : (b : Bool) (e : Encoding) (x : List ℕ) (F : BomMatch) → (b ≡ false → (F ≡ Other) ⊎ (x ≡ [])) → (x ≡ [] → F ≡ Prefix) → encoding_seen e F ≡ cond b (encoding_seen e F) e
 encoding_at true e x F h k = refl
 encoding_at false e x F h k = elim (h refl) [
-  | inl other ↦ ap (λ (G : BomMatch). encoding_after e (mark_seen None G)) other
-  | inr none ↦ ap (λ (G : BomMatch). encoding_after e (mark_seen None G)) (k none)
+  | inl other ↦ ap (encoding_seen e) other
+  | inr none ↦ ap (encoding_seen e) (k none)
 ]
 
-pub source_taken : (mark : Mark) (e : Encoding) (x : List ℕ) → encoding_after e (mark_taken (sought_by mark e) None x) ≡ (source_of mark e x).0
-source_taken mark e x =
+pub source_named : (mark : Mark) (e : Encoding) (x : List ℕ) → sought_encoding (sought_by mark e) e x ≡ (source_of mark e x).0
+source_named mark e x =
     let s : BomSet = sought_by mark e in
     sym (ap (λ (f : Encoding × ℕ). f.0) (source_is mark e x) ∙ seen_encoding e (find_mark s x) ∙ encoding_at (is_sought s) e x (find_mark s x) (none_seen s x) (λ none. ap (find_mark s) none))
 
@@ -473,8 +473,8 @@ source_taken mark e x =
 pub begun_pieces : (t : IndexLists) (mark : Mark) (e : Encoding) (s : BomSet) (P : List ℕ → List Piece) (held : List ℕ) → s ≡ sought_by mark e → P ≡ pieces_of t e → held ≡ [] → (x : List ℕ) → sought_pieces s P (held ++ x) ≡ marked_pieces t mark e x
 begun_pieces t mark e s P held s_is P_is held_is x = ap (λ (h : List ℕ). sought_pieces s P (h ++ x)) held_is ∙ ap (λ (f : List ℕ → List Piece). sought_pieces s f x) P_is ∙ ap (λ (r : BomSet). sought_pieces r (pieces_of t e) x) s_is ∙ pieces_are t mark e x
 
-pub begun_source : (mark : Mark) (e : Encoding) (s : BomSet) (taken : Option ByteOrderMark) (held : List ℕ) → s ≡ sought_by mark e → taken ≡ None → held ≡ [] → (x : List ℕ) → encoding_after e (mark_taken s taken (held ++ x)) ≡ (source_of mark e x).0
-begun_source mark e s taken held s_is taken_is held_is x = ap (λ (h : List ℕ). encoding_after e (mark_taken s taken (h ++ x))) held_is ∙ ap (λ (m : Option ByteOrderMark). encoding_after e (mark_taken s m x)) taken_is ∙ ap (λ (r : BomSet). encoding_after e (mark_taken r None x)) s_is ∙ source_taken mark e x
+pub begun_source : (mark : Mark) (e : Encoding) (s : BomSet) (held : List ℕ) → s ≡ sought_by mark e → held ≡ [] → (x : List ℕ) → sought_encoding s e (held ++ x) ≡ (source_of mark e x).0
+begun_source mark e s held s_is held_is x = ap (λ (h : List ℕ). sought_encoding s e (h ++ x)) held_is ∙ ap (λ (r : BomSet). sought_encoding r e x) s_is ∙ source_named mark e x
 
 pub begun_opening : (mark : Mark) (e : Encoding) (s : BomSet) (held : List ℕ) (room : DecodedLength) (pending : ℕ) → s ≡ sought_by mark e → held ≡ [] → room ≡ decoded_length_of e → pending ≡ 0 → record { sought = s; held = held; room = room; pending = pending } ≡ (let o : Opening = record { sought = sought_by mark e; held = []; room = decoded_length_of e; pending = 0 } in o)
 begun_opening mark e s held room pending s_is held_is room_is pending_is = ap (λ (r : BomSet). let o : Opening = record { sought = r; held = held; room = room; pending = pending } in o) s_is ∙ ap (λ (h : List ℕ). let o : Opening = record { sought = sought_by mark e; held = h; room = room; pending = pending } in o) held_is ∙ ap (λ (r : DecodedLength). let o : Opening = record { sought = sought_by mark e; held = []; room = r; pending = pending } in o) room_is ∙ ap (λ (p : ℕ). let o : Opening = record { sought = sought_by mark e; held = []; room = decoded_length_of e; pending = p } in o) pending_is

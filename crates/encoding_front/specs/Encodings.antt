@@ -1,6 +1,7 @@
 -- What each encoding means: what it is found by, what it needs, the pieces of its bytes, and what is written for a text
 -- in it.
 use Rattle.std.specs.Prelude.{◌≡◌, ℕ, Bool, true, false, cond, Option, None, Some, List, [], ◌∷◌, length, eqb}
+use Rattle.std.specs.Borrow.{Bor}
 use Rattle.std.specs.List.{starts_with}
 use Rattle.encoding_labels.specs.Labels.{IsLabelOf}
 use Rattle.encoding_mem.specs.Piece.{Piece}
@@ -99,6 +100,15 @@ AreThere t (kind ∷ kinds) = (has t kind ≡ true) × AreThere t kinds
 -- each index that an encoding needs is in the tables
 abbrev pub IsReady : IndexLists → Encoding → Type 0
 IsReady t e = AreThere t (needs_of e)
+
+-- no index
+abbrev pub no_lists : IndexLists
+no_lists = record { flats = λ kind. None; rows = None }
+
+-- the indexes of tables, or none if there are no tables
+abbrev pub lists_of : Option (Bor IndexLists) → IndexLists
+lists_of None = no_lists
+lists_of (Some tables) = tables.now
 
 -- What is written for a character reads back as it, or is reported: no two characters have the same bytes. The other
 -- encodings have folds, by which a character is written as another.

@@ -16,12 +16,12 @@ ghost use Rattle.encoding_front.specs.calls.BomDecoderState.{bom_decoder_state};
 ghost use Rattle.encoding_front.specs.calls.DecodedText.{NeverFull};
 ghost use Rattle.encoding_front.specs.calls.DecoderCall.{DecoderCall, IfRoomAsked, TextCall};
 ghost use Rattle.encoding_front.specs.calls.DecoderCall.{free_bytes, free_in_sink, free_units};
-ghost use Rattle.encoding_front.specs.Encodings.{IsReady};
+ghost use Rattle.encoding_front.specs.Encodings.{IsReady, lists_of};
 ghost use Rattle.encoding_front.specs.calls.CodecBounds.{decoded_length_of};
 ghost use Rattle.encoding_front.specs.calls.Latin1Prefix.{latin1_rule};
-ghost use Rattle.encoding_front.specs.calls.Seeking.{find_mark, is_sought, mark_taken};
+ghost use Rattle.encoding_front.specs.calls.Seeking.{find_mark, is_sought, sought_encoding};
 ghost use Rattle.encoding_front.specs.calls.Stream.{IsNewDecoder, DecoderView, IsOpenedBy};
-ghost use Rattle.encoding_front.specs.calls.Stream.{TellsLatin1Prefix, ahead, encoding_after};
+ghost use Rattle.encoding_front.specs.calls.Stream.{TellsLatin1Prefix, ahead};
 ghost use Rattle.encoding_front.specs.calls.Stream.{IsMadeFrom, finishes, greater_if, room_asked};
 ghost use Rattle.encoding_front.specs.calls.TakesMark.{TakesMark};
 ghost use Rattle.encoding_front.specs.calls.VariantDecoders.{resumed_of, rule_of, state_of};
@@ -36,7 +36,7 @@ use crate::coder_result::CoderResult;
 use crate::encoder::fill_spare;
 use crate::encoding::Encoding;
 use crate::mark::Mark;
-use crate::seeking::{BomMatch, BomSet, ByteOrderMark, encoding_after, find_mark};
+use crate::seeking::{BomMatch, BomSet, ByteOrderMark, find_mark};
 use crate::variant_decoder::VariantDecoder;
 use encoding_mem::pending::Pending;
 use encoding_mem::room::{DecodedLength, OutputUnit};
@@ -121,13 +121,12 @@ pub struct Decoder<'t> {
     encoding: Encoding,
     sought: BomSet,
     held: Pending,
-    taken: Option<ByteOrderMark>,
     is_finished: bool,
     ghost few: { 0 < length held → (state_of inner).pending + length held ≤ 2 },
     ghost fresh: { IsTrue (is_sought sought) → (state_of inner).pending ≡ 0 },
     ghost prefix: { IsTrue (is_sought sought) → find_mark sought held ≡ BomMatch.Prefix },
-    ghost room: { (state_of inner).room ≡ decoded_length_of (encoding_after encoding taken) },
-    ghost rule: { rule_of inner ≡ latin1_rule (encoding_after encoding taken) },
+    ghost room: { (state_of inner).room ≡ decoded_length_of encoding },
+    ghost rule: { rule_of inner ≡ latin1_rule encoding },
 }
 
 impl Encoding {
@@ -142,7 +141,7 @@ impl Encoding {
         requires { IsReady tables.now self }
         ensures begins { IsNewDecoder (decoder_view result) tables.now Mark.Sniff self }
     {
-        Decoder::new(self, Mark::Sniff, tables)
+        Decoder::new(self, Mark::Sniff, Some(tables))
     }
 
     /// A decoder of a new stream that skips the byte order mark of this encoding, if the stream
@@ -155,7 +154,7 @@ impl Encoding {
         requires { IsReady tables.now self }
         ensures begins { IsNewDecoder (decoder_view result) tables.now Mark.Remove self }
     {
-        Decoder::new(self, Mark::Remove, tables)
+        Decoder::new(self, Mark::Remove, Some(tables))
     }
 
     /// A decoder of a new stream to which a byte order mark is text: U+FEFF in its own encoding
@@ -166,14 +165,14 @@ impl Encoding {
         requires { IsReady tables.now self }
         ensures begins { IsNewDecoder (decoder_view result) tables.now Mark.Keep self }
     {
-        Decoder::new(self, Mark::Keep, tables)
+        Decoder::new(self, Mark::Keep, Some(tables))
     }
 }
 
 impl<'t> StreamDecoder for Decoder<'t> {
     ghost view = { λ d. record {
       state = bom_decoder_state d.sought (state_of d.inner) d.held d.fresh (widest_by _ _ d.room);
-      source = λ x. encoding_after d.encoding (mark_taken d.sought d.taken (d.held ++ x));
+      source = λ x. sought_encoding d.sought d.encoding (d.held ++ x);
       opening = record {
         sought = d.sought;
         held = d.held;
@@ -192,8 +191,8 @@ impl<'t> StreamDecoder for Decoder<'t> {
       own_room = refl;
       prefix = d.prefix;
       fresh = d.fresh;
-      named = named_by d.encoding d.sought d.taken d.held d.prefix;
-      room = room_named d.encoding d.sought d.taken d.held _ d.prefix d.room;
+      named = named_by d.encoding d.sought d.held d.prefix;
+      room = room_named d.encoding d.sought d.held _ d.prefix d.room;
     } };
 
     fn decode_into<S: Sink>(
@@ -218,7 +217,7 @@ impl<'t> StreamDecoder for Decoder<'t> {
     }
 
     fn encoding(&self) -> Encoding {
-        encoding_after(self.encoding, self.taken)
+        self.encoding
     }
 }
 
@@ -227,18 +226,17 @@ impl<'t> Decoder<'t> {
 
     /// A decoder of a new stream in `encoding`; `mark` says which byte order marks are taken.
     ///
-    /// The condition, that the indexes of `encoding` are in `tables`, is tested by
-    /// `Encoding::is_ready`.
-    pub fn new(encoding: Encoding, mark: Mark, tables: &'t Tables) -> Self
-        requires { IsReady tables.now encoding }
-        ensures begins { IsNewDecoder (decoder_view result) tables.now mark encoding }
+    /// The condition is that the indexes of `encoding` are in `tables` (`Encoding::is_ready`), which
+    /// are `None` only if it needs none (`Encoding::needs`).
+    pub fn new(encoding: Encoding, mark: Mark, tables: Option<&'t Tables>) -> Self
+        requires { IsReady (lists_of tables) encoding }
+        ensures begins { IsNewDecoder (decoder_view result) (lists_of tables.entry) mark encoding }
     {
         Decoder {
             inner: VariantDecoder::new(encoding, tables),
             encoding,
             sought: BomSet::new(mark, encoding),
             held: Pending::new(),
-            taken: None,
             is_finished: false,
         }
     }
@@ -267,8 +265,8 @@ impl<'t> Decoder<'t> {
                 let read = mark.len() - self.held.len();
                 self.held = Pending::new();
                 self.sought = BomSet::nothing();
-                self.taken = Some(mark);
-                self.inner = VariantDecoder::after_mark(mark);
+                self.encoding = mark.encoding();
+                self.inner = VariantDecoder::without_tables(self.encoding);
                 Some(read)
             }
             _ => {

@@ -53,7 +53,7 @@ use std::marker::Model;
 /// calls: each slice is read by itself.
 #[derive(Drop)]
 pub struct Encoder<'t> {
-    tables: &'t Tables,
+    tables: Option<&'t Tables>,
     encoding: Encoding,
     variant: VariantEncoder<'t>,
 }
@@ -61,6 +61,7 @@ pub struct Encoder<'t> {
 impl<'t> Model for Encoder<'t> {
     ghost use Rattle.std.specs.Coded.{codes};
     ghost use Rattle.encoding_tables.specs.laws.Kinds.{index_lists_code};
+    ghost use Rattle.encoding_front.specs.Encodings.{lists_of};
     ghost use Rattle.encoding_front.specs.calls.Encoder.{EncoderState, IsCodecOf};
 
     ghost Value = { EncoderState };
@@ -68,12 +69,12 @@ impl<'t> Model for Encoder<'t> {
     ghost coded = { Prim.hlevel (codes, index_lists_code) };
 
     ghost view = { λ s. record {
-      tables = s.tables.now;
+      tables = lists_of s.tables;
       encoding = s.encoding;
       set = (⟦<VariantEncoder<'static> as RawEncoder>⟧.parts s.variant).set;
     } };
 
-    ghost invariant = { λ s. IsCodecOf s.tables.now s.encoding
+    ghost invariant = { λ s. IsCodecOf (lists_of s.tables) s.encoding
         (⟦<VariantEncoder<'static> as RawEncoder>⟧.parts s.variant) };
 }
 
@@ -91,9 +92,9 @@ impl Encoding {
     {
         let encoding = self.output_encoding();
         Encoder {
-            tables,
+            tables: Some(tables),
             encoding,
-            variant: VariantEncoder::new(encoding, tables),
+            variant: VariantEncoder::new(encoding, Some(tables)),
         }
     }
 }

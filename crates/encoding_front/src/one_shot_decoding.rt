@@ -133,7 +133,7 @@ impl Encoding {
         ensures encoding { IfOk result (λ r. r.1 ≡ (source_of mark self bytes.now).0) }
         ensures fault { FailsFor (room_at_start mark self Replaced (length bytes.now)) result }
     {
-        let mut decoder = Decoder::new(self, mark, tables);
+        let mut decoder = Decoder::new(self, mark, Some(tables));
         let room = decoder.max_utf8_buffer_length(bytes.len());
         let mut text = filled(alloc, room)?;
         let (_, _, written, had_errors) = decoder.decode_to_utf8(bytes, &mut text, true);

@@ -4,7 +4,6 @@ ghost use Rattle.std.specs.Prelude.{◌≡◌, ◌||◌};
 ghost use Rattle.encoding_front.specs.calls.Seeking.{can_be, encoding_of_mark, find_end, find_mark};
 ghost use Rattle.encoding_front.specs.calls.Seeking.{find_second, mark_head, is_sought, mark_len};
 ghost use Rattle.encoding_front.specs.calls.Seeking.{nothing_sought, seeks, sought_by};
-ghost use Rattle.encoding_front.specs.calls.Stream.{encoding_after};
 ghost use Rattle.encoding_front.specs.declared.seeking.ByteOrderMark.TheVariants.{Utf16Be, Utf16Le};
 
 use crate::encoding::Encoding;
@@ -56,19 +55,7 @@ impl ByteOrderMark {
     }
 }
 
-/// The encoding of an input that was said to be in `encoding`, after this mark was taken from it,
-/// or none.
-pub(crate) fn encoding_after(encoding: Encoding, taken: Option<ByteOrderMark>) -> Encoding
-    ensures { result ≡ encoding_after encoding taken }
-{
-    match taken {
-        Some(mark) => mark.encoding(),
-        None => encoding,
-    }
-}
-
-/// The marks that a decoder still looks for. The contracts of decoders speak of it; no call takes
-/// or returns one.
+/// The marks that a decoder still looks for, as [`SavedDecoder`](crate::SavedDecoder) has them.
 #[derive(Clone, Copy)]
 pub struct BomSet {
     /// Whether that of UTF-8 is.

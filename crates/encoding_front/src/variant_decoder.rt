@@ -1,21 +1,16 @@
 //! The decoder of any encoding, without mark handling: one of the decoders of all codecs.
 
-ghost use Rattle.std.specs.Prelude.{◌≡◌, ◌+◌, ◌<◌, ◌≤◌, length};
+ghost use Rattle.std.specs.Prelude.{◌≡◌, ◌+◌, ◌<◌, ◌≤◌, [], length};
 ghost use Rattle.encoding_mem.specs.calls.Decoding.{StateCall, sink_room};
 ghost use Rattle.encoding_mem.specs.calls.Resuming.{HoldsFew, reading_of, saved_pending};
 ghost use Rattle.encoding_tables.specs.IndexLists.{IndexLists};
 ghost use Rattle.encoding_front.specs.calls.BomDecoderState.{held_state};
-ghost use Rattle.encoding_front.specs.Encodings.{IsReady, pieces_of};
-ghost use Rattle.encoding_front.specs.calls.CodecBounds.{decoded_length_of};
-ghost use Rattle.encoding_front.specs.calls.Latin1Prefix.{TellsLatin1, latin1_rule};
-ghost use Rattle.encoding_front.specs.calls.Resumed.{resumed_in};
-ghost use Rattle.encoding_front.specs.calls.Seeking.{encoding_of_mark, pieces_after_mark};
-ghost use Rattle.encoding_front.specs.calls.Stream.{encoding_after};
+ghost use Rattle.encoding_front.specs.Encodings.{IsReady, lists_of, needs_of};
+ghost use Rattle.encoding_front.specs.calls.Latin1Prefix.{TellsLatin1};
 ghost use Rattle.encoding_front.specs.declared.variant_decoder.VariantDecoder.TheVariants as variant;
 
 use crate::codec_kind::CodecKind;
 use crate::encoding::Encoding;
-use crate::seeking::ByteOrderMark;
 use encoding_codecs::{
     Big5Decoder, EucJpDecoder, EucKrDecoder, Gb18030Decoder, Iso2022JpDecoder, ShiftJisDecoder,
 };
@@ -80,22 +75,29 @@ macro_rules! dispatch {
 }
 
 impl<'t> VariantDecoder<'t> {
-    ghost use Rattle.encoding_front.specs.calls.VariantDecoders.{resumed_of, rule_of, state_of};
+    ghost use Rattle.encoding_front.specs.calls.VariantDecoders.{IsNewIn, resumed_of, rule_of};
+    ghost use Rattle.encoding_front.specs.calls.VariantDecoders.{state_of};
 
     /// A decoder of a new stream in `encoding`, with nothing pending.
     ///
-    /// The condition, that the indexes of `encoding` are in `tables`, is tested by
-    /// `Encoding::is_ready`.
-    pub fn new(encoding: Encoding, tables: &'t Tables) -> Self
+    /// The condition is that the indexes of `encoding` are in `tables` (`Encoding::is_ready`), which
+    /// are `None` only if it needs none (`Encoding::needs`).
+    pub fn new(encoding: Encoding, tables: Option<&'t Tables>) -> Self
+        requires { IsReady (lists_of tables) encoding }
+        ensures { IsNewIn (lists_of tables.entry) encoding result }
+    {
+        match tables {
+            Some(tables) => VariantDecoder::over(encoding, tables),
+            None => VariantDecoder::without_tables(encoding),
+        }
+    }
+
+    // The same, with tables.
+    fn over(encoding: Encoding, tables: &'t Tables) -> Self
         requires { IsReady tables.now encoding }
-        ensures pending { (state_of result).pending ≡ 0 }
-        ensures pieces { (state_of result).pieces ≡ pieces_of tables.now encoding }
-        ensures room { (state_of result).room ≡ decoded_length_of encoding }
-        ensures rule { rule_of result ≡ latin1_rule encoding }
-        ensures resumed { resumed_of result ≡ resumed_in tables.now encoding }
+        ensures { IsNewIn tables.now encoding result }
     {
         match encoding.codec_kind() {
-            CodecKind::Utf8 => VariantDecoder::Utf8(Utf8Decoder::new()),
             CodecKind::SingleByte(kind) => {
                 VariantDecoder::SingleByte(SingleByteDecoder::new(tables, kind))
             }
@@ -105,43 +107,24 @@ impl<'t> VariantDecoder<'t> {
             CodecKind::ShiftJis => VariantDecoder::ShiftJis(ShiftJisDecoder::new(tables)),
             CodecKind::Gb18030 { .. } => VariantDecoder::Gb18030(Gb18030Decoder::new(tables)),
             CodecKind::Iso2022Jp => VariantDecoder::Iso2022Jp(Iso2022JpDecoder::new(tables)),
+            CodecKind::Utf8
+            | CodecKind::UserDefined
+            | CodecKind::Utf16 { .. }
+            | CodecKind::Replacement => VariantDecoder::without_tables(encoding),
+        }
+    }
+
+    /// A decoder of a new stream in an encoding that needs no index, with nothing pending.
+    pub(crate) fn without_tables(encoding: Encoding) -> Self
+        requires { needs_of encoding ≡ [] }
+        ensures { (t : IndexLists) → IsNewIn t encoding result }
+    {
+        match encoding.codec_kind() {
+            CodecKind::Utf8 => VariantDecoder::Utf8(Utf8Decoder::new()),
             CodecKind::UserDefined => VariantDecoder::UserDefined(UserDefinedDecoder::new()),
             CodecKind::Utf16 { big_endian } => VariantDecoder::Utf16(Utf16Decoder::new(big_endian)),
             CodecKind::Replacement => VariantDecoder::Replacement(ReplacementDecoder::new()),
-        }
-    }
-
-    /// The decoder of what follows a byte order mark. Nothing is pending.
-    pub(crate) fn after_mark(mark: ByteOrderMark) -> Self
-        ensures pending { (state_of result).pending ≡ 0 }
-        ensures pieces { (state_of result).pieces ≡ pieces_after_mark mark }
-        ensures room { (state_of result).room ≡ decoded_length_of (encoding_of_mark mark) }
-        ensures rule { rule_of result ≡ latin1_rule (encoding_of_mark mark) }
-        ensures resumed { (t : IndexLists)
-            → resumed_of result ≡ resumed_in t (encoding_of_mark mark) }
-    {
-        match mark {
-            ByteOrderMark::Utf8 => VariantDecoder::Utf8(Utf8Decoder::new()),
-            ByteOrderMark::Utf16Be => VariantDecoder::Utf16(Utf16Decoder::new(true)),
-            ByteOrderMark::Utf16Le => VariantDecoder::Utf16(Utf16Decoder::new(false)),
-        }
-    }
-
-    /// The decoder of what follows a byte order mark that was taken, or, if none was, of a new
-    /// stream in `encoding`. Nothing is pending.
-    pub(crate) fn new_after(
-        encoding: Encoding,
-        taken: Option<ByteOrderMark>,
-        tables: &'t Tables,
-    ) -> Self
-        requires { IsReady tables.now (encoding_after encoding taken) }
-        ensures rule { rule_of result ≡ latin1_rule (encoding_after encoding taken) }
-        ensures resumed { resumed_of result
-            ≡ resumed_in tables.now (encoding_after encoding taken) }
-    {
-        match taken {
-            Some(mark) => VariantDecoder::after_mark(mark),
-            None => VariantDecoder::new(encoding, tables),
+            _ => unreachable!(),
         }
     }
 

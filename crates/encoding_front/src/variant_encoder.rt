@@ -1,7 +1,9 @@
 //! The encoder of any output encoding: one of the encoders of all codecs.
 
+ghost use Rattle.std.specs.Prelude.{◌≡◌, []};
 ghost use Rattle.encoding_mem.specs.calls.EncoderRule.{IsFreshEncoder};
 ghost use Rattle.encoding_mem.specs.laws.Utf8Coding.{utf8_coding_laws};
+ghost use Rattle.encoding_tables.specs.IndexLists.{IndexLists};
 ghost use Rattle.encoding_tables.specs.laws.SingleByte.{single_byte_laws};
 ghost use Rattle.encoding_tables.specs.laws.UserDefined.{user_defined_laws};
 ghost use Rattle.encoding_codecs.specs.laws.Big5.{big5_laws};
@@ -10,7 +12,8 @@ ghost use Rattle.encoding_codecs.specs.laws.EucJp.{euc_jp_laws};
 ghost use Rattle.encoding_codecs.specs.laws.ShiftJis.{shift_jis_laws};
 ghost use Rattle.encoding_codecs.specs.laws.Gb18030Coding.{gb18030_laws};
 ghost use Rattle.encoding_codecs.specs.laws.Iso2022JpForms.{iso_2022_jp_laws};
-ghost use Rattle.encoding_front.specs.Encodings.{IsReady, coding_of, output_encoding_of};
+ghost use Rattle.encoding_front.specs.Encodings.{IsReady, coding_of, lists_of, needs_of};
+ghost use Rattle.encoding_front.specs.Encodings.{output_encoding_of};
 ghost use Rattle.encoding_front.specs.calls.CodecBounds.{need_of, encoded_length_of};
 ghost use Rattle.encoding_front.specs.declared.variant_encoder.VariantEncoder.TheVariants as variant;
 
@@ -54,9 +57,23 @@ impl<'t> VariantEncoder<'t> {
     /// An encoder of a new stream into the output encoding of `encoding`, with ASCII as the set in
     /// force.
     ///
-    /// The condition, that the indexes of the output encoding are in `tables`, is tested by
-    /// `Encoding::is_ready` of `output_encoding`.
-    pub fn new(encoding: Encoding, tables: &'t Tables) -> Self
+    /// The condition is that the indexes of the output encoding are in `tables`
+    /// (`Encoding::is_ready` of `output_encoding`), which are `None` only if it needs none
+    /// (`Encoding::needs`).
+    pub fn new(encoding: Encoding, tables: Option<&'t Tables>) -> Self
+        requires { IsReady (lists_of tables) (output_encoding_of encoding) }
+        ensures { IsFreshEncoder (⟦<VariantEncoder<'t> as RawEncoder>⟧.parts result)
+            (need_of encoding) (coding_of (lists_of tables.entry) encoding)
+            (encoded_length_of encoding) }
+    {
+        match tables {
+            Some(tables) => VariantEncoder::over(encoding, tables),
+            None => VariantEncoder::without_tables(encoding),
+        }
+    }
+
+    // The same, with tables.
+    fn over(encoding: Encoding, tables: &'t Tables) -> Self
         requires { IsReady tables.now (output_encoding_of encoding) }
         ensures { IsFreshEncoder (⟦<VariantEncoder<'t> as RawEncoder>⟧.parts result)
             (need_of encoding) (coding_of tables.now encoding) (encoded_length_of encoding) }
@@ -73,11 +90,27 @@ impl<'t> VariantEncoder<'t> {
                 VariantEncoder::Gb18030(Gb18030Encoder::new(tables, extended))
             }
             CodecKind::Iso2022Jp => VariantEncoder::Iso2022Jp(Iso2022JpEncoder::new(tables)),
+            CodecKind::Utf8
+            | CodecKind::UserDefined
+            | CodecKind::Utf16 { .. }
+            | CodecKind::Replacement => VariantEncoder::without_tables(encoding),
+        }
+    }
+
+    // The same, if the output encoding needs no index.
+    fn without_tables(encoding: Encoding) -> Self
+        requires { needs_of (output_encoding_of encoding) ≡ [] }
+        ensures { (t : IndexLists) → IsFreshEncoder
+            (⟦<VariantEncoder<'t> as RawEncoder>⟧.parts result)
+            (need_of encoding) (coding_of t encoding) (encoded_length_of encoding) }
+    {
+        match encoding.codec_kind() {
             CodecKind::UserDefined => VariantEncoder::UserDefined(UserDefinedEncoder::new()),
             // The output encoding of UTF-16 and of replacement is UTF-8.
             CodecKind::Utf8 | CodecKind::Utf16 { .. } | CodecKind::Replacement => {
                 VariantEncoder::Utf8(Utf8Encoder::new())
             }
+            _ => unreachable!(),
         }
     }
 }

@@ -1,7 +1,5 @@
 -- The decoder that a handle holds, as its calls see it.
-use mathlib.Core.Bool.{Bool-set}
 use Rattle.std.proofs.Common.{◌≡◌, ◌≢◌, ℕ, Bool, true, false, List, [], length, Option, Some, None, inl, refl, sym, ◌∙◌, ap, subst, ◌+◌, unwrap_or}
-use Rattle.std.proofs.Math.Logic.{∥∥₁_elim, ∥∥₁_map}
 use Rattle.encoding_mem.specs.calls.DecodedLength.{queried, decoded_length_utf8, decoded_length_utf16}
 use Rattle.encoding_mem.specs.calls.Decoding.{DecoderState}
 use Rattle.encoding_mem.specs.calls.Resuming.{Reading, reading_of, saved_bytes}
@@ -15,42 +13,24 @@ use Rattle.encoding_front.specs.calls.CodecBounds.{decoded_length_of}
 use Rattle.encoding_front.specs.calls.DecoderCall.{DecoderCall, IfRoomAsked, RoomLeft, TextCall}
 use Rattle.encoding_front.specs.calls.Latin1Prefix.{IsAtRest, IsLatin1Prefix, Latin1Rule, by_ascii, by_index, by_mode, latin1_rule, untold}
 use Rattle.encoding_front.specs.calls.RoomRules.{room_by, room_rule_of}
-use Rattle.encoding_front.specs.calls.SavedDecoders.{ReadsAlike, Saves}
-use Rattle.encoding_front.specs.calls.Stream.{DecoderView, IsMadeFrom, IsNewDecoder, Opening, SeeksNoMark, TellsLatin1Prefix, encoding_after, greater_if, room_asked}
+use Rattle.encoding_front.specs.calls.SavedDecoders.{CanGoOn, ReadsAlike, Saves}
+use Rattle.encoding_front.specs.calls.Stream.{DecoderView, IsMadeFrom, IsNewDecoder, Opening, SeeksNoMark, TellsLatin1Prefix, greater_if, room_asked}
 use Rattle.encoding_front.specs.declared.coder_result.CoderResult.{CoderResult}
 use Rattle.encoding_front.specs.declared.coder_result.CoderResult.TheVariants as text_
 use Rattle.encoding_front.specs.declared.decoder.room_rule.RoomRule.{RoomRule}
 use Rattle.encoding_front.specs.declared.decoder.saved_decoder.SavedDecoder.{SavedDecoder}
 use Rattle.encoding_front.specs.declared.encoding.Encoding.{Encoding}
 use Rattle.encoding_front.specs.declared.mark.Mark.{Mark}
-use Rattle.encoding_front.specs.declared.seeking.ByteOrderMark.{ByteOrderMark}
-use Rattle.encoding_front.specs.declared.seeking.ByteOrderMark.TheVariants.{Utf8, Utf16Be, Utf16Le}
 use Rattle.encoding_front.specs.laws.SavedDecoders.{call_alike, text_alike}
-use Rattle.encoding_front.specs.laws.Stream.{held_taken}
 use Rattle.jillapun_c.proofs.EncodingNumberLemmas.{same_some}
 use Rattle.jillapun_c.specs.Openings.{IfReady}
 use Rattle.jillapun_c.specs.DecoderCalls.{AnswersDecoder, AsksRoom, Decodes, DecodesUpToFault, GoesOnFrom, HoldsNewDecoder, HoldsOne, IsOutcome, TellsIfKnown, TellsWhyNot, text_outcome}
-use Rattle.jillapun_c.specs.HeldDecoders.{HoldsDecoder, IsSoundDecoder, number_of_taken, saved_in, taken_at}
+use Rattle.jillapun_c.specs.HeldDecoders.{HoldsDecoder, IsSoundDecoder, saved_in}
 use Rattle.jillapun_c.specs.HeldTables.{held_lists}
 use Rattle.jillapun_c.specs.declared.decoder.handle.DecoderHandle.{DecoderHandle}
 use Rattle.jillapun_c.specs.declared.decoder.words.DecoderWords.{DecoderWords}
 use Rattle.jillapun_c.specs.declared.progress.Progress.{Progress}
 use Rattle.jillapun_c.specs.declared.status.TheConstants.{CLOSED, FINISHED, OK, REFUSED}
-
--- ---- the words
-
--- each mark stands at its number
-pub mark_found_at : (mark : Option ByteOrderMark) → taken_at (number_of_taken mark) ≡ Some mark
-mark_found_at None = refl
-mark_found_at (Some Utf8) = refl
-mark_found_at (Some Utf16Be) = refl
-mark_found_at (Some Utf16Le) = refl
-
--- ---- what was saved of a decoder
-
--- the encoding in force is that of the mark that was taken, or the one that the decoder was made for
-pub in_force : (w : SavedDecoder) (v : DecoderView) → Saves w v → v.source [] ≡ encoding_after w.encoding w.taken
-in_force w v h = h.source [] ∙ ap (encoding_after w.encoding) (held_taken w.sought w.taken (saved_bytes w.held) h.prefix)
 
 -- ---- what a handle holds
 
@@ -63,8 +43,8 @@ pub held_by : (tables : Option IndexLists) (words : DecoderWords) (w : SavedDeco
     → HoldsDecoder tables words v
 held_by tables words w v is saves made = record { saved = w; is = is; saves = saves; made = made }
 
-pub sound_by : (tables : Option IndexLists) (words : DecoderWords) (v : DecoderView) → HoldsDecoder tables words v → IsSoundDecoder tables words
-sound_by tables words v holds w is = ∣ (v, holds) ∣₁
+pub sound_by : (tables : Option IndexLists) (words : DecoderWords) (w : SavedDecoder) → saved_in words ≡ Some w → CanGoOn (held_lists tables) w → IsSoundDecoder tables words
+sound_by tables words w is goes x other = subst (CanGoOn (held_lists tables)) (same_some w x (sym is ∙ other)) goes
 
 nothing_held : {X : Type 0} (h : DecoderHandle) (v : DecoderView) → saved_in h.words ≡ None → HoldsOne h v → X
 nothing_held h v none holds = let is : saved_in h.words ≡ Some holds.saved = holds.is in absurd (cc)
@@ -122,21 +102,14 @@ opened_answer h u Then goes then = record {
 
 -- ---- a decoder goes on
 
--- its view is that of one
-pub some_held : (h : DecoderHandle) (w : SavedDecoder) → saved_in h.words ≡ Some w → ∥ ((v : DecoderView) × Saves w v × IsMadeFrom (held_lists h.tables.tables) v) ∥₁
-some_held h w is = ∥∥₁_map (h.sound w is) (λ s. (s.0, saves_held h w s.0 is s.1, s.1.made))
-
 pub goes_on : (h : DecoderHandle) (w : SavedDecoder) (t : IndexLists) (u : DecoderView) → saved_in h.words ≡ Some w → w.is_finished ≡ false → t ≡ held_lists h.tables.tables
-    → ((v : DecoderView) → Saves w v → IsMadeFrom t v → ReadsAlike v u) → IsMadeFrom t u → GoesOnFrom h u
-goes_on h w t u is live over alike made = record {
+    → ((v : DecoderView) → Saves w v → IsMadeFrom t v → ReadsAlike v u) → IsMadeFrom t u → u.finished ≡ w.is_finished → GoesOnFrom h u
+goes_on h w t u is live over alike made finished = record {
   held = λ none. absurd (cc);
-  alike = reads;
+  alike = λ v holds. alike v (saves_held h w v is holds) (subst (λ (l : IndexLists). IsMadeFrom l v) (sym over) holds.made);
   made = subst (λ (l : IndexLists). IsMadeFrom l u) over made;
-  open_ = ∥∥₁_elim (h.sound w is) (Bool-set _ _) (λ s. sym (reads s.0 s.1).finished ∙ (saves_held h w s.0 is s.1).finished ∙ live);
+  open_ = finished ∙ live;
 }
-  where
-    reads : (v : DecoderView) → HoldsOne h v → ReadsAlike v u
-    reads v holds = alike v (saves_held h w v is holds) (subst (λ (l : IndexLists). IsMadeFrom l v) (sym over) holds.made)
 
 -- ---- calls
 
@@ -182,7 +155,7 @@ decoded_up_to_fault h after u u' unit src last W size left p outcome goes holds 
 pub room_told : (w : SavedDecoder) (v : DecoderView) (k : OutputUnit) (n : ℕ) (room : Option ℕ) → Saves w v → room ≡ room_by (room_rule_of v) k n
     → unwrap_or room REFUSED ≡ unwrap_or (room_asked v.opening k n) REFUSED
 room_told w v k n room h is = let r = room_rule_of v in
-    let own : v.opening.room ≡ decoded_length_of r.encoding = ap (λ (o : Opening). o.room) h.opening ∙ h.room ∙ ap decoded_length_of (sym (in_force w v h)) in
+    let own : v.opening.room ≡ decoded_length_of r.encoding = ap (λ (o : Opening). o.room) h.opening ∙ ap decoded_length_of (sym h.in_force) in
     ap (λ o. unwrap_or o REFUSED) (is ∙ sym (ap (λ (room : DecodedLength). greater_if r.may_be_utf16 (queried decoded_length_utf16 k (n + r.ahead))
     (greater_if r.may_be_utf8 (queried decoded_length_utf8 k (n + r.ahead)) (queried room k (r.pending + (n + r.ahead))))) own))
 

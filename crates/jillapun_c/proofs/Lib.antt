@@ -12,6 +12,7 @@ mod IndexFileLemmas
 mod Openings
 mod RoomLemmas
 mod SomeBytesLemmas
+mod TablesLemmas
 mod TextCallLemmas
 mod TextDecodeLemmas
 mod TextPartLemmas

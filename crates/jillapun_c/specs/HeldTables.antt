@@ -1,10 +1,7 @@
 -- The indexes that a handle of tables holds.
 use Rattle.std.specs.Prelude.{Option, None, Some}
 use Rattle.encoding_tables.specs.IndexLists.{IndexLists}
-
--- no index
-abbrev pub no_lists : IndexLists
-no_lists = record { flats = λ kind. None; rows = None }
+use Rattle.encoding_front.specs.Encodings.{no_lists}
 
 -- those of tables, or none if there are no tables
 abbrev pub held_lists : Option IndexLists → IndexLists

@@ -4,11 +4,10 @@ ghost use Rattle.std.specs.Prelude.{◌≡◌, ◌≢◌, None, MatchResult};
 ghost use Rattle.encoding_mem.specs.declared.codec.room.OutputUnit.{OutputUnit};
 ghost use Rattle.encoding_front.specs.calls.DecoderViews.{decoder_view};
 ghost use Rattle.encoding_front.specs.calls.Stream.{IsMadeFrom};
-ghost use Rattle.jillapun_c.specs.DecoderCalls.{AsksRoom, GoesOnFrom, HoldsNewDecoder, HoldsOne};
+ghost use Rattle.jillapun_c.specs.DecoderCalls.{AsksRoom, GoesOnFrom, HoldsOne};
 ghost use Rattle.jillapun_c.specs.DecoderCalls.{MakesDecoder, TellsWhyNot};
 ghost use Rattle.jillapun_c.specs.HeldDecoders.{saved_in};
 ghost use Rattle.jillapun_c.specs.HeldTables.{held_lists};
-ghost use Rattle.jillapun_c.specs.Openings.{IfReady};
 ghost use Rattle.jillapun_c.specs.declared.status.TheConstants.{OK};
 
 mod handle;
@@ -21,12 +20,10 @@ mod words;
 use crate::decoder::words::DecoderWords;
 use crate::encoding_number::{encoding_of, mark_of};
 use crate::status::{CLOSED, FINISHED, NOT_READY, OK, REFUSED, UNKNOWN};
-use crate::tables_handle::{TablesHandle, no_tables};
-use encoding_front::{Decoder, Encoding, Mark};
+use crate::tables_handle::TablesHandle;
+use encoding_front::Decoder;
 use encoding_mem::room::OutputUnit;
-use encoding_tables::Tables;
 pub use handle::DecoderHandle;
-use std::alloc::Global;
 
 impl DecoderHandle {
     // One that holds a decoder, which was made from these tables.
@@ -41,10 +38,9 @@ impl DecoderHandle {
         }
     }
 
-    // The decoder that it holds, over these tables: its own, or such with no index if it has none.
-    // Else the status: `CLOSED`, it holds no decoder; `FINISHED`, the stream has ended.
-    fn opened<'a>(&self, tables: &'a Tables) -> Result<Decoder<'a>, u8>
-        requires { tables.now ≡ held_lists self.now.tables.tables }
+    // The decoder that it holds. Else the status: `CLOSED`, it holds no decoder; `FINISHED`, the
+    // stream has ended.
+    fn opened(&self) -> Result<Decoder<'static>, u8>
         ensures { MatchResult result (λ d. GoesOnFrom self.now (decoder_view d))
             (λ status. TellsWhyNot self.now status) }
     {
@@ -54,7 +50,7 @@ impl DecoderHandle {
         if saved.is_finished {
             return Err(FINISHED);
         }
-        Ok(Decoder::resumed(saved, tables))
+        Ok(Decoder::resumed(saved, self.tables.lent()))
     }
 
     // Keeps a decoder, which was made from its tables, in place of what it held.
@@ -95,7 +91,6 @@ impl DecoderHandle {
 /// index of the encoding, or there are none and it needs one.
 #[unsafe(no_mangle)]
 pub extern "C" fn jillapun_decoder_new(
-    alloc: Global,
     tables: TablesHandle,
     encoding: u8,
     mark: u8,
@@ -110,30 +105,10 @@ pub extern "C" fn jillapun_decoder_new(
     let Some(mark) = mark_of(mark) else {
         return UNKNOWN;
     };
-    if let Some(lists) = tables.lent() {
-        return new_over(tables, lists, encoding, mark, out);
-    }
-    let none = no_tables(alloc);
-    new_over(tables, &none, encoding, mark, out)
-}
-
-// Makes a decoder over these tables: those of the handle, or such with no index if it has none.
-fn new_over(
-    tables: TablesHandle,
-    lists: &Tables,
-    encoding: Encoding,
-    mark: Mark,
-    out: &mut DecoderHandle,
-) -> u8
-    requires { lists.now ≡ held_lists tables.tables }
-    ensures makes { IfReady (held_lists tables.tables) encoding
-        ((result ≡ OK) × HoldsNewDecoder tables.tables encoding mark out.new) result }
-    ensures unchanged { result ≢ OK → out.new ≡ out.old }
-{
-    if !encoding.is_ready(lists) {
+    if !tables.are_ready(encoding) {
         return NOT_READY;
     }
-    let decoder = Decoder::new(encoding, mark, lists);
+    let decoder = Decoder::new(encoding, mark, tables.lent());
     *out = DecoderHandle::of(tables, &decoder);
     OK
 }

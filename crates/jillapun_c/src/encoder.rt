@@ -16,7 +16,6 @@ use crate::encoder::handle::EncoderHandle;
 use crate::encoding_number::encoding_of;
 use crate::status::{NOT_READY, OK, UNKNOWN};
 use crate::tables_handle::TablesHandle;
-use std::alloc::Global;
 
 /// Makes an encoder of a new stream into the output encoding of the one with this number (the
 /// Encoding Standard, section 4.3). `tables` may be `{0}` if the output encoding needs no index.
@@ -27,7 +26,6 @@ use std::alloc::Global;
 /// encoding, or there are none and it needs one.
 #[unsafe(no_mangle)]
 pub extern "C" fn jillapun_encoder_new(
-    alloc: Global,
     tables: TablesHandle,
     encoding: u8,
     out: &mut EncoderHandle,
@@ -38,7 +36,7 @@ pub extern "C" fn jillapun_encoder_new(
     let Some(encoding) = encoding_of(encoding) else {
         return UNKNOWN;
     };
-    if !tables.is_ready(alloc, encoding.output_encoding()) {
+    if !tables.are_ready(encoding.output_encoding()) {
         return NOT_READY;
     }
     *out = EncoderHandle::of_new(tables, encoding);

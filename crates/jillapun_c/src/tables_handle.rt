@@ -7,12 +7,11 @@ ghost use Rattle.std.specs.declared.option.Option.TheVariants.{None, Some};
 ghost use Rattle.encoding_tables.specs.IndexLists.{IndexLists};
 ghost use Rattle.encoding_tables.specs.contracts.tables.Tables.{the_row};
 ghost use Rattle.encoding_front.specs.Encodings.{IsReady};
-ghost use Rattle.jillapun_c.specs.HeldTables.{held_lists, no_lists};
+ghost use Rattle.jillapun_c.specs.HeldTables.{held_lists};
 ghost use Rattle.jillapun_c.specs.Ownership.{tables_handle_owns};
 
 use encoding_front::Encoding;
 use encoding_tables::Tables;
-use std::alloc::Global;
 use std::marker::Model;
 use std::{mem, ptr};
 
@@ -89,13 +88,14 @@ impl TablesHandle {
         }
     }
 
-    /// Whether it has each index that an encoding needs, which may be none.
-    pub(crate) fn is_ready(&self, alloc: Global, encoding: Encoding) -> bool
+    /// Whether each index that an encoding needs is in the tables: if there are none, whether it
+    /// needs none.
+    pub(crate) fn are_ready(&self, encoding: Encoding) -> bool
         ensures { IsTrue result ↔ IsReady (held_lists self.now.tables) encoding }
     {
         match self.lent() {
             Some(tables) => encoding.is_ready(tables),
-            None => encoding.is_ready(&no_tables(alloc)),
+            None => encoding.needs().is_empty(),
         }
     }
 
@@ -105,12 +105,4 @@ impl TablesHandle {
     {
         self.copied().get()
     }
-}
-
-/// Tables with no index, which take no memory: for a coder that needs none. They are some kilobytes
-/// of the stack, so they are filled for a handle without tables alone.
-pub(crate) fn no_tables(alloc: Global) -> Tables
-    ensures { result ≡ no_lists }
-{
-    Tables::new(alloc)
 }

@@ -132,7 +132,7 @@ fn decode_into(
 {
     // What the tables hold is accepted: their type's invariant, which only a call tells.
     tables.accepted();
-    let mut decoder = Decoder::new(encoding, mark, tables);
+    let mut decoder = Decoder::new(encoding, mark, Some(tables));
     if is_enough(&decoder, src.len(), dst.len()) {
         return decode_straight(&mut decoder, src, dst, written);
     }

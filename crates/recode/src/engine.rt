@@ -54,10 +54,10 @@ impl<'t> Engine<Decoder<'t>, VariantEncoder<'t>> {
         ensures to { result.to ≡ 0 }
     {
         Engine {
-            decoder: Decoder::new(job.from, job.mark, job.tables),
-            encoder: VariantEncoder::new(job.to, job.tables),
+            decoder: Decoder::new(job.from, job.mark, Some(job.tables)),
+            encoder: VariantEncoder::new(job.to, Some(job.tables)),
             verdict: Verdict {
-                reader: Decoder::new(job.to.output_encoding(), Mark::Keep, job.tables),
+                reader: Decoder::new(job.to.output_encoding(), Mark::Keep, Some(job.tables)),
                 by_log: job.to.keeps_characters(),
                 faithful: true,
             },

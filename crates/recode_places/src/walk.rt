@@ -335,7 +335,7 @@ pub fn tell_places<R: Read, L: Read, V: Visitor>(
         (choice_left L.remaining choice.old) → IfErr result IsNotUnfit }
 {
     let mut walk = Walk {
-        decoder: Decoder::new(source.from, source.mark, source.tables),
+        decoder: Decoder::new(source.from, source.mark, Some(source.tables)),
         place: Place::first(),
         read: 0,
         tail: Tail { bytes: [0; 8] },

@@ -57,7 +57,7 @@ pub fn with_decoder<T: DecoderTask>(
             if !encoding.is_ready(tables) {
                 return Ok(false);
             }
-            task.run(VariantDecoder::new(encoding, tables))?;
+            task.run(VariantDecoder::new(encoding, Some(tables)))?;
             Ok(true)
         }
     }
@@ -112,7 +112,7 @@ pub fn with_encoder<T: EncoderTask>(
             if !encoding.output_encoding().is_ready(tables) {
                 return Ok(false);
             }
-            task.run(VariantEncoder::new(encoding, tables))?;
+            task.run(VariantEncoder::new(encoding, Some(tables)))?;
             Ok(true)
         }
     }

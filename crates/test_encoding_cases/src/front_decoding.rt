@@ -143,7 +143,7 @@ pub(crate) fn check_decoder_calls(
     if !calls.encoding.is_ready(tables) {
         return report.differs(rt, "an index is not there");
     }
-    let mut decoder = Decoder::new(calls.encoding, mark, tables);
+    let mut decoder = Decoder::new(calls.encoding, mark, Some(tables));
     report.at(calls.number);
     check_asks(rt, &decoder, false, calls.asks.as_slice(), report)?;
     let mut reading = Reading {

@@ -124,7 +124,7 @@ fn read_stream(
         asked: 0,
         fault: None,
     };
-    let mut decoder = Decoder::new(marked.encoding, marked.mark, tables);
+    let mut decoder = Decoder::new(marked.encoding, marked.mark, Some(tables));
     let bytes = marked.stream.bytes.as_slice();
     let (before, after) = bytes.split_at(plan.cut.min(bytes.len()));
     feed(alloc, &mut decoder, plan, before, false, &mut told)?;

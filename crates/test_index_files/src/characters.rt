@@ -25,7 +25,7 @@ impl Told {
         requires { IsReady tables.now output }
     {
         let mut room = [0; 64];
-        let mut decoder = Decoder::new(output, Mark::Keep, tables);
+        let mut decoder = Decoder::new(output, Mark::Keep, Some(tables));
         let (_, _, written, _) = decoder.decode_to_utf8(bytes, &mut room, true);
         let text = room.get(..written).unwrap_or(&[]);
         self.text.add_bytes(text);

@@ -54,7 +54,7 @@ impl Told {
         requires { IsReady tables.now encoding }
     {
         let mut room = [0; 64];
-        let mut decoder = Decoder::new(encoding, Mark::Keep, tables);
+        let mut decoder = Decoder::new(encoding, Mark::Keep, Some(tables));
         let (_, _, written, had_errors) = decoder.decode_to_utf8(bytes, &mut room, true);
         self.text.add_bytes(room.get(..written).unwrap_or(&[]));
         self.text.add(END);

@@ -1,9 +1,12 @@
 -- What was saved of a decoder, and a decoder that goes on from it.
 use Rattle.std.specs.Prelude.{◌≡◌, ℕ, ◌+◌, ◌≤◌, ◌<◌, IsTrue, List, [], ◌++◌, length}
 use Rattle.encoding_mem.specs.calls.Resuming.{HoldsFew, Reading, reading_of, saved_bytes, saved_pending}
+use Rattle.encoding_tables.specs.IndexLists.{IndexLists}
+use Rattle.encoding_front.specs.Encodings.{IsReady}
 use Rattle.encoding_front.specs.calls.CodecBounds.{decoded_length_of}
-use Rattle.encoding_front.specs.calls.Seeking.{find_mark, is_sought, mark_taken, room_widest, sought_needs, sought_pieces}
-use Rattle.encoding_front.specs.calls.Stream.{DecoderView, encoding_after}
+use Rattle.encoding_front.specs.calls.Resumed.{resumed_in}
+use Rattle.encoding_front.specs.calls.Seeking.{find_mark, is_sought, room_widest, sought_encoding, sought_needs, sought_pieces}
+use Rattle.encoding_front.specs.calls.Stream.{DecoderView}
 use Rattle.encoding_front.specs.declared.decoder.saved_decoder.SavedDecoder.{SavedDecoder}
 use Rattle.encoding_front.specs.declared.seeking.BomMatch.{BomMatch}
 use Rattle.encoding_front.specs.declared.seeking.BomSet.{BomSet}
@@ -18,20 +21,30 @@ sought_reading s own held = record {
   room = room_widest;
 }
 
--- What was saved is that of a decoder: the encoding and the mark that was taken, the marks that are
--- sought with the bytes that are held, the mode and the pending bytes, and whether it is finished.
+-- What was saved is that of a decoder: the encoding in force, the marks that are sought with the
+-- bytes that are held, the mode and the pending bytes, and whether it is finished.
 pub record Saves (w : SavedDecoder) (v : DecoderView) : Type 0 where
   pub own : v.resumed w.pieces.mode (saved_pending w.pieces) ≡ reading_of v.own
   pub pending : v.own.pending ≡ length (saved_pending w.pieces)
-  pub few : HoldsFew (reading_of v.own)
   pub state : reading_of v.state ≡ sought_reading w.sought (reading_of v.own) (saved_bytes w.held)
-  pub opening : v.opening ≡ record { sought = w.sought; held = saved_bytes w.held; room = v.own.room; pending = v.own.pending }
-  pub source : (x : List ℕ) → v.source x ≡ encoding_after w.encoding (mark_taken w.sought w.taken (saved_bytes w.held ++ x))
-  pub room : v.own.room ≡ decoded_length_of (encoding_after w.encoding w.taken)
+  pub opening : v.opening ≡ record { sought = w.sought; held = saved_bytes w.held; room = decoded_length_of w.encoding; pending = v.own.pending }
+  pub in_force : v.source [] ≡ w.encoding
+  pub source : (x : List ℕ) → v.source x ≡ sought_encoding w.sought w.encoding (saved_bytes w.held ++ x)
   pub finished : v.finished ≡ w.is_finished
-  pub short : 0 < length (saved_bytes w.held) → v.own.pending + length (saved_bytes w.held) ≤ 2
-  pub fresh : IsTrue (is_sought w.sought) → v.own.pending ≡ 0
+
+-- What was saved can go on, if the decoder of the encoding in force reads so after it is resumed: few
+-- bytes are pending; none is while a mark is sought, and what is held then is a prefix of one.
+pub record IsSound (own : Reading) (w : SavedDecoder) : Type 0 where
+  pub few : HoldsFew own
+  pub room : own.room ≡ decoded_length_of w.encoding
+  pub short : 0 < length (saved_bytes w.held) → own.pending + length (saved_bytes w.held) ≤ 2
+  pub fresh : IsTrue (is_sought w.sought) → own.pending ≡ 0
   pub prefix : IsTrue (is_sought w.sought) → find_mark w.sought (saved_bytes w.held) ≡ BomMatch.Prefix
+
+-- What was saved can go on over some indexes: those of the encoding in force are there.
+pub record CanGoOn (t : IndexLists) (w : SavedDecoder) : Type 0 where
+  pub ready : IsReady t w.encoding
+  pub sound : IsSound (resumed_in t w.encoding w.pieces.mode (saved_pending w.pieces)) w
 
 -- two decoders read the bytes to come alike: so what calls do from now on is the same
 pub record ReadsAlike (v u : DecoderView) : Type 0 where

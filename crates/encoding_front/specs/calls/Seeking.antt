@@ -1,5 +1,5 @@
 -- A look for a byte order mark, and the state of a decoder that looks for one.
-use Rattle.std.specs.Prelude.{ℕ, ◌+◌, ◌-◌, ◌==◌, ◌&&◌, ◌||◌, Bool, true, false, List, [], ◌∷◌, length, drop, if◌then◌else◌, max, Option, Some}
+use Rattle.std.specs.Prelude.{ℕ, ◌+◌, ◌-◌, ◌==◌, ◌&&◌, ◌||◌, Bool, true, false, List, [], ◌∷◌, length, drop, if◌then◌else◌, max}
 use Rattle.encoding_mem.specs.Piece.{Piece, well_formed}
 use Rattle.encoding_mem.specs.calls.DecodedLength.{decoded_length, decoded_length_utf8, decoded_length_utf16, of_bytes, linear_bound}
 use Rattle.encoding_mem.specs.Utf8.{pieces_utf8}
@@ -95,15 +95,15 @@ pieces_seen own x Other = own x
 abbrev pub sought_pieces : BomSet → (own : List ℕ → List Piece) → List ℕ → List Piece
 sought_pieces s own x = if is_sought s then pieces_seen own x (find_mark s x) else own x
 
--- the whole mark that first bytes show, or, if they show none, the one taken before, if any
-abbrev pub mark_seen : Option ByteOrderMark → BomMatch → Option ByteOrderMark
-mark_seen taken Prefix = taken
-mark_seen taken (Whole m) = Some m
-mark_seen taken Other = taken
+-- the encoding of an input by what its first bytes show: that of a whole mark, else e
+abbrev pub encoding_seen : Encoding → BomMatch → Encoding
+encoding_seen e Prefix = e
+encoding_seen e (Whole m) = encoding_of_mark m
+encoding_seen e Other = e
 
--- the sought mark that an input begins with, or, without one, the one taken before, if any
-abbrev pub mark_taken : BomSet → Option ByteOrderMark → List ℕ → Option ByteOrderMark
-mark_taken s taken x = if is_sought s then mark_seen taken (find_mark s x) else taken
+-- the encoding of an input by the sought mark that it begins with, or e if it begins with none
+abbrev pub sought_encoding : BomSet → Encoding → List ℕ → Encoding
+sought_encoding s e x = if is_sought s then encoding_seen e (find_mark s x) else e
 
 -- whether the mark is sought, and the first of the held bytes, if there is one, is the mark's
 -- first

@@ -13,18 +13,12 @@ use Rattle.encoding_front.specs.calls.CodecBounds.{decoded_length_of}
 use Rattle.encoding_front.specs.calls.Latin1Prefix.{latin1_rule, IsAtRest, IsLatin1Prefix}
 use Rattle.encoding_front.specs.calls.Resumed.{resumed_in}
 use Rattle.encoding_front.specs.Marks.{marked_pieces, source_of}
-use Rattle.encoding_front.specs.calls.Seeking.{can_be, encoding_of_mark, find_mark, is_sought, mark_taken, sought_by, sought_pieces}
+use Rattle.encoding_front.specs.calls.Seeking.{can_be, find_mark, is_sought, sought_by, sought_encoding, sought_pieces}
 use Rattle.encoding_front.specs.declared.encoding.Encoding.{Encoding}
 use Rattle.encoding_front.specs.declared.mark.Mark.{Mark}
-use Rattle.encoding_front.specs.declared.seeking.ByteOrderMark.{ByteOrderMark}
 use Rattle.encoding_front.specs.declared.seeking.ByteOrderMark.TheVariants.{Utf8, Utf16Be, Utf16Le}
 use Rattle.encoding_front.specs.declared.seeking.BomMatch.{BomMatch}
 use Rattle.encoding_front.specs.declared.seeking.BomSet.{BomSet}
-
--- the encoding of an input that was said to be in e, and that begins with this mark, or with none
-abbrev pub encoding_after : Encoding → Option ByteOrderMark → Encoding
-encoding_after e None = e
-encoding_after e (Some m) = encoding_of_mark m
 
 -- What the room that is enough depends on: the marks that are looked for, the bytes that are held meanwhile, and the
 -- room of the encoding in force with the bytes that are pending there.
@@ -88,7 +82,7 @@ pub record IsOpenedBy (v : DecoderView) : Type 0 where
   pub own_room : v.opening.room ≡ v.own.room
   pub prefix : IsTrue (is_sought v.opening.sought) → find_mark v.opening.sought v.opening.held ≡ BomMatch.Prefix
   pub fresh : IsTrue (is_sought v.opening.sought) → v.own.pending ≡ 0
-  pub named : (x : List ℕ) → v.source x ≡ encoding_after (v.source []) (mark_taken v.opening.sought None (v.opening.held ++ x))
+  pub named : (x : List ℕ) → v.source x ≡ sought_encoding v.opening.sought (v.source []) (v.opening.held ++ x)
   pub room : v.opening.room ≡ decoded_length_of (v.source [])
 
 -- no mark is sought any more, and nothing is held

@@ -1,9 +1,9 @@
 -- Worked rows of `specs/calls/Seeking.antt`.
-use Rattle.std.specs.Prelude.{◌≡◌, true, false, [], ◌∷◌, map, replicate, None, Some, refl}
+use Rattle.std.specs.Prelude.{◌≡◌, true, false, [], ◌∷◌, map, replicate, refl}
 use Rattle.encoding_mem.specs.Piece.{well_formed}
 use Rattle.encoding_mem.specs.Pieces.{pieces_in}
 use Rattle.encoding_mem.specs.declared.codec.room.OutputUnit.TheVariants.{Units, Bytes}
-use Rattle.encoding_front.specs.calls.Seeking.{find_mark, mark_needs, mark_taken, can_be, nothing_sought, sought_by, sought_pieces}
+use Rattle.encoding_front.specs.calls.Seeking.{find_mark, mark_needs, can_be, nothing_sought, sought_by, sought_encoding, sought_pieces}
 use Rattle.encoding_front.specs.declared.encoding.Encoding.{Encoding}
 use Rattle.encoding_front.specs.declared.mark.Mark.TheVariants.{Sniff, Remove, Keep}
 use Rattle.encoding_front.specs.declared.seeking.ByteOrderMark.TheVariants.{Utf8, Utf16Be, Utf16Le}
@@ -39,9 +39,10 @@ after_marks : map (sought_pieces all_marks (λ x. [])) ((0xEF ∷ 0xBB ∷ 0xBF 
 unfolding pieces_in
 after_marks = refl
 
-taken_marks : map (mark_taken all_marks None) ((0xEF ∷ 0xBB ∷ 0xBF ∷ []) ∷ (0xFE ∷ 0xFF ∷ []) ∷ (0xFF ∷ 0xFE ∷ []) ∷ (0xEF ∷ 0xBB ∷ []) ∷ (0x41 ∷ []) ∷ [])
-    ≡ Some Utf8 ∷ Some Utf16Be ∷ Some Utf16Le ∷ None ∷ None ∷ []
-taken_marks = refl
+-- a mark says the encoding, and without one it is that which the input was said to be in
+marked_encodings : map (sought_encoding all_marks Encoding.Windows1252) ((0xEF ∷ 0xBB ∷ 0xBF ∷ []) ∷ (0xFE ∷ 0xFF ∷ []) ∷ (0xFF ∷ 0xFE ∷ []) ∷ (0xEF ∷ 0xBB ∷ []) ∷ (0x41 ∷ []) ∷ [])
+    ≡ Encoding.Utf8 ∷ Encoding.Utf16Be ∷ Encoding.Utf16Le ∷ Encoding.Windows1252 ∷ Encoding.Windows1252 ∷ []
+marked_encodings = refl
 
 -- what held bytes may become
 may_become : (map (λ held. can_be all_marks held Utf8) ([] ∷ (0xEF ∷ []) ∷ (0xEF ∷ 0xBB ∷ []) ∷ (0xFE ∷ []) ∷ (0xFF ∷ []) ∷ []) ≡ true ∷ true ∷ true ∷ false ∷ false ∷ [])

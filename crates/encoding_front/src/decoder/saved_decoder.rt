@@ -1,15 +1,17 @@
 //! What a decoder keeps between calls, as plain words, and a decoder that goes on from them.
 
-ghost use Rattle.std.specs.Prelude.{◌≡◌, []};
+ghost use Rattle.std.specs.Prelude.{◌≡◌};
+ghost use Rattle.encoding_tables.specs.IndexLists.{IndexLists};
+ghost use Rattle.encoding_front.specs.Encodings.{lists_of};
 ghost use Rattle.encoding_front.specs.calls.DecoderViews.{decoder_view};
 ghost use Rattle.encoding_front.specs.calls.RoomRules.{room_rule_of};
-ghost use Rattle.encoding_front.specs.calls.SavedDecoders.{ReadsAlike, Saves};
+ghost use Rattle.encoding_front.specs.calls.SavedDecoders.{CanGoOn, ReadsAlike, Saves};
 ghost use Rattle.encoding_front.specs.calls.Stream.{DecoderView, IsMadeFrom};
 
 use crate::decoder::room_rule::RoomRule;
 use crate::decoder::{Decoder, ahead};
 use crate::encoding::Encoding;
-use crate::seeking::{BomSet, ByteOrderMark, encoding_after};
+use crate::seeking::{BomSet, ByteOrderMark};
 use crate::variant_decoder::VariantDecoder;
 use encoding_mem::pending::Pending;
 use encoding_mem::saved_pieces::{SavedBytes, SavedPieces};
@@ -20,14 +22,12 @@ use encoding_tables::Tables;
 /// [`Decoder::saved`] returns it, and [`Decoder::resumed`] makes a decoder of it that goes on.
 #[derive(Clone, Copy)]
 pub struct SavedDecoder {
-    /// The encoding that the decoder was made for: one that a byte order mark named is not meant.
+    /// The encoding in force, as [`Decoder::encoding`] returns it.
     pub encoding: Encoding,
     /// The marks that it still looks for.
     pub sought: BomSet,
     /// The bytes that it holds meanwhile.
     pub held: SavedBytes,
-    /// The byte order mark that was taken, if one was.
-    pub taken: Option<ByteOrderMark>,
     /// Whether its stream has ended.
     pub is_finished: bool,
     /// What the decoder of the encoding in force keeps.
@@ -35,20 +35,13 @@ pub struct SavedDecoder {
 }
 
 impl SavedDecoder {
-    /// The encoding in force, as [`Decoder::encoding`] of the decoder that was saved.
-    pub fn encoding_in_force(&self) -> Encoding
-        ensures { (v : DecoderView) → Saves self.now v → result ≡ v.source [] }
-    {
-        encoding_after(self.encoding, self.taken)
-    }
-
     /// What the length queries of the decoder that was saved depend on (`Decoder::room_rule`).
     pub fn room_rule(&self) -> RoomRule
         ensures { (v : DecoderView) → Saves self.now v → result ≡ room_rule_of v }
     {
         let held = self.held.as_slice();
         RoomRule {
-            encoding: self.encoding_in_force(),
+            encoding: self.encoding,
             may_be_utf8: self.sought.can_be(held, ByteOrderMark::Utf8),
             may_be_utf16: self.sought.can_be_utf16(held),
             ahead: ahead(held),
@@ -60,13 +53,14 @@ impl SavedDecoder {
 impl<'t> Decoder<'t> {
     /// What this decoder keeps between calls, as it stands. The decoder itself stays as it is.
     pub fn saved(&self) -> SavedDecoder
-        ensures { Saves result (decoder_view self.now) }
+        ensures saves { Saves result (decoder_view self.now) }
+        ensures goes_on { (t : IndexLists) → IsMadeFrom t (decoder_view self.now)
+            → CanGoOn t result }
     {
         SavedDecoder {
             encoding: self.encoding,
             sought: self.sought,
             held: SavedBytes::new(self.held.as_slice()),
-            taken: self.taken,
             is_finished: self.is_finished,
             pieces: self.inner.saved(),
         }
@@ -75,15 +69,16 @@ impl<'t> Decoder<'t> {
     /// A decoder that goes on where one was saved: its calls do what those of the saved decoder
     /// would have done.
     ///
-    /// The condition is that a decoder was saved which was made from these `tables`: its caller
-    /// keeps them together.
-    pub fn resumed(saved: SavedDecoder, tables: &'t Tables) -> Self
-        requires { ∥ ((v : DecoderView) × Saves saved v × IsMadeFrom tables.now v) ∥₁ }
-        ensures alike { (v : DecoderView) → Saves saved v → IsMadeFrom tables.now v
+    /// The condition is that a decoder was saved which was made from these `tables`, which may be
+    /// `None` if it needs none: its caller keeps them together.
+    pub fn resumed(saved: SavedDecoder, tables: Option<&'t Tables>) -> Self
+        requires { CanGoOn (lists_of tables) saved }
+        ensures alike { (v : DecoderView) → Saves saved v → IsMadeFrom (lists_of tables.entry) v
             → ReadsAlike v (decoder_view result) }
-        ensures made { IsMadeFrom tables.now (decoder_view result) }
+        ensures made { IsMadeFrom (lists_of tables.entry) (decoder_view result) }
+        ensures finished { (decoder_view result).finished ≡ saved.is_finished }
     {
-        let mut inner = VariantDecoder::new_after(saved.encoding, saved.taken, tables);
+        let mut inner = VariantDecoder::new(saved.encoding, tables);
         inner.resume_on(saved.pieces);
         let mut held = Pending::new();
         held.fill(saved.held.as_slice());
@@ -92,7 +87,6 @@ impl<'t> Decoder<'t> {
             encoding: saved.encoding,
             sought: saved.sought,
             held,
-            taken: saved.taken,
             is_finished: saved.is_finished,
         }
     }

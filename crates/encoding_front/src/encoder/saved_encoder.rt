@@ -3,7 +3,8 @@
 ghost use Rattle.std.specs.Prelude.{◌≡◌};
 ghost use Rattle.encoding_mem.specs.calls.EncoderRule.{Moves};
 ghost use Rattle.encoding_mem.specs.declared.codec.form.EscapeState.TheVariants.{Ascii};
-ghost use Rattle.encoding_front.specs.Encodings.{IsReady, coding_of, output_encoding_of};
+ghost use Rattle.encoding_front.specs.Encodings.{IsReady, coding_of, lists_of};
+ghost use Rattle.encoding_front.specs.Encodings.{output_encoding_of};
 ghost use Rattle.encoding_front.specs.calls.Encoder.{new_state};
 ghost use Rattle.encoding_front.specs.calls.SavedEncoders.{saved_of};
 
@@ -38,12 +39,14 @@ impl<'t> Encoder<'t> {
     /// An encoder that goes on where one was saved.
     ///
     /// The conditions are that the indexes of the output encoding are in `tables`
-    /// (`Encoding::is_ready` of `Encoding::output_encoding`), and that the set is one that calls of
-    /// an encoder into this encoding leave, as that of a saved encoder is.
-    pub fn resumed(saved: SavedEncoder, tables: &'t Tables) -> Self
-        requires ready { IsReady tables.now (output_encoding_of saved.encoding) }
-        requires set { ∥ Moves (coding_of tables.now saved.encoding) Ascii saved.set ∥₁ }
-        ensures { result ≡ record (new_state tables.now saved.encoding) { set = saved.set } }
+    /// (`Encoding::is_ready` of `Encoding::output_encoding`), which are `None` only if it needs none
+    /// (`Encoding::needs`), and that the set is one that calls of an encoder into this encoding
+    /// leave, as that of a saved encoder is.
+    pub fn resumed(saved: SavedEncoder, tables: Option<&'t Tables>) -> Self
+        requires ready { IsReady (lists_of tables) (output_encoding_of saved.encoding) }
+        requires set { ∥ Moves (coding_of (lists_of tables) saved.encoding) Ascii saved.set ∥₁ }
+        ensures { result
+            ≡ record (new_state (lists_of tables.entry) saved.encoding) { set = saved.set } }
     {
         let encoding = saved.encoding.output_encoding();
         let mut variant = VariantEncoder::new(encoding, tables);

@@ -5,7 +5,6 @@ ghost use Rattle.encoding_mem.specs.declared.codec.room.OutputUnit.TheVariants.{
 ghost use Rattle.encoding_mem.specs.declared.codec.room.OutputUnit.TheVariants.{Replaced};
 ghost use Rattle.encoding_front.specs.EncodingTable.{number_of};
 ghost use Rattle.encoding_front.specs.calls.Stream.{DecoderView};
-ghost use Rattle.jillapun_c.specs.HeldTables.{held_lists};
 ghost use Rattle.jillapun_c.specs.DecoderCalls.{AnswersDecoder, AsksRoom, HoldsOne, TellsIfKnown};
 ghost use Rattle.jillapun_c.specs.HeldDecoders.{saved_in};
 ghost use Rattle.jillapun_c.specs.declared.status.TheConstants.{NO_ENCODING, OK};
@@ -13,10 +12,7 @@ ghost use Rattle.jillapun_c.specs.declared.status.TheConstants.{NO_ENCODING, OK}
 use crate::decoder::DecoderHandle;
 use crate::encoding_number::number_of;
 use crate::status::{NO_ENCODING, OK, REFUSED};
-use crate::tables_handle::no_tables;
 use encoding_mem::room::OutputUnit;
-use encoding_tables::Tables;
-use std::alloc::Global;
 
 /// The number of the encoding in force: the one that the decoder was made for, or that of the byte
 /// order mark once all of it was read. `NO_ENCODING` if the handle holds no decoder.
@@ -27,7 +23,7 @@ pub extern "C" fn jillapun_decoder_encoding(decoder: &DecoderHandle) -> u8
         → result ≡ number_of (v.source []) }
 {
     match decoder.words.saved() {
-        Some(saved) => number_of(saved.encoding_in_force()),
+        Some(saved) => number_of(saved.encoding),
         None => NO_ENCODING,
     }
 }
@@ -92,7 +88,6 @@ pub extern "C" fn jillapun_decoder_max_utf16_length(
 /// has ended.
 #[unsafe(no_mangle)]
 pub extern "C" fn jillapun_decoder_latin1_byte_compatible_up_to(
-    alloc: Global,
     decoder: &DecoderHandle,
     bytes: &[u8],
     length: &mut usize,
@@ -101,23 +96,8 @@ pub extern "C" fn jillapun_decoder_latin1_byte_compatible_up_to(
         (λ v. TellsIfKnown v bytes.now length.new) }
     ensures nothing { result ≢ OK → length.new ≡ 0 }
 {
-    if let Some(tables) = decoder.tables.lent() {
-        return latin1_length(decoder, tables, bytes, length);
-    }
-    let none = no_tables(alloc);
-    latin1_length(decoder, &none, bytes, length)
-}
-
-// Tells how many bytes are their own characters in Latin1. If the
-// handle holds no tables, `tables` has no index.
-fn latin1_length(decoder: &DecoderHandle, tables: &Tables, bytes: &[u8], length: &mut usize) -> u8
-    requires { tables.now ≡ held_lists decoder.now.tables.tables }
-    ensures tells { AnswersDecoder decoder.now result
-        (λ v. TellsIfKnown v bytes.now length.new) }
-    ensures nothing { result ≢ OK → length.new ≡ 0 }
-{
     *length = 0;
-    let opened = match decoder.opened(tables) {
+    let opened = match decoder.opened() {
         Ok(opened) => opened,
         Err(status) => return status,
     };

@@ -15,7 +15,6 @@ use crate::decoder::utf8::{
 use crate::mem::text_room::clear_rest;
 use crate::progress::Progress;
 use crate::status::OK;
-use std::alloc::Global;
 
 /// Decodes the next bytes of a stream to UTF-8 at the start of a text, with U+FFFD for each
 /// malformed sequence. What it does and returns is as of `jillapun_decoder_decode_to_utf8`, but for
@@ -25,7 +24,6 @@ use std::alloc::Global;
 /// `dst` was UTF-8.
 #[unsafe(no_mangle)]
 pub extern "C" fn jillapun_decoder_decode_to_str(
-    alloc: Global,
     decoder: &mut DecoderHandle,
     src: &[u8],
     dst: &mut [u8],
@@ -40,7 +38,7 @@ pub extern "C" fn jillapun_decoder_decode_to_str(
     ensures nothing { result ≢ OK → progress.new ≡ NONE }
     ensures tables { decoder.new.tables.tables ≡ decoder.old.tables.tables }
 {
-    let status = jillapun_decoder_decode_to_utf8(alloc, decoder, src, dst, last, progress);
+    let status = jillapun_decoder_decode_to_utf8(decoder, src, dst, last, progress);
     if status != OK {
         return status;
     }
@@ -54,7 +52,6 @@ pub extern "C" fn jillapun_decoder_decode_to_str(
 /// with `jillapun_decoder_decode_to_str`.
 #[unsafe(no_mangle)]
 pub extern "C" fn jillapun_decoder_decode_to_str_without_replacement(
-    alloc: Global,
     decoder: &mut DecoderHandle,
     src: &[u8],
     dst: &mut [u8],
@@ -70,7 +67,7 @@ pub extern "C" fn jillapun_decoder_decode_to_str_without_replacement(
     ensures tables { decoder.new.tables.tables ≡ decoder.old.tables.tables }
 {
     let status = jillapun_decoder_decode_to_utf8_without_replacement(
-        alloc, decoder, src, dst, last, progress,
+        decoder, src, dst, last, progress,
     );
     if status != OK {
         return status;

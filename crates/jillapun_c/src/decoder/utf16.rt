@@ -4,7 +4,6 @@ ghost use Rattle.std.specs.Prelude.{◌≡◌, ◌≢◌, drop, length};
 ghost use Rattle.encoding_mem.specs.calls.Writing.{Adds, encode_utf16_all};
 ghost use Rattle.encoding_mem.specs.declared.codec.room.OutputUnit.TheVariants.{Units};
 ghost use Rattle.encoding_front.specs.calls.DecoderCall.{free_units};
-ghost use Rattle.jillapun_c.specs.HeldTables.{held_lists};
 ghost use Rattle.jillapun_c.specs.DecoderCalls.{AnswersDecoder, Decodes, DecodesUpToFault};
 ghost use Rattle.jillapun_c.specs.declared.progress.TheConstants.Progress.{NONE};
 ghost use Rattle.jillapun_c.specs.declared.status.TheConstants.{OK};
@@ -12,9 +11,6 @@ ghost use Rattle.jillapun_c.specs.declared.status.TheConstants.{OK};
 use crate::decoder::DecoderHandle;
 use crate::progress::{Progress, outcome_of, part_outcome_of};
 use crate::status::OK;
-use crate::tables_handle::no_tables;
-use encoding_tables::Tables;
-use std::alloc::Global;
 
 /// Decodes the next bytes of a stream to UTF-16, with U+FFFD for each malformed sequence. `last`
 /// says that the stream ends with them.
@@ -29,39 +25,12 @@ use std::alloc::Global;
 /// `FINISHED`, the stream has ended.
 #[unsafe(no_mangle)]
 pub extern "C" fn jillapun_decoder_decode_to_utf16(
-    alloc: Global,
     decoder: &mut DecoderHandle,
     src: &[u8],
     dst: &mut [u16],
     last: bool,
     progress: &mut Progress,
 ) -> u8
-    ensures decodes { AnswersDecoder decoder.old result
-        (λ v. Decodes Units v decoder.new src.now last
-        (λ text. Adds dst.old 0 (encode_utf16_all text) dst.new progress.new.written)
-        (length dst.old) (free_units (length (drop progress.new.written dst.new))) progress.new) }
-    ensures unchanged { result ≢ OK → (dst.new ≡ dst.old) × (decoder.new ≡ decoder.old) }
-    ensures nothing { result ≢ OK → progress.new ≡ NONE }
-    ensures tables { decoder.new.tables.tables ≡ decoder.old.tables.tables }
-{
-    if let Some(tables) = decoder.tables.lent() {
-        return to_utf16(decoder, tables, src, dst, last, progress);
-    }
-    let none = no_tables(alloc);
-    to_utf16(decoder, &none, src, dst, last, progress)
-}
-
-// Decodes to UTF-16, with U+FFFD for each malformed sequence. If the
-// handle holds no tables, `tables` has no index.
-fn to_utf16(
-    decoder: &mut DecoderHandle,
-    tables: &Tables,
-    src: &[u8],
-    dst: &mut [u16],
-    last: bool,
-    progress: &mut Progress,
-) -> u8
-    requires { tables.now ≡ held_lists decoder.old.tables.tables }
     ensures decodes { AnswersDecoder decoder.old result
         (λ v. Decodes Units v decoder.new src.now last
         (λ text. Adds dst.old 0 (encode_utf16_all text) dst.new progress.new.written)
@@ -71,7 +40,7 @@ fn to_utf16(
     ensures tables { decoder.new.tables.tables ≡ decoder.old.tables.tables }
 {
     *progress = Progress::NONE;
-    let mut opened = match decoder.opened(tables) {
+    let mut opened = match decoder.opened() {
         Ok(opened) => opened,
         Err(status) => return status,
     };
@@ -104,39 +73,12 @@ fn to_utf16(
 /// `FINISHED`, the stream has ended.
 #[unsafe(no_mangle)]
 pub extern "C" fn jillapun_decoder_decode_to_utf16_without_replacement(
-    alloc: Global,
     decoder: &mut DecoderHandle,
     src: &[u8],
     dst: &mut [u16],
     last: bool,
     progress: &mut Progress,
 ) -> u8
-    ensures decodes { AnswersDecoder decoder.old result
-        (λ v. DecodesUpToFault Units v decoder.new src.now last
-        (λ text. Adds dst.old 0 (encode_utf16_all text) dst.new progress.new.written)
-        (length dst.old) (free_units (length (drop progress.new.written dst.new))) progress.new) }
-    ensures unchanged { result ≢ OK → (dst.new ≡ dst.old) × (decoder.new ≡ decoder.old) }
-    ensures nothing { result ≢ OK → progress.new ≡ NONE }
-    ensures tables { decoder.new.tables.tables ≡ decoder.old.tables.tables }
-{
-    if let Some(tables) = decoder.tables.lent() {
-        return to_utf16_part(decoder, tables, src, dst, last, progress);
-    }
-    let none = no_tables(alloc);
-    to_utf16_part(decoder, &none, src, dst, last, progress)
-}
-
-// Decodes to UTF-16 up to the first malformed sequence. If the
-// handle holds no tables, `tables` has no index.
-fn to_utf16_part(
-    decoder: &mut DecoderHandle,
-    tables: &Tables,
-    src: &[u8],
-    dst: &mut [u16],
-    last: bool,
-    progress: &mut Progress,
-) -> u8
-    requires { tables.now ≡ held_lists decoder.old.tables.tables }
     ensures decodes { AnswersDecoder decoder.old result
         (λ v. DecodesUpToFault Units v decoder.new src.now last
         (λ text. Adds dst.old 0 (encode_utf16_all text) dst.new progress.new.written)
@@ -146,7 +88,7 @@ fn to_utf16_part(
     ensures tables { decoder.new.tables.tables ≡ decoder.old.tables.tables }
 {
     *progress = Progress::NONE;
-    let mut opened = match decoder.opened(tables) {
+    let mut opened = match decoder.opened() {
         Ok(opened) => opened,
         Err(status) => return status,
     };

@@ -1,11 +1,11 @@
 //! A decoder in plain words, as its handle keeps it.
 
 ghost use Rattle.std.specs.Prelude.{◌≡◌, None, Some};
-ghost use Rattle.jillapun_c.specs.HeldDecoders.{number_of_taken, saved_in, taken_at};
+ghost use Rattle.jillapun_c.specs.HeldDecoders.{saved_in};
 
 use crate::encoding_number::{encoding_of, number_of};
 use encoding_front::SavedDecoder;
-use encoding_front::seeking::{BomSet, ByteOrderMark};
+use encoding_front::seeking::BomSet;
 use encoding_mem::saved_pieces::{SavedBytes, SavedPieces};
 
 /// What a decoder keeps between calls, for calls of this library alone.
@@ -15,7 +15,6 @@ pub struct DecoderWords {
     is_there: bool,
     is_finished: bool,
     encoding: u8,
-    taken: u8,
     seeks_utf8: bool,
     seeks_utf16_be: bool,
     seeks_utf16_le: bool,
@@ -35,7 +34,6 @@ impl DecoderWords {
             is_there: false,
             is_finished: false,
             encoding: 0,
-            taken: 0,
             seeks_utf8: false,
             seeks_utf16_be: false,
             seeks_utf16_le: false,
@@ -57,7 +55,6 @@ impl DecoderWords {
             is_there: true,
             is_finished: saved.is_finished,
             encoding: number_of(saved.encoding),
-            taken: number_of_taken(saved.taken),
             seeks_utf8: saved.sought.utf8,
             seeks_utf16_be: saved.sought.utf16_be,
             seeks_utf16_le: saved.sought.utf16_le,
@@ -69,19 +66,14 @@ impl DecoderWords {
         }
     }
 
-    /// What was saved of the decoder: `None` if there is none, or if a number stands for nothing.
+    /// What was saved of the decoder: `None` if there is none, or if no encoding has the number.
     pub(crate) fn saved(self) -> Option<SavedDecoder>
         ensures { result ≡ saved_in self }
     {
         if !self.is_there {
             return None;
         }
-        let Some(encoding) = encoding_of(self.encoding) else {
-            return None;
-        };
-        let Some(taken) = taken_of(self.taken) else {
-            return None;
-        };
+        let encoding = encoding_of(self.encoding)?;
         let held = self.held;
         let pending = self.pending;
         Some(SavedDecoder {
@@ -95,7 +87,6 @@ impl DecoderWords {
                 len: self.held_len,
                 bytes: held,
             },
-            taken,
             is_finished: self.is_finished,
             pieces: SavedPieces {
                 mode: self.mode,
@@ -105,30 +96,5 @@ impl DecoderWords {
                 },
             },
         })
-    }
-}
-
-// The number of the byte order mark that was taken, or 0 if none was.
-fn number_of_taken(taken: Option<ByteOrderMark>) -> u8
-    ensures { result ≡ number_of_taken taken }
-{
-    match taken {
-        None => 0,
-        Some(ByteOrderMark::Utf8) => 1,
-        Some(ByteOrderMark::Utf16Be) => 2,
-        Some(ByteOrderMark::Utf16Le) => 3,
-    }
-}
-
-// The byte order mark with a number, or none if that is 0; `None` if the number stands for nothing.
-fn taken_of(number: u8) -> Option<Option<ByteOrderMark>>
-    ensures { result ≡ taken_at number }
-{
-    match number {
-        0 => Some(None),
-        1 => Some(Some(ByteOrderMark::Utf8)),
-        2 => Some(Some(ByteOrderMark::Utf16Be)),
-        3 => Some(Some(ByteOrderMark::Utf16Le)),
-        _ => None,
     }
 }

@@ -6,7 +6,6 @@ use crate::encoder::words::EncoderWords;
 use crate::tables_handle::TablesHandle;
 use encoding_front::{Encoder, Encoding, SavedEncoder};
 use encoding_mem::form::EscapeState;
-use encoding_tables::Tables;
 
 /// An encoder of a stream. Begin with `{0}`, which holds none; `jillapun_encoder_new` fills it. All
 /// that it keeps stands in it: it may be moved, a copy is an encoder of its own that goes on from
@@ -52,14 +51,12 @@ impl EncoderHandle {
         EncoderHandle { tables, words }
     }
 
-    /// The encoder that it holds, as one that goes on, over these tables: its own, or such with no
-    /// index if it has none.
-    pub(crate) fn opened<'a>(&self, tables: &'a Tables) -> Option<Encoder<'a>>
-        requires { tables.now ≡ held_lists self.now.tables.tables }
+    /// The encoder that it holds, as one that goes on.
+    pub(crate) fn opened(&self) -> Option<Encoder<'static>>
         ensures { result ≡ encoder_in self.now }
     {
         let saved = self.words.saved()?;
-        Some(Encoder::resumed(saved, tables))
+        Some(Encoder::resumed(saved, self.tables.lent()))
     }
 
     /// Keeps what a call has left of the encoder that it holds.

@@ -4,7 +4,6 @@ ghost use Rattle.std.specs.Prelude.{◌≡◌, ◌≢◌, ◌≤◌, true, drop,
 ghost use Rattle.std.specs.Char.Utf16.{utf16_lossy_chars};
 ghost use Rattle.encoding_mem.specs.Conversions.{IsUnitBoundary};
 ghost use Rattle.jillapun_c.specs.Coders.{encoder_in};
-ghost use Rattle.jillapun_c.specs.HeldTables.{held_lists};
 ghost use Rattle.jillapun_c.specs.EncoderCalls.{AnswersEncoder, EncodesAll, EncodesUpToLost};
 ghost use Rattle.jillapun_c.specs.declared.encoder_progress.TheConstants.EncoderProgress.{NONE};
 ghost use Rattle.jillapun_c.specs.declared.status.TheConstants.{OK};
@@ -13,9 +12,6 @@ use crate::encoder::handle::EncoderHandle;
 use crate::encoder_progress::{EncoderProgress, encoder_outcome_of};
 use crate::progress::outcome_of;
 use crate::status::{CLOSED, OK};
-use crate::tables_handle::no_tables;
-use encoding_tables::Tables;
-use std::alloc::Global;
 
 /// Encodes the next part of a text in UTF-16, with the decimal reference (`&#8364;`) of each
 /// character that has no bytes. `last` says that the text ends with it: then the last escape is
@@ -29,40 +25,12 @@ use std::alloc::Global;
 /// Else nothing is done, and all of `progress` is 0: `CLOSED`, the handle holds no encoder.
 #[unsafe(no_mangle)]
 pub extern "C" fn jillapun_encoder_encode_from_utf16(
-    alloc: Global,
     encoder: &mut EncoderHandle,
     text: &[u16],
     dst: &mut [u8],
     last: bool,
     progress: &mut EncoderProgress,
 ) -> u8
-    ensures encodes { AnswersEncoder (encoder_in encoder.old) result
-        (λ e. EncodesAll true e (encoder_in encoder.new) last (utf16_lossy_chars text.now)
-        (utf16_lossy_chars (drop progress.new.read text.now)) (length text.now) dst.old dst.new
-        progress.new) }
-    ensures read { result ≡ OK → (progress.new.read ≤ length text.now)
-        × IsUnitBoundary text.now progress.new.read }
-    ensures unchanged { result ≢ OK → (dst.new ≡ dst.old) × (encoder.new ≡ encoder.old) }
-    ensures nothing { result ≢ OK → progress.new ≡ NONE }
-{
-    if let Some(tables) = encoder.tables.lent() {
-        return from_utf16(encoder, tables, text, dst, last, progress);
-    }
-    let none = no_tables(alloc);
-    from_utf16(encoder, &none, text, dst, last, progress)
-}
-
-// Encodes UTF-16, with a reference for each character without bytes. If the
-// handle holds no tables, `tables` has no index.
-fn from_utf16(
-    encoder: &mut EncoderHandle,
-    tables: &Tables,
-    text: &[u16],
-    dst: &mut [u8],
-    last: bool,
-    progress: &mut EncoderProgress,
-) -> u8
-    requires { tables.now ≡ held_lists encoder.old.tables.tables }
     ensures encodes { AnswersEncoder (encoder_in encoder.old) result
         (λ e. EncodesAll true e (encoder_in encoder.new) last (utf16_lossy_chars text.now)
         (utf16_lossy_chars (drop progress.new.read text.now)) (length text.now) dst.old dst.new
@@ -73,7 +41,7 @@ fn from_utf16(
     ensures nothing { result ≢ OK → progress.new ≡ NONE }
 {
     *progress = EncoderProgress::NONE;
-    let Some(mut opened) = encoder.opened(tables) else {
+    let Some(mut opened) = encoder.opened() else {
         return CLOSED;
     };
     let (outcome, read, written, had_unmappable) = opened.encode_from_utf16(text, dst, last);
@@ -103,40 +71,12 @@ fn from_utf16(
 /// Else nothing is done, and all of `progress` is 0: `CLOSED`, the handle holds no encoder.
 #[unsafe(no_mangle)]
 pub extern "C" fn jillapun_encoder_encode_from_utf16_without_replacement(
-    alloc: Global,
     encoder: &mut EncoderHandle,
     text: &[u16],
     dst: &mut [u8],
     last: bool,
     progress: &mut EncoderProgress,
 ) -> u8
-    ensures encodes { AnswersEncoder (encoder_in encoder.old) result
-        (λ e. EncodesUpToLost true e (encoder_in encoder.new) last (utf16_lossy_chars text.now)
-        (utf16_lossy_chars (drop progress.new.read text.now)) (length text.now) dst.old dst.new
-        progress.new) }
-    ensures read { result ≡ OK → (progress.new.read ≤ length text.now)
-        × IsUnitBoundary text.now progress.new.read }
-    ensures unchanged { result ≢ OK → (dst.new ≡ dst.old) × (encoder.new ≡ encoder.old) }
-    ensures nothing { result ≢ OK → progress.new ≡ NONE }
-{
-    if let Some(tables) = encoder.tables.lent() {
-        return from_utf16_part(encoder, tables, text, dst, last, progress);
-    }
-    let none = no_tables(alloc);
-    from_utf16_part(encoder, &none, text, dst, last, progress)
-}
-
-// Encodes UTF-16 up to the first character without bytes. If the
-// handle holds no tables, `tables` has no index.
-fn from_utf16_part(
-    encoder: &mut EncoderHandle,
-    tables: &Tables,
-    text: &[u16],
-    dst: &mut [u8],
-    last: bool,
-    progress: &mut EncoderProgress,
-) -> u8
-    requires { tables.now ≡ held_lists encoder.old.tables.tables }
     ensures encodes { AnswersEncoder (encoder_in encoder.old) result
         (λ e. EncodesUpToLost true e (encoder_in encoder.new) last (utf16_lossy_chars text.now)
         (utf16_lossy_chars (drop progress.new.read text.now)) (length text.now) dst.old dst.new
@@ -147,7 +87,7 @@ fn from_utf16_part(
     ensures nothing { result ≢ OK → progress.new ≡ NONE }
 {
     *progress = EncoderProgress::NONE;
-    let Some(mut opened) = encoder.opened(tables) else {
+    let Some(mut opened) = encoder.opened() else {
         return CLOSED;
     };
     let (outcome, read, written) = opened.encode_from_utf16_without_replacement(text, dst, last);

@@ -5,7 +5,6 @@ ghost use Rattle.std.specs.Str.{IsUtf8, chars};
 ghost use Rattle.encoding_mem.specs.Conversions.{text_prefix};
 ghost use Rattle.encoding_front.specs.calls.Encoder.{ReadsText};
 ghost use Rattle.jillapun_c.specs.Coders.{encoder_in};
-ghost use Rattle.jillapun_c.specs.HeldTables.{held_lists};
 ghost use Rattle.jillapun_c.specs.EncoderCalls.{AnswersEncoder, EncodesAll, EncodesUpToLost};
 ghost use Rattle.jillapun_c.specs.TextParts.{BeginsMalformed, IsToldOfPart};
 ghost use Rattle.jillapun_c.specs.declared.encoder_progress.TheConstants.EncoderProgress.{NONE};
@@ -16,9 +15,6 @@ use crate::encoder::part::{first_part, most_read};
 use crate::encoder_progress::{EncoderProgress, encoder_outcome_of, told_outcome};
 use crate::progress::outcome_of;
 use crate::status::{CLOSED, NOT_UTF8, OK};
-use crate::tables_handle::no_tables;
-use encoding_tables::Tables;
-use std::alloc::Global;
 
 /// Encodes the next part of a text in UTF-8, with the decimal reference (`&#8364;`) of each
 /// character that has no bytes. `last` says that the text ends with it: then the last escape is
@@ -40,44 +36,12 @@ use std::alloc::Global;
 /// encoder.
 #[unsafe(no_mangle)]
 pub extern "C" fn jillapun_encoder_encode_from_utf8(
-    alloc: Global,
     encoder: &mut EncoderHandle,
     text: &[u8],
     dst: &mut [u8],
     last: bool,
     progress: &mut EncoderProgress,
 ) -> u8
-    ensures malformed { BeginsMalformed text.now → result ≡ NOT_UTF8 }
-    ensures encodes { IsUtf8 text.now → AnswersEncoder (encoder_in encoder.old) result
-        (λ e. EncodesAll false e (encoder_in encoder.new) last (chars text.now)
-        (chars (drop progress.new.read text.now)) (length text.now) dst.old dst.new progress.new) }
-    ensures encodes_before { ¬ (IsUtf8 text.now) → text_prefix text.now ≢ []
-        → AnswersEncoder (encoder_in encoder.old) result (λ e. IsToldOfPart false progress.new
-        (EncodesAll false e (encoder_in encoder.new) false (chars (text_prefix text.now))
-        (chars (drop progress.new.read (text_prefix text.now))) (length (text_prefix text.now))
-        dst.old dst.new)) }
-    ensures read { result ≡ OK → ReadsText (text_prefix text.now) progress.new.read }
-    ensures unchanged { result ≢ OK → (dst.new ≡ dst.old) × (encoder.new ≡ encoder.old) }
-    ensures nothing { result ≢ OK → progress.new ≡ NONE }
-{
-    if let Some(tables) = encoder.tables.lent() {
-        return from_utf8(encoder, tables, text, dst, last, progress);
-    }
-    let none = no_tables(alloc);
-    from_utf8(encoder, &none, text, dst, last, progress)
-}
-
-// Encodes UTF-8, with a reference for each character without bytes. If the
-// handle holds no tables, `tables` has no index.
-fn from_utf8(
-    encoder: &mut EncoderHandle,
-    tables: &Tables,
-    text: &[u8],
-    dst: &mut [u8],
-    last: bool,
-    progress: &mut EncoderProgress,
-) -> u8
-    requires { tables.now ≡ held_lists encoder.old.tables.tables }
     ensures malformed { BeginsMalformed text.now → result ≡ NOT_UTF8 }
     ensures encodes { IsUtf8 text.now → AnswersEncoder (encoder_in encoder.old) result
         (λ e. EncodesAll false e (encoder_in encoder.new) last (chars text.now)
@@ -96,7 +60,7 @@ fn from_utf8(
     let Some((part, is_whole)) = first_part(text, most) else {
         return NOT_UTF8;
     };
-    let Some(mut opened) = encoder.opened(tables) else {
+    let Some(mut opened) = encoder.opened() else {
         return CLOSED;
     };
     let is_last = last & is_whole;
@@ -132,44 +96,12 @@ fn from_utf8(
 /// encoder.
 #[unsafe(no_mangle)]
 pub extern "C" fn jillapun_encoder_encode_from_utf8_without_replacement(
-    alloc: Global,
     encoder: &mut EncoderHandle,
     text: &[u8],
     dst: &mut [u8],
     last: bool,
     progress: &mut EncoderProgress,
 ) -> u8
-    ensures malformed { BeginsMalformed text.now → result ≡ NOT_UTF8 }
-    ensures encodes { IsUtf8 text.now → AnswersEncoder (encoder_in encoder.old) result
-        (λ e. EncodesUpToLost false e (encoder_in encoder.new) last (chars text.now)
-        (chars (drop progress.new.read text.now)) (length text.now) dst.old dst.new progress.new) }
-    ensures encodes_before { ¬ (IsUtf8 text.now) → text_prefix text.now ≢ []
-        → AnswersEncoder (encoder_in encoder.old) result (λ e. IsToldOfPart false progress.new
-        (EncodesUpToLost false e (encoder_in encoder.new) false (chars (text_prefix text.now))
-        (chars (drop progress.new.read (text_prefix text.now))) (length (text_prefix text.now))
-        dst.old dst.new)) }
-    ensures read { result ≡ OK → ReadsText (text_prefix text.now) progress.new.read }
-    ensures unchanged { result ≢ OK → (dst.new ≡ dst.old) × (encoder.new ≡ encoder.old) }
-    ensures nothing { result ≢ OK → progress.new ≡ NONE }
-{
-    if let Some(tables) = encoder.tables.lent() {
-        return from_utf8_part(encoder, tables, text, dst, last, progress);
-    }
-    let none = no_tables(alloc);
-    from_utf8_part(encoder, &none, text, dst, last, progress)
-}
-
-// Encodes UTF-8 up to the first character without bytes. If the
-// handle holds no tables, `tables` has no index.
-fn from_utf8_part(
-    encoder: &mut EncoderHandle,
-    tables: &Tables,
-    text: &[u8],
-    dst: &mut [u8],
-    last: bool,
-    progress: &mut EncoderProgress,
-) -> u8
-    requires { tables.now ≡ held_lists encoder.old.tables.tables }
     ensures malformed { BeginsMalformed text.now → result ≡ NOT_UTF8 }
     ensures encodes { IsUtf8 text.now → AnswersEncoder (encoder_in encoder.old) result
         (λ e. EncodesUpToLost false e (encoder_in encoder.new) last (chars text.now)
@@ -188,7 +120,7 @@ fn from_utf8_part(
     let Some((part, is_whole)) = first_part(text, most) else {
         return NOT_UTF8;
     };
-    let Some(mut opened) = encoder.opened(tables) else {
+    let Some(mut opened) = encoder.opened() else {
         return CLOSED;
     };
     let is_last = last & is_whole;

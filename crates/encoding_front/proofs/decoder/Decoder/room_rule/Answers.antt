@@ -4,9 +4,9 @@ use Rattle.encoding_front.specs.laws.RoomRules.{asked_by_rule}
 use Rattle.encoding_front.proofs.decoder.Decoder.room_rule.Goals as goal
 
 pub returns-clause-rule : goal.returns-clause-rule
-returns-clause-rule c = c.room_rule.ensures (decoder_view c.args.self.now) c.saved.ensures
+returns-clause-rule c = c.room_rule.ensures (decoder_view c.args.self.now) c.saved.ensures.saves
 
 pub returns-clause-asked : goal.returns-clause-asked
 returns-clause-asked c k n =
-    rw (c.room_rule.ensures (decoder_view c.args.self.now) c.saved.ensures)
+    rw (c.room_rule.ensures (decoder_view c.args.self.now) c.saved.ensures.saves)
     (asked_by_rule (decoder_view c.args.self.now) (decoder.ghosts.opened c.args.self.now) k n)

@@ -1,15 +1,15 @@
 use Rattle.std.proofs.Common.{rules, arith, ◌≡◌, ℕ, ◌-◌, ◌++◌, List, length, true, false, sym, ◌∙◌, ap, subst, [], Some}
-use Rattle.encoding_front.specs.calls.Seeking.{mark_len, is_sought, find_mark, sought_pieces, sought_needs}
-use Rattle.encoding_front.specs.Encodings.{IsReady}
-use Rattle.encoding_front.specs.laws.Stream.{held_taken, room_after_is}
+use Rattle.encoding_front.specs.calls.Seeking.{encoding_of_mark, mark_len, is_sought, find_mark, sought_pieces, sought_needs}
+use Rattle.encoding_front.specs.Encodings.{IsReady, needs_of, no_lists, pieces_of}
+use Rattle.encoding_front.specs.laws.Stream.{in_force, room_after_is}
+use Rattle.encoding_front.specs.calls.CodecBounds.{decoded_length_of}
 use Rattle.encoding_front.specs.calls.Resumed.{resumed_in}
-use Rattle.encoding_front.specs.calls.Stream.{encoding_after}
 use Rattle.encoding_front.specs.calls.TakesMark.{LeavesRoom}
 use Rattle.encoding_front.specs.calls.VariantDecoders.{state_of}
 use Rattle.encoding_front.specs.declared.seeking.BomSet.{BomSet}
 use Rattle.encoding_front.specs.declared.seeking.BomMatch.TheVariants.{Prefix, Whole}
-use Rattle.encoding_front.proofs.BomLemmas.{waits_mark, takes_all, takes_none, takes_whole, other_is, ended_is, prefix_short, few_of, unmarked, untaken, taken_whole, taken_other, taken_ended, taken_prefix, leaves_whole, leaves_all, leaves_none}
-use Rattle.encoding_front.proofs.ResumedLemmas.{mark_ready}
+use Rattle.encoding_front.proofs.BomLemmas.{waits_mark, takes_all, takes_none, takes_whole, other_is, ended_is, prefix_short, few_of, unmarked, unnamed, named_whole, named_other, named_ended, named_prefix, leaves_whole, leaves_all, leaves_none}
+use Rattle.encoding_front.proofs.ResumedLemmas.{mark_needs_none, mark_pieces, mark_ready}
 use Rattle.encoding_front.proofs.decoder.Decoder.take_mark.Goals as goal
 use Rattle.encoding_front.proofs.decoder.Decoder.take_mark.Goals.{in_default-via-in-Prefix+else-not-last, in_default-via-in_default}
 
@@ -33,21 +33,21 @@ returns-in-Prefix-clause-source c =
     let window = c.prefix_of-window.result in
     let e : is_sought d.sought ≡ true = search rules in
     let f : find_mark d.sought window ≡ Prefix = ap (find_mark d.sought) (sym c.as_slice.ensures) ∙ sym c.find_mark.ensures ∙ c.in-Prefix.is in
-    λ r h. ap (encoding_after d.encoding) (taken_prefix d.sought d.taken d.held c.args.src.now window r e c.prefix_of-window.ensures f)
+    λ r h. named_prefix d.sought d.encoding d.held c.args.src.now window r e c.prefix_of-window.ensures f
 
 pub returns-in-Whole-clause-takes : goal.returns-in-Whole-clause-takes
 returns-in-Whole-clause-takes c =
     let d = c.args.self.now in
     let own = state_of d.inner in
-    let after = state_of c.after_mark-self.result in
+    let after = state_of c.without_tables-self.result in
     let window = c.prefix_of-window.result in
     let e : is_sought d.sought ≡ true = search rules in
     let f : find_mark d.sought window ≡ Whole c.in-Whole.mark = ap (find_mark d.sought) (sym c.as_slice.ensures) ∙ sym c.find_mark.ensures ∙ c.in-Whole.is in
     let size : c.len.result - c.len-in-Whole.result ≡ mark_len c.in-Whole.mark - length d.held = omega (arith, c.len.ensures, c.len-in-Whole.ensures.exact) in
     let few = few_of (length d.held) own.pending d.few in (
       c.nothing-self.ensures,
-      takes_whole d.sought own after (λ x. sought_pieces c.nothing-self.result after.pieces x) d.held c.args.src.now window c.new-self.result c.args.last c.in-Whole.mark _ e (d.fresh e) few c.prefix_of-window.ensures f (λ x. unmarked c.nothing-self.result after.pieces x (ap is_sought c.nothing-self.ensures)) c.after_mark-self.ensures.pieces c.after_mark-self.ensures.pending c.new-self.ensures size,
-      subst (λ (s : BomSet). LeavesRoom (sought_needs d.sought own.needs d.held) (sought_needs s after.needs c.new-self.result) (c.len.result - c.len-in-Whole.result)) (sym c.nothing-self.ensures) (leaves_whole d.sought own.needs after d.held c.args.src.now window c.new-self.result c.in-Whole.mark _ few c.prefix_of-window.ensures f c.after_mark-self.ensures.pending (c.after_mark-self.ensures.room ∙ sym (room_after_is c.in-Whole.mark)) c.new-self.ensures size),
+      takes_whole d.sought own after (λ x. sought_pieces c.nothing-self.result after.pieces x) d.held c.args.src.now window c.new-self.result c.args.last c.in-Whole.mark _ e (d.fresh e) few c.prefix_of-window.ensures f (λ x. unmarked c.nothing-self.result after.pieces x (ap is_sought c.nothing-self.ensures)) ((c.without_tables-self.ensures no_lists).pieces ∙ ap (pieces_of no_lists) c.encoding-self.ensures ∙ mark_pieces no_lists c.in-Whole.mark) (c.without_tables-self.ensures no_lists).pending c.new-self.ensures size,
+      subst (λ (s : BomSet). LeavesRoom (sought_needs d.sought own.needs d.held) (sought_needs s after.needs c.new-self.result) (c.len.result - c.len-in-Whole.result)) (sym c.nothing-self.ensures) (leaves_whole d.sought own.needs after d.held c.args.src.now window c.new-self.result c.in-Whole.mark _ few c.prefix_of-window.ensures f (c.without_tables-self.ensures no_lists).pending ((c.without_tables-self.ensures no_lists).room ∙ ap decoded_length_of c.encoding-self.ensures ∙ sym (room_after_is c.in-Whole.mark)) c.new-self.ensures size),
     )
 
 pub returns-in-Whole-clause-source : goal.returns-in-Whole-clause-source
@@ -56,7 +56,7 @@ returns-in-Whole-clause-source c =
     let window = c.prefix_of-window.result in
     let e : is_sought d.sought ≡ true = search rules in
     let f : find_mark d.sought window ≡ Whole c.in-Whole.mark = ap (find_mark d.sought) (sym c.as_slice.ensures) ∙ sym c.find_mark.ensures ∙ c.in-Whole.is in
-    λ r h. ap (encoding_after d.encoding) (taken_whole d.sought d.taken d.held c.args.src.now window r c.in-Whole.mark e c.prefix_of-window.ensures f ∙ sym (untaken c.nothing-self.result (Some c.in-Whole.mark) (c.new-self.result ++ r) (ap is_sought c.nothing-self.ensures)))
+    λ r h. named_whole d.sought d.encoding d.held c.args.src.now window r c.in-Whole.mark e c.prefix_of-window.ensures f ∙ sym (c.encoding-self.ensures) ∙ sym (unnamed c.nothing-self.result c.encoding-self.result (c.new-self.result ++ r) (ap is_sought c.nothing-self.ensures))
 
 pub returns-in_default-clause-takes : goal.returns-in_default-clause-takes
 returns-in_default-clause-takes c =
@@ -85,8 +85,8 @@ returns-in_default-clause-source c =
     let now = c.nothing-self-in_default.result in
     let settled : is_sought now ≡ false = ap is_sought c.nothing-self-in_default.ensures in
     elim c.in_default.branch [
-      | in_default-via-in-Prefix+else-not-last w ↦ (let ended : c.args.last ≡ true = search rules in λ r h. ap (encoding_after d.encoding) (taken_ended d.sought d.taken d.held c.args.src.now window r e c.prefix_of-window.ensures (shown ∙ w.in-Prefix.is) (h ended) ∙ sym (untaken now d.taken (d.held ++ r) settled)))
-      | in_default-via-in_default w ↦ λ r h. ap (encoding_after d.encoding) (taken_other d.sought d.taken d.held c.args.src.now window r e c.prefix_of-window.ensures (shown ∙ w.in_default.is) ∙ sym (untaken now d.taken (d.held ++ r) settled))
+      | in_default-via-in-Prefix+else-not-last w ↦ (let ended : c.args.last ≡ true = search rules in λ r h. named_ended d.sought d.encoding d.held c.args.src.now window r e c.prefix_of-window.ensures (shown ∙ w.in-Prefix.is) (h ended) ∙ sym (unnamed now d.encoding (d.held ++ r) settled))
+      | in_default-via-in_default w ↦ λ r h. named_other d.sought d.encoding d.held c.args.src.now window r e c.prefix_of-window.ensures (shown ∙ w.in_default.is) ∙ sym (unnamed now d.encoding (d.held ++ r) settled)
     ]
 
 pub returns-in-Prefix-clause-made : goal.returns-in-Prefix-clause-made
@@ -94,25 +94,36 @@ returns-in-Prefix-clause-made c =
     let d = c.args.self.now in
     let window = c.prefix_of-window.result in
     let f : find_mark d.sought window ≡ Prefix = ap (find_mark d.sought) (sym c.as_slice.ensures) ∙ sym c.find_mark.ensures ∙ c.in-Prefix.is in
-    λ t made. let same = (held_taken d.sought d.taken d.held d.prefix ∙ sym (held_taken d.sought d.taken window (λ _. f))) in record {
-      ready = subst (λ m. IsReady t (encoding_after d.encoding m)) same made.ready;
-      reads = made.reads ∙ ap (λ m. resumed_in t (encoding_after d.encoding m)) same;
+    λ t made. let same = in_force d.sought d.encoding d.held d.prefix ∙ sym (in_force d.sought d.encoding window (λ _. f)) in record {
+      ready = subst (IsReady t) same made.ready;
+      reads = made.reads ∙ ap (resumed_in t) same;
     }
 
 pub returns-in-Whole-clause-made : goal.returns-in-Whole-clause-made
 returns-in-Whole-clause-made c =
-    let d = c.args.self.now in
-    let same = sym (untaken c.nothing-self.result (Some c.in-Whole.mark) (c.new-self.result ++ []) (ap is_sought c.nothing-self.ensures)) in
+    let same = sym (unnamed c.nothing-self.result c.encoding-self.result (c.new-self.result ++ []) (ap is_sought c.nothing-self.ensures)) in
     λ t _. record {
-      ready = subst (λ m. IsReady t (encoding_after d.encoding m)) same (mark_ready t c.in-Whole.mark);
-      reads = c.after_mark-self.ensures.resumed t ∙ ap (λ m. resumed_in t (encoding_after d.encoding m)) same;
+      ready = subst (IsReady t) (sym c.encoding-self.ensures ∙ same) (mark_ready t c.in-Whole.mark);
+      reads = (c.without_tables-self.ensures t).resumed ∙ ap (resumed_in t) same;
     }
 
 pub returns-in_default-clause-made : goal.returns-in_default-clause-made
 returns-in_default-clause-made c =
     let d = c.args.self.now in
     let now = c.nothing-self-in_default.result in
-    λ t made. let same = (held_taken d.sought d.taken d.held d.prefix ∙ sym (untaken now d.taken (d.held ++ []) (ap is_sought c.nothing-self-in_default.ensures))) in record {
-      ready = subst (λ m. IsReady t (encoding_after d.encoding m)) same made.ready;
-      reads = made.reads ∙ ap (λ m. resumed_in t (encoding_after d.encoding m)) same;
+    λ t made. let same = in_force d.sought d.encoding d.held d.prefix ∙ sym (unnamed now d.encoding (d.held ++ []) (ap is_sought c.nothing-self-in_default.ensures)) in record {
+      ready = subst (IsReady t) same made.ready;
+      reads = made.reads ∙ ap (resumed_in t) same;
     }
+
+pub without_tables-self-requires : goal.without_tables-self-requires
+without_tables-self-requires c = ap needs_of c.encoding-self.ensures ∙ mark_needs_none c.in-Whole.mark
+
+pub invariant_of-self-in-Whole-clause-fresh : goal.invariant_of-self-in-Whole-clause-fresh
+invariant_of-self-in-Whole-clause-fresh c sought = (c.without_tables-self.ensures no_lists).pending
+
+pub invariant_of-self-in-Whole-clause-room : goal.invariant_of-self-in-Whole-clause-room
+invariant_of-self-in-Whole-clause-room c = (c.without_tables-self.ensures no_lists).room
+
+pub invariant_of-self-in-Whole-clause-rule : goal.invariant_of-self-in-Whole-clause-rule
+invariant_of-self-in-Whole-clause-rule c = (c.without_tables-self.ensures no_lists).rule

@@ -5,10 +5,9 @@ use Rattle.encoding_front.specs.calls.BomDecoderState.{bom_decoder_state, held_s
 use Rattle.encoding_front.specs.calls.DecoderViews.{decoder_view}
 use Rattle.encoding_front.specs.calls.Resumed.{resumed_in}
 use Rattle.encoding_front.specs.calls.Seeking.{is_sought, sought_pieces, sought_needs}
-use Rattle.encoding_front.specs.calls.Stream.{encoding_after}
 use Rattle.encoding_front.specs.calls.VariantDecoders.{state_of}
 use Rattle.encoding_front.specs.laws.Stream.{widest_by}
-use Rattle.encoding_front.proofs.BomLemmas.{unmarked, untaken, needs_settled}
+use Rattle.encoding_front.proofs.BomLemmas.{unmarked, unnamed, needs_settled}
 use Rattle.encoding_front.proofs.DecoderCallLemmas.{takes_settled, ends_settled, suffices_settled}
 use Rattle.encoding_front.proofs.decoder.DecoderStreamDecoder.decode_into.Goals as goal
 
@@ -26,15 +25,15 @@ returns-in-Some-clause-call g c =
       law = takes_settled was.state.pieces (decoder_view mid).state.pieces (λ x. (state_of mid.inner).pieces (mid.held ++ x)) (λ x. own.pieces (held.new.held ++ x)) (λ x. sought_pieces mid.sought own.pieces (held.new.held ++ x))
           held.result.0 c.args.src.now _ c.args.last _ _ (own.pending + length held.new.held) c.in-Some.taken held.result.1 (λ t. g.S.Sink.writes c.args.sink.now t held.new.sink)
           (λ x. unmarked mid.sought (state_of mid.inner).pieces (mid.held ++ x) settled) (λ x. unmarked mid.sought own.pieces (held.new.held ++ x) settled) rest looked.1 held.ensures.call.law;
-      ends = ends_settled (held_state own held.new.held) (bom_decoder_state mid.sought own held.new.held (λ t. cc) (widest_by own.room (encoding_after mid.encoding mid.taken) (held.ensures.call.limits ∙ mid.room))) _ _ c.args.last _ _ _ held.result.0 (λ x. unmarked mid.sought own.pieces (held.new.held ++ x) settled) refl unread held.ensures.call.ends;
-      source = λ r e. c.in-Some.ensures.source r e ∙ ap (encoding_after mid.encoding) (untaken mid.sought mid.taken (mid.held ++ r) settled ∙ sym (untaken mid.sought mid.taken (held.new.held ++ (drop (c.in-Some.taken + held.result.1) c.args.src.now ++ r)) settled));
+      ends = ends_settled (held_state own held.new.held) (bom_decoder_state mid.sought own held.new.held (λ t. cc) (widest_by own.room mid.encoding (held.ensures.call.limits ∙ mid.room))) _ _ c.args.last _ _ _ held.result.0 (λ x. unmarked mid.sought own.pieces (held.new.held ++ x) settled) refl unread held.ensures.call.ends;
+      source = λ r e. c.in-Some.ensures.source r e ∙ unnamed mid.sought mid.encoding (mid.held ++ r) settled ∙ sym (unnamed mid.sought mid.encoding (held.new.held ++ (drop (c.in-Some.taken + held.result.1) c.args.src.now ++ r)) settled);
       finished = c.finishes-self.ensures;
       made = λ t made.
           let taken = c.in-Some.ensures.made t made in
-          let same = untaken mid.sought mid.taken (mid.held ++ []) settled ∙ sym (untaken mid.sought mid.taken (held.new.held ++ []) settled) in
+          let same = unnamed mid.sought mid.encoding (mid.held ++ []) settled ∙ sym (unnamed mid.sought mid.encoding (held.new.held ++ []) settled) in
           record {
-            ready = subst (λ m. IsReady t (encoding_after mid.encoding m)) same taken.ready;
-            reads = held.ensures.resumed ∙ taken.reads ∙ ap (λ m. resumed_in t (encoding_after mid.encoding m)) same;
+            ready = subst (IsReady t) same taken.ready;
+            reads = held.ensures.resumed ∙ taken.reads ∙ ap (resumed_in t) same;
           };
     }
 

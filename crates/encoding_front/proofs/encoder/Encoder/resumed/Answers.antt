@@ -6,14 +6,14 @@ use Rattle.encoding_mem.specs.calls.EncoderRule.{EncoderParts, Moves}
 use Rattle.encoding_mem.specs.declared.codec.form.EscapeState.{EscapeState}
 use Rattle.encoding_front.specs.Codecs.{codec_of}
 use Rattle.encoding_front.specs.EncodingTable.{codec_kind_of}
-use Rattle.encoding_front.specs.Encodings.{coding_of}
+use Rattle.encoding_front.specs.Encodings.{coding_of, lists_of}
 use Rattle.encoding_front.specs.laws.Encoder.{output_twice}
 use Rattle.encoding_front.specs.contracts.variant_encoder.VariantEncoderSourceEncoder.TheImpl.{parts-value}
 use Rattle.encoding_front.proofs.encoder.Encoder.resumed.Goals as goal
 
 pub returns : goal.returns
 returns c =
-    let t = c.args.tables.now in
+    let t = lists_of c.args.tables in
     let e = c.args.saved.encoding in
     let s = c.args.saved.set in
     let new : EncoderParts = (parts-value).it c.new-variant.result in

@@ -1,6 +1,9 @@
-use Rattle.std.proofs.Common.{sym, ◌∙◌}
+use Rattle.std.proofs.Common.{sym, subst, ◌∙◌}
+use Rattle.encoding_front.specs.Encodings.{lists_of}
 use Rattle.encoding_front.specs.calls.DecoderViews.{decoder_view}
-use Rattle.jillapun_c.proofs.HeldDecoderLemmas.{closed_why, finished_why, goes_on, some_held}
+use Rattle.encoding_front.specs.calls.SavedDecoders.{CanGoOn}
+use Rattle.jillapun_c.proofs.HeldDecoderLemmas.{closed_why, finished_why, goes_on}
+use Rattle.jillapun_c.proofs.TablesLemmas.{lists_lent}
 use Rattle.jillapun_c.proofs.decoder.handle.DecoderHandle.opened.Goals as goal
 
 pub returns-in_default : goal.returns-in_default
@@ -10,8 +13,12 @@ pub returns-then-saved : goal.returns-then-saved
 returns-then-saved c = finished_why c.args.self.now c.in-Some.saved (sym c.in-Some.ensures) c.if-saved.true
 
 pub resumed-requires : goal.resumed-requires
-resumed-requires c = rw c.requires (some_held c.args.self.now c.in-Some.saved (sym c.in-Some.ensures))
+resumed-requires c =
+    let h = c.args.self.now in
+    subst (λ t. CanGoOn t c.in-Some.saved) (sym (lists_lent c.lent.result h.tables.tables c.lent.ensures)) (h.sound c.in-Some.saved (sym c.in-Some.ensures))
 
 pub returns : goal.returns
 returns c =
-    goes_on c.args.self.now c.in-Some.saved c.args.tables.now (decoder_view c.resumed.result) (sym c.in-Some.ensures) c.if-saved.false c.requires c.resumed.ensures.alike c.resumed.ensures.made
+    let h = c.args.self.now in
+    goes_on h c.in-Some.saved (lists_of c.lent.result) (decoder_view c.resumed.result) (sym c.in-Some.ensures) c.if-saved.false (lists_lent c.lent.result h.tables.tables c.lent.ensures)
+    c.resumed.ensures.alike c.resumed.ensures.made c.resumed.ensures.finished

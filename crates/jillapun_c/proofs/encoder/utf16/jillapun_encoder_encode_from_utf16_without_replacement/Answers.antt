@@ -3,7 +3,7 @@ use Rattle.std.specs.Prelude.{IsSomeAnd}
 use Rattle.jillapun_c.specs.Coders.{encoder_in}
 use Rattle.jillapun_c.specs.EncoderWords.{GoesOnAs}
 use Rattle.jillapun_c.proofs.EncoderHandleLemmas.{answers, answers_closed}
-use Rattle.jillapun_c.proofs.encoder.utf16.from_utf16_part.Goals as goal
+use Rattle.jillapun_c.proofs.encoder.utf16.jillapun_encoder_encode_from_utf16_without_replacement.Goals as goal
 
 pub keep-requires : goal.keep-requires
 keep-requires c =

@@ -9,7 +9,7 @@ use Rattle.jillapun_c.specs.declared.encoder_progress.EncoderProgress.{EncoderPr
 use Rattle.jillapun_c.proofs.EncoderHandleLemmas.{answers, answers_closed}
 use Rattle.jillapun_c.proofs.TextCallLemmas.{part_goes, before_of_text, long_enough, reads_text, whole_of_part}
 use Rattle.jillapun_c.proofs.TextPartLemmas.{IsPartOf, part_of_look, part_within, prefix_of_text}
-use Rattle.jillapun_c.proofs.encoder.utf8.from_utf8_part.Goals as goal
+use Rattle.jillapun_c.proofs.encoder.utf8.jillapun_encoder_encode_from_utf8_without_replacement.Goals as goal
 
 pub keep-requires : goal.keep-requires
 keep-requires c =

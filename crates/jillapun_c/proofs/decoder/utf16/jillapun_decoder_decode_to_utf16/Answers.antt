@@ -2,7 +2,7 @@ use Rattle.std.proofs.Common.{refl}
 use Rattle.encoding_front.specs.calls.DecoderViews.{decoder_view}
 use Rattle.jillapun_c.specs.HeldTables.{held_lists}
 use Rattle.jillapun_c.proofs.HeldDecoderLemmas.{decoded, not_opened}
-use Rattle.jillapun_c.proofs.decoder.utf16.to_utf16.Goals as goal
+use Rattle.jillapun_c.proofs.decoder.utf16.jillapun_decoder_decode_to_utf16.Goals as goal
 
 pub returns-in-Err-clause-decodes : goal.returns-in-Err-clause-decodes
 returns-in-Err-clause-decodes c = not_opened c.args.decoder.now c.in-Err.status _ c.in-Err.ensures

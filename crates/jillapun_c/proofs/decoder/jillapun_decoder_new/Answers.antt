@@ -1,0 +1,15 @@
+use Rattle.std.proofs.Common.{refl, subst, sym}
+use Rattle.encoding_front.specs.Encodings.{IsReady, lists_of}
+use Rattle.encoding_front.specs.calls.DecoderViews.{decoder_view}
+use Rattle.encoding_front.specs.calls.Stream.{IsMadeFrom, IsNewDecoder}
+use Rattle.jillapun_c.proofs.HeldDecoderLemmas.{made_new}
+use Rattle.jillapun_c.proofs.TablesLemmas.{lists_lent}
+use Rattle.jillapun_c.proofs.decoder.jillapun_decoder_new.Goals as goal
+
+pub new-decoder-requires : goal.new-decoder-requires
+new-decoder-requires c =
+    let tables = c.args.tables.tables in
+    subst (λ t. IsReady t c.in-Some.encoding) (sym (lists_lent c.lent.result tables c.lent.ensures)) (c.are_ready.ensures.0 (rw c.if-not-are_ready.false refl))
+
+pub of-requires : goal.of-requires
+of-requires c = subst (λ l. IsMadeFrom l (decoder_view c.new-decoder.result)) (lists_lent c.lent.result c.args.tables.tables c.lent.ensures) c.new-decoder.ensures.begins.made
