@@ -1,6 +1,6 @@
 -- What some bytes show of a mark, and more bytes do not change. What a look for a mark does. The mark that a look
 -- for it finds is the one that is taken. Held bytes that are decoded before a source.
-use Rattle.std.proofs.Common.{◌≡◌, ℕ, suc, ◌+◌, ◌≤◌, ◌<◌, ◌==◌, ◌&&◌, ◌||◌, Bool, true, false, cond, List, [], ◌∷◌, ◌++◌, length, refl, arith, zero, ◌-◌, IsTrue, take, drop, sym, ◌∙◌, ap, subst, append_assoc, length-append, length-take, Some, Option, None, ◌⊎◌, inl, inr, length-drop}
+use Rattle.std.proofs.Common.{◌≡◌, ℕ, suc, ◌+◌, ◌≤◌, ◌<◌, ◌==◌, ◌&&◌, ◌||◌, Bool, true, false, cond, List, [], ◌∷◌, ◌++◌, length, refl, arith, zero, ◌-◌, IsTrue, take, drop, sym, ◌∙◌, ap, subst, append_assoc, length-append, length-take, Some, None, ◌⊎◌, inl, inr, length-drop}
 use Rattle.encoding_front.specs.calls.Seeking.{mark_len, is_sought, find_mark, find_second, find_end, mark_head, seeks, pieces_after_mark, pieces_seen, room_after_mark, sought_pieces, can_be, mark_needs, sought_needs, nothing_sought, encoding_of_mark, sought_by, sought_encoding, encoding_seen}
 use Rattle.encoding_front.specs.declared.seeking.ByteOrderMark.{ByteOrderMark}
 use Rattle.encoding_front.specs.declared.seeking.ByteOrderMark.TheVariants.{Utf8, Utf16Be, Utf16Le}

@@ -1,14 +1,12 @@
 -- A decoder that goes on from what was saved of another.
 use Rattle.std.proofs.lemmas.Bool.{false≢true}
-use Rattle.std.proofs.Common.{◌≡◌, Bool, true, false, cond, ℕ, ◌+◌, ◌≤◌, ◌<◌, ◌||◌, IsTrue, List, [], ◌∷◌, length, refl, sym, subst, ◌∙◌, ap}
-use Rattle.encoding_mem.specs.calls.Decoding.{DecoderState}
-use Rattle.encoding_mem.specs.calls.Resuming.{HoldsFew, Reading, reading_of, saved_bytes, saved_pending}
+use Rattle.std.proofs.Common.{◌≡◌, Bool, true, false, cond, ℕ, ◌||◌, List, [], ◌∷◌, length, refl, sym, ◌∙◌, ap}
+use Rattle.encoding_mem.specs.calls.Resuming.{Reading, reading_of, saved_bytes, saved_pending}
 use Rattle.encoding_tables.specs.IndexLists.{IndexLists}
 use Rattle.encoding_tables.specs.Kinds.{is_ranges}
 use Rattle.encoding_tables.specs.declared.index_kind.IndexKind.{IndexKind}
 use Rattle.encoding_front.specs.Encodings.{AreThere, IsReady, needs_of, no_lists, pieces_of}
 use Rattle.encoding_front.specs.calls.Resumed.{resumed_in}
-use Rattle.encoding_front.specs.calls.CodecBounds.{decoded_length_of}
 use Rattle.encoding_front.specs.calls.SavedDecoders.{Saves}
 use Rattle.encoding_front.specs.calls.RoomRules.{room_rule_of}
 use Rattle.encoding_front.specs.calls.Seeking.{can_be, encoding_of_mark, pieces_after_mark}
@@ -16,7 +14,6 @@ use Rattle.encoding_front.specs.calls.Stream.{DecoderView, IsMadeFrom, Opening, 
 use Rattle.encoding_front.specs.declared.encoding.Encoding.{Encoding}
 use Rattle.encoding_front.specs.declared.decoder.room_rule.RoomRule.{RoomRule}
 use Rattle.encoding_front.specs.declared.decoder.saved_decoder.SavedDecoder.{SavedDecoder}
-use Rattle.encoding_front.specs.declared.seeking.BomMatch.TheVariants.{Prefix}
 use Rattle.encoding_front.specs.declared.seeking.BomSet.{BomSet}
 use Rattle.encoding_front.specs.declared.seeking.ByteOrderMark.{ByteOrderMark}
 use Rattle.encoding_front.specs.declared.seeking.ByteOrderMark.TheVariants.{Utf8, Utf16Be, Utf16Le}
@@ -45,6 +42,7 @@ ready_needs_none e = needs_none (needs_of e)
     none_there : (ranges : Bool) → cond ranges false false ≡ false
     none_there true = refl
     none_there false = refl
+
     needs_none : (kinds : List IndexKind) → AreThere no_lists kinds → kinds ≡ []
     needs_none [] h = refl
     needs_none (kind ∷ kinds) h = absurd (false≢true (sym (none_there (is_ranges kind)) ∙ h.0))

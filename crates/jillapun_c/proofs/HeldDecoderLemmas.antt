@@ -1,5 +1,6 @@
 -- The decoder that a handle holds, as its calls see it.
 use Rattle.std.proofs.Common.{◌≡◌, ◌≢◌, ℕ, Bool, true, false, List, [], length, Option, Some, None, inl, refl, sym, ◌∙◌, ap, subst, ◌+◌, unwrap_or}
+use Rattle.std.proofs.Math.Logic.{∥∥₁_elim}
 use Rattle.encoding_mem.specs.calls.DecodedLength.{queried, decoded_length_utf8, decoded_length_utf16}
 use Rattle.encoding_mem.specs.calls.Decoding.{DecoderState}
 use Rattle.encoding_mem.specs.calls.Resuming.{Reading, reading_of, saved_bytes}
@@ -21,10 +22,10 @@ use Rattle.encoding_front.specs.declared.decoder.room_rule.RoomRule.{RoomRule}
 use Rattle.encoding_front.specs.declared.decoder.saved_decoder.SavedDecoder.{SavedDecoder}
 use Rattle.encoding_front.specs.declared.encoding.Encoding.{Encoding}
 use Rattle.encoding_front.specs.declared.mark.Mark.{Mark}
-use Rattle.encoding_front.specs.laws.SavedDecoders.{call_alike, text_alike}
+use Rattle.encoding_front.specs.laws.SavedDecoders.{CanGoOn-prop, call_alike, text_alike}
 use Rattle.jillapun_c.proofs.EncodingNumberLemmas.{same_some}
-use Rattle.jillapun_c.specs.Openings.{IfReady}
-use Rattle.jillapun_c.specs.DecoderCalls.{AnswersDecoder, AsksRoom, Decodes, DecodesUpToFault, GoesOnFrom, HoldsNewDecoder, HoldsOne, IsOutcome, TellsIfKnown, TellsWhyNot, text_outcome}
+use Rattle.jillapun_c.specs.EncodingNumbers.{encoding_at, mark_at}
+use Rattle.jillapun_c.specs.DecoderCalls.{AnswersDecoder, AsksRoom, Decodes, DecodesUpToFault, GoesOnFrom, HoldsNewDecoder, HoldsOne, IsOutcome, MakesDecoder, TellsIfKnown, TellsWhyNot, text_outcome}
 use Rattle.jillapun_c.specs.HeldDecoders.{HoldsDecoder, IsSoundDecoder, saved_in}
 use Rattle.jillapun_c.specs.HeldTables.{held_lists}
 use Rattle.jillapun_c.specs.declared.decoder.handle.DecoderHandle.{DecoderHandle}
@@ -40,11 +41,11 @@ saves_held h w v is holds = subst (λ (x : SavedDecoder). Saves x v) (same_some 
 
 -- and a decoder is held whose words these are
 pub held_by : (tables : Option IndexLists) (words : DecoderWords) (w : SavedDecoder) (v : DecoderView) → saved_in words ≡ Some w → Saves w v → IsMadeFrom (held_lists tables) v
-    → HoldsDecoder tables words v
-held_by tables words w v is saves made = record { saved = w; is = is; saves = saves; made = made }
+    → CanGoOn (held_lists tables) w → HoldsDecoder tables words v
+held_by tables words w v is saves made goes = record { saved = w; is = is; saves = saves; made = made; goes_on = goes }
 
-pub sound_by : (tables : Option IndexLists) (words : DecoderWords) (w : SavedDecoder) → saved_in words ≡ Some w → CanGoOn (held_lists tables) w → IsSoundDecoder tables words
-sound_by tables words w is goes x other = subst (CanGoOn (held_lists tables)) (same_some w x (sym is ∙ other)) goes
+pub sound_by : (tables : Option IndexLists) (words : DecoderWords) (v : DecoderView) → HoldsDecoder tables words v → IsSoundDecoder tables words
+sound_by tables words v holds w is = ∣ (v, holds) ∣₁
 
 nothing_held : {X : Type 0} (h : DecoderHandle) (v : DecoderView) → saved_in h.words ≡ None → HoldsOne h v → X
 nothing_held h v none holds = let is : saved_in h.words ≡ Some holds.saved = holds.is in absurd (cc)
@@ -101,6 +102,9 @@ opened_answer h u Then goes then = record {
 }
 
 -- ---- a decoder goes on
+
+pub can_go_on : (h : DecoderHandle) (w : SavedDecoder) → saved_in h.words ≡ Some w → CanGoOn (held_lists h.tables.tables) w
+can_go_on h w is = ∥∥₁_elim (h.sound w is) (CanGoOn-prop _ w) (λ s. subst (CanGoOn (held_lists h.tables.tables)) (same_some (s.1).saved w (sym (s.1).is ∙ is)) (s.1).goes_on)
 
 pub goes_on : (h : DecoderHandle) (w : SavedDecoder) (t : IndexLists) (u : DecoderView) → saved_in h.words ≡ Some w → w.is_finished ≡ false → t ≡ held_lists h.tables.tables
     → ((v : DecoderView) → Saves w v → IsMadeFrom t v → ReadsAlike v u) → IsMadeFrom t u → u.finished ≡ w.is_finished → GoesOnFrom h u
@@ -198,6 +202,6 @@ latin1_told h u bytes known goes tells = opened_answer h u (λ v. TellsIfKnown v
 
 -- ---- a decoder is made
 
-pub made_new : (tables : Option IndexLists) (new : DecoderHandle) (e : Encoding) (m : Mark) (v : DecoderView) → IsReady (held_lists tables) e → HoldsOne new v
-    → new.tables.tables ≡ tables → IsNewDecoder v (held_lists tables) m e → IfReady (held_lists tables) e ((OK ≡ OK) × HoldsNewDecoder tables e m new) OK
-made_new tables new e m v ready holds over is_new = inl (ready, (refl, record { view = v; holds = holds; over = over; is_new = is_new }))
+pub made_new : (tables : Option IndexLists) (encoding mark : ℕ) (new : DecoderHandle) (e : Encoding) (m : Mark) (v : DecoderView) → encoding_at encoding ≡ Some e → mark_at mark ≡ Some m
+    → IsReady (held_lists tables) e → HoldsOne new v → new.tables.tables ≡ tables → IsNewDecoder v (held_lists tables) m e → MakesDecoder tables encoding mark new OK
+made_new tables encoding mark new e m v e_is m_is ready holds over is_new = rw e_is (rw m_is (inl (ready, (refl, record { view = v; holds = holds; over = over; is_new = is_new }))))

@@ -19,7 +19,7 @@ use Rattle.jillapun_c.specs.ConverterTurns.{found_log, line_reference, stage_at}
 use Rattle.jillapun_c.specs.EncoderWords.{encoder_of}
 use Rattle.jillapun_c.specs.EncodingNumbers.{encoding_at, mark_at, needed_file}
 use Rattle.jillapun_c.specs.HeldDecoders.{saved_as, saved_in}
-use Rattle.jillapun_c.specs.HeldTables.{no_lists}
+use Rattle.encoding_front.specs.Encodings.{no_lists}
 use Rattle.jillapun_c.specs.IndexFiles.{told_of}
 use Rattle.jillapun_c.specs.Room.{rest_cleared}
 use Rattle.jillapun_c.specs.TextParts.{IsLookedAt, most_read, told_outcome}
@@ -210,7 +210,6 @@ words_of is_there encoding = record {
   is_there = is_there;
   is_finished = false;
   encoding = encoding;
-  taken = 0;
   seeks_utf8 = false;
   seeks_utf16_be = false;
   seeks_utf16_le = false;
@@ -227,5 +226,5 @@ zeroes_hold_no_decoder = refl
 pub no_decoder_without_encoding : saved_in (words_of true 40) ≡ None
 no_decoder_without_encoding = refl
 
-pub words_hold_a_decoder : saved_in (words_of true 25) ≡ Some (saved_as (words_of true 25) Encoding.Utf8 None)
+pub words_hold_a_decoder : saved_in (words_of true 25) ≡ Some (saved_as (words_of true 25) Encoding.Utf8)
 words_hold_a_decoder = refl

@@ -25,13 +25,14 @@ abbrev pub saved_in : DecoderWords → Option SavedDecoder
 saved_in w = if w.is_there then option_map (saved_as w) (encoding_at w.encoding) else None
 
 -- The words stand for a decoder that callers know by this view: it was made from these tables, or with no index if there
--- are none.
+-- are none, and can go on.
 pub record HoldsDecoder (tables : Option IndexLists) (words : DecoderWords) (v : DecoderView) : Type 0 where
   pub saved : SavedDecoder
   pub is : saved_in words ≡ Some saved
   pub saves : Saves saved v
   pub made : IsMadeFrom (held_lists tables) v
+  pub goes_on : CanGoOn (held_lists tables) saved
 
--- what words that stand for a decoder say was saved can go on, over its tables
+-- words that stand for a decoder are those of one
 abbrev pub IsSoundDecoder : Option IndexLists → DecoderWords → Type 0
-IsSoundDecoder tables words = ForSome (saved_in words) (CanGoOn (held_lists tables))
+IsSoundDecoder tables words = ForSome (saved_in words) (λ saved. ∥ ((v : DecoderView) × HoldsDecoder tables words v) ∥₁)

@@ -1,7 +1,7 @@
 -- A decoder that was saved, and one that goes on in its place.
-use Rattle.std.specs.Prelude.{◌≡◌, ℕ, ◌+◌, ◌≤◌, ◌<◌, IsTrue, List, ◌++◌, length}
+use Rattle.std.specs.Prelude.{ℕ, List}
 use Rattle.encoding_mem.specs.calls.DecodedLength.{decoded_length_single_byte}
-use Rattle.encoding_mem.specs.calls.Resuming.{HoldsFew, Reading, reading_of, resumed_plain, saved_bytes, saved_pending, with_none_pending}
+use Rattle.encoding_mem.specs.calls.Resuming.{Reading, resumed_plain, with_none_pending}
 use Rattle.encoding_tables.specs.IndexLists.{IndexLists, index_entries}
 use Rattle.encoding_tables.specs.SingleByte.{pieces_single_byte}
 use Rattle.encoding_tables.specs.UserDefined.{pieces_user_defined}

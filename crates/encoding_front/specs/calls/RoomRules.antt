@@ -1,5 +1,5 @@
 -- What the length queries of a decoder depend on, as plain values.
-use Rattle.std.specs.Prelude.{ℕ, ◌+◌, ◌||◌, Option, [], List}
+use Rattle.std.specs.Prelude.{ℕ, ◌+◌, ◌||◌, Option, []}
 use Rattle.encoding_mem.specs.calls.DecodedLength.{queried, decoded_length_utf8, decoded_length_utf16}
 use Rattle.encoding_mem.specs.declared.codec.room.OutputUnit.{OutputUnit}
 use Rattle.encoding_front.specs.calls.CodecBounds.{decoded_length_of}

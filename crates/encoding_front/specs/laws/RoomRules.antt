@@ -1,10 +1,10 @@
 -- What the length queries of a decoder return is what their rule says.
-use Rattle.std.specs.Prelude.{◌≡◌, ℕ, ◌+◌, ◌||◌}
+use Rattle.std.specs.Prelude.{◌≡◌, ℕ, ◌+◌}
 use Rattle.std.proofs.Common.{ap}
 use Rattle.encoding_mem.specs.calls.DecodedLength.{queried, decoded_length_utf8, decoded_length_utf16}
 use Rattle.encoding_mem.specs.declared.codec.room.OutputUnit.{OutputUnit}
 use Rattle.encoding_front.specs.calls.RoomRules.{room_by, room_rule_of}
-use Rattle.encoding_front.specs.calls.Stream.{DecoderView, IsOpenedBy, ahead, greater_if, room_asked}
+use Rattle.encoding_front.specs.calls.Stream.{DecoderView, IsOpenedBy, greater_if, room_asked}
 
 -- the room that is asked is the room by the rule
 pub asked_by_rule : (v : DecoderView) → IsOpenedBy v → (k : OutputUnit) (n : ℕ) → room_asked v.opening k n ≡ room_by (room_rule_of v) k n

@@ -1,5 +1,6 @@
 -- Laws of decoders that read alike, as one that was saved and one that goes on from it.
-use Rattle.std.proofs.Common.{◌≡◌, ℕ, Bool, List, [], sym, subst, ◌∙◌, ap, ◌++◌}
+use Rattle.std.proofs.Props.{props}
+use Rattle.std.proofs.Common.{ℕ, Bool, List, [], sym, subst, ◌∙◌, ap, ◌++◌}
 use Rattle.encoding_mem.specs.calls.Decoding.{Reports, Takes}
 use Rattle.encoding_mem.specs.calls.Resuming.{Reading}
 use Rattle.encoding_mem.specs.declared.codec.decoder_result.DecoderResult.{DecoderResult}
@@ -8,9 +9,11 @@ use Rattle.encoding_front.specs.Encodings.{IsReady}
 use Rattle.encoding_front.specs.calls.DecodedText.{TakesText}
 use Rattle.encoding_front.specs.calls.DecoderCall.{DecoderCall, RoomLeft, TextCall}
 use Rattle.encoding_front.specs.calls.Resumed.{resumed_in}
-use Rattle.encoding_front.specs.calls.SavedDecoders.{ReadsAlike}
+use Rattle.encoding_front.specs.calls.SavedDecoders.{CanGoOn, IsSound, ReadsAlike}
 use Rattle.encoding_front.specs.calls.Stream.{DecoderView, IsMadeFrom}
 use Rattle.encoding_front.specs.declared.coder_result.CoderResult.{CoderResult}
+use Rattle.encoding_front.specs.declared.decoder.saved_decoder.SavedDecoder.{SavedDecoder}
+use Rattle.encoding_front.specs.laws.Ready.{AreThere-prop}
 
 -- they were made from the same indexes
 pub made_alike : (t : IndexLists) (v u : DecoderView) → ReadsAlike v u → IsMadeFrom t v → IsMadeFrom t u
@@ -36,3 +39,10 @@ text_alike v u after src last read W left outcome had_errors h call = record {
   finished = call.finished;
   made = λ t made. call.made t (made_alike t v u h made);
 }
+
+-- that what was saved can go on has one proof at most, so that a struct can say it of itself
+sound_once : (own : Reading) (w : SavedDecoder) → IsProp (IsSound own w)
+sound_once own w = hlevel props
+
+pub CanGoOn-prop : (t : IndexLists) (w : SavedDecoder) → IsProp (CanGoOn t w)
+CanGoOn-prop t w a b i = record { ready = AreThere-prop t _ a.ready b.ready i; sound = sound_once _ w a.sound b.sound i }

@@ -9,7 +9,6 @@ use crate::encoder_progress::EncoderProgress;
 use crate::status::{INPUT_EMPTY, NO_ENCODING, NOT_READY, OK, UNKNOWN};
 use crate::tables_handle::TablesHandle;
 use crate::tests::{euro, japanese};
-use std::alloc::Global;
 
 const ISO_2022_JP: u8 = 6;
 
@@ -34,29 +33,21 @@ fn copied(handle: &EncoderHandle) -> EncoderHandle {
 // What a call leaves: its status and outcome, the room, and how many bytes were written.
 type Left = (u8, u8, [u8; 24], usize);
 
-fn encoded(alloc: Global, handle: &mut EncoderHandle, text: &[u8], last: bool) -> Left {
+fn encoded(handle: &mut EncoderHandle, text: &[u8], last: bool) -> Left {
     let mut progress = EncoderProgress::NONE;
     let mut bytes = *b"........................";
-    let status = jillapun_encoder_encode_from_utf8(
-        alloc,
-        handle,
-        text,
-        &mut bytes,
-        last,
-        &mut progress,
-    );
+    let status = jillapun_encoder_encode_from_utf8(handle, text, &mut bytes, last, &mut progress);
     (status, progress.outcome, bytes, progress.written)
 }
 
 #[test]
 fn no_tables_do_for_utf_8(rt: HostRuntime) {
-    let alloc = rt.alloc();
     for encoding in UTF_8..UTF_16LE + 1 {
         let mut encoder = EncoderHandle::none();
-        let status = jillapun_encoder_new(alloc, TablesHandle::none(), encoding, &mut encoder);
+        let status = jillapun_encoder_new(TablesHandle::none(), encoding, &mut encoder);
         assert_eq!(rt; status, OK);
         assert_eq!(rt; jillapun_encoder_encoding(&encoder), UTF_8);
-        let left = encoded(alloc, &mut encoder, "a€".as_bytes(), true);
+        let left = encoded(&mut encoder, "a€".as_bytes(), true);
         assert_eq!(rt;
             left,
             (OK, INPUT_EMPTY, *b"a\xE2\x82\xAC....................", 4)
@@ -64,7 +55,6 @@ fn no_tables_do_for_utf_8(rt: HostRuntime) {
         let mut progress = EncoderProgress::NONE;
         let mut bytes = *b"....";
         let status = jillapun_encoder_encode_from_utf16(
-            alloc,
             &mut encoder,
             &[0x20AC],
             &mut bytes,
@@ -81,16 +71,16 @@ fn no_tables_do_for_utf_8(rt: HostRuntime) {
 fn what_is_not_made_leaves_the_handle(rt: HostRuntime) {
     let alloc = rt.alloc();
     let mut encoder = EncoderHandle::none();
-    let status = jillapun_encoder_new(alloc, TablesHandle::none(), WINDOWS_1252, &mut encoder);
+    let status = jillapun_encoder_new(TablesHandle::none(), WINDOWS_1252, &mut encoder);
     assert_eq!(rt; status, NOT_READY);
     assert_eq!(rt; jillapun_encoder_encoding(&encoder), NO_ENCODING);
-    let status = jillapun_encoder_new(alloc, euro(alloc), WINDOWS_1252, &mut encoder);
+    let status = jillapun_encoder_new(euro(alloc), WINDOWS_1252, &mut encoder);
     assert_eq!(rt; status, OK);
-    let status = jillapun_encoder_new(alloc, TablesHandle::none(), ISO_2022_JP, &mut encoder);
+    let status = jillapun_encoder_new(TablesHandle::none(), ISO_2022_JP, &mut encoder);
     assert_eq!(rt; status, NOT_READY);
-    let status = jillapun_encoder_new(alloc, euro(alloc), 40, &mut encoder);
+    let status = jillapun_encoder_new(euro(alloc), 40, &mut encoder);
     assert_eq!(rt; status, UNKNOWN);
-    let left = encoded(alloc, &mut encoder, "a€".as_bytes(), true);
+    let left = encoded(&mut encoder, "a€".as_bytes(), true);
     assert_eq!(rt; left, (OK, INPUT_EMPTY, *b"a\x80......................", 2));
 }
 
@@ -99,10 +89,10 @@ fn what_is_not_made_leaves_the_handle(rt: HostRuntime) {
 fn handles_are_filled_again(rt: HostRuntime) {
     let alloc = rt.alloc();
     let mut encoder = EncoderHandle::none();
-    jillapun_encoder_new(alloc, japanese(alloc), ISO_2022_JP, &mut encoder);
-    encoded(alloc, &mut encoder, "¥".as_bytes(), false);
+    jillapun_encoder_new(japanese(alloc), ISO_2022_JP, &mut encoder);
+    encoded(&mut encoder, "¥".as_bytes(), false);
     assert!(rt; jillapun_encoder_has_pending_state(&encoder));
-    let status = jillapun_encoder_new(alloc, euro(alloc), WINDOWS_1252, &mut encoder);
+    let status = jillapun_encoder_new(euro(alloc), WINDOWS_1252, &mut encoder);
     assert_eq!(rt; status, OK);
     assert!(rt; !jillapun_encoder_has_pending_state(&encoder));
     assert_eq!(rt; jillapun_encoder_encoding(&encoder), WINDOWS_1252);
@@ -113,9 +103,9 @@ fn handles_are_filled_again(rt: HostRuntime) {
 fn copies_go_on_from_where_they_were_made(rt: HostRuntime) {
     let alloc = rt.alloc();
     let mut encoder = EncoderHandle::none();
-    jillapun_encoder_new(alloc, japanese(alloc), ISO_2022_JP, &mut encoder);
+    jillapun_encoder_new(japanese(alloc), ISO_2022_JP, &mut encoder);
     let mut before = copied(&encoder);
-    let left = encoded(alloc, &mut encoder, "¥".as_bytes(), false);
+    let left = encoded(&mut encoder, "¥".as_bytes(), false);
     assert_eq!(rt;
         left,
         (OK, INPUT_EMPTY, *b"\x1B(J\\....................", 4)
@@ -126,11 +116,11 @@ fn copies_go_on_from_where_they_were_made(rt: HostRuntime) {
     assert!(rt; jillapun_encoder_has_pending_state(&after));
     assert!(rt; !jillapun_encoder_has_pending_state(&before));
     let rest = *b"a\\\x1B(B...................";
-    let left = encoded(alloc, &mut moved, "a¥".as_bytes(), true);
+    let left = encoded(&mut moved, "a¥".as_bytes(), true);
     assert_eq!(rt; left, (OK, INPUT_EMPTY, rest, 5));
-    let left = encoded(alloc, &mut after, "a¥".as_bytes(), true);
+    let left = encoded(&mut after, "a¥".as_bytes(), true);
     assert_eq!(rt; left, (OK, INPUT_EMPTY, rest, 5));
-    let left = encoded(alloc, &mut before, "¥".as_bytes(), true);
+    let left = encoded(&mut before, "¥".as_bytes(), true);
     assert_eq!(rt;
         left,
         (OK, INPUT_EMPTY, *b"\x1B(J\\\x1B(B.................", 7)

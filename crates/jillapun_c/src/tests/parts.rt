@@ -27,7 +27,7 @@ type Left = (u8, u8, usize, [u8; 16], usize);
 
 fn encoder_into(alloc: Global, encoding: u8) -> EncoderHandle {
     let mut encoder = EncoderHandle::none();
-    jillapun_encoder_new(alloc, euro(alloc), encoding, &mut encoder);
+    jillapun_encoder_new(euro(alloc), encoding, &mut encoder);
     encoder
 }
 
@@ -36,13 +36,7 @@ fn western_encoder(alloc: Global) -> EncoderHandle {
 }
 
 // Hands in what is left of a text until all is read, or a call refuses.
-fn through(
-    alloc: Global,
-    encoder: &mut EncoderHandle,
-    text: &[u8],
-    room: usize,
-    replaces: bool,
-) -> Left {
+fn through(encoder: &mut EncoderHandle, text: &[u8], room: usize, replaces: bool) -> Left {
     let mut progress = EncoderProgress::NONE;
     let mut status = OK;
     let mut read = 0;
@@ -53,10 +47,9 @@ fn through(
         let dst = &mut bytes[..room.min(20)];
         let rest = &text[read.min(text.len())..];
         status = if replaces {
-            jillapun_encoder_encode_from_utf8(alloc, encoder, rest, dst, true, &mut progress)
+            jillapun_encoder_encode_from_utf8(encoder, rest, dst, true, &mut progress)
         } else {
             jillapun_encoder_encode_from_utf8_without_replacement(
-                alloc,
                 encoder,
                 rest,
                 dst,
@@ -86,13 +79,13 @@ fn any_room_that_is_enough_gives_the_text(rt: HostRuntime) {
     let alloc = rt.alloc();
     let mut encoder = western_encoder(alloc);
     for room in 0..21 {
-        let left = through(alloc, &mut encoder, TEXT, room, true);
+        let left = through(&mut encoder, TEXT, room, true);
         if room < 11 {
             assert_eq!(rt; left, (OK, OUTPUT_FULL, 0, *b"................", 0));
         } else {
             assert_eq!(rt; left, (OK, INPUT_EMPTY, 8, *b"a\x80&#26085;b.....", 11));
         }
-        let left = through(alloc, &mut encoder, TEXT, room, false);
+        let left = through(&mut encoder, TEXT, room, false);
         if room < 1 {
             assert_eq!(rt; left, (OK, OUTPUT_FULL, 0, *b"................", 0));
         } else {
@@ -111,7 +104,7 @@ fn a_part_of_a_text_is_encoded_as_it_is_of_the_whole(rt: HostRuntime) {
     let alloc = rt.alloc();
     let mut encoder = western_encoder(alloc);
     for room in 1..7 {
-        let left = through(alloc, &mut encoder, LONG, room, false);
+        let left = through(&mut encoder, LONG, room, false);
         assert_eq!(rt;
             left,
             (OK, INPUT_EMPTY, 24, *b"a\x80ba\x80ba\x80b.......", 9)
@@ -126,7 +119,7 @@ fn to_utf8_a_text_is_copied(rt: HostRuntime) {
         let mut encoder = encoder_into(alloc, encoding);
         for room in 0..21 {
             for replaces in 0..2 {
-                let left = through(alloc, &mut encoder, LONG, room, replaces == 1);
+                let left = through(&mut encoder, LONG, room, replaces == 1);
                 if room < 1 {
                     assert_eq!(rt; left, (OK, OUTPUT_FULL, 0, *b"................", 0));
                 } else if room < 3 {
@@ -148,11 +141,11 @@ fn what_is_before_a_malformed_byte_is_encoded(rt: HostRuntime) {
         let mut text = *TEXT;
         text[at] = 0xFF;
         for room in 14..21 {
-            let (status, _, read, _, _) = through(alloc, &mut encoder, &text, room, true);
+            let (status, _, read, _, _) = through(&mut encoder, &text, room, true);
             assert_eq!(rt; (status, read), (NOT_UTF8, STARTS[at]));
         }
         for room in 1..5 {
-            let (status, _, read, _, _) = through(alloc, &mut encoder, &text, room, false);
+            let (status, _, read, _, _) = through(&mut encoder, &text, room, false);
             assert_eq!(rt; (status, read), (NOT_UTF8, STARTS[at]));
         }
     }
@@ -163,7 +156,7 @@ fn a_text_that_ends_within_a_character_is_not_utf8(rt: HostRuntime) {
     let alloc = rt.alloc();
     let mut encoder = western_encoder(alloc);
     for end in 0..9 {
-        let (status, outcome, read, _, len) = through(alloc, &mut encoder, &TEXT[..end], 20, true);
+        let (status, outcome, read, _, len) = through(&mut encoder, &TEXT[..end], 20, true);
         assert_eq!(rt; read, STARTS[end]);
         if STARTS[end] == end {
             assert_eq!(rt; (status, outcome), (OK, INPUT_EMPTY));
@@ -183,7 +176,6 @@ fn more_is_told_before_a_malformed_byte(rt: HostRuntime) {
     let mut progress = EncoderProgress::NONE;
     let mut bytes = [0; 20];
     let status = jillapun_encoder_encode_from_utf8(
-        alloc,
         &mut encoder,
         b"ab\xFF",
         &mut bytes,
@@ -193,7 +185,6 @@ fn more_is_told_before_a_malformed_byte(rt: HostRuntime) {
     assert_eq!(rt; (status, progress.outcome), (OK, OUTPUT_FULL));
     assert_eq!(rt; (progress.read, progress.written), (2, 2));
     let status = jillapun_encoder_encode_from_utf8_without_replacement(
-        alloc,
         &mut encoder,
         b"\xE6\x97\xA5\xFF",
         &mut bytes,
@@ -205,7 +196,6 @@ fn more_is_told_before_a_malformed_byte(rt: HostRuntime) {
         (OK, UNMAPPABLE, 3)
     );
     let status = jillapun_encoder_encode_from_utf8_without_replacement(
-        alloc,
         &mut encoder,
         b"\xFF",
         &mut bytes,

@@ -35,15 +35,14 @@ fn decoder(alloc: Global, encoding: u8, mark: u8) -> DecoderHandle {
     }];
     jillapun_tables_new(alloc, &files, &mut tables, &mut fault);
     let mut handle = DecoderHandle::none();
-    jillapun_decoder_new(alloc, tables, encoding, mark, &mut handle);
+    jillapun_decoder_new(tables, encoding, mark, &mut handle);
     handle
 }
 
 // What a decoder tells.
-fn latin1_length(alloc: Global, handle: &DecoderHandle) -> (u8, usize) {
+fn latin1_length(handle: &DecoderHandle) -> (u8, usize) {
     let mut length = 9;
     let status = jillapun_decoder_latin1_byte_compatible_up_to(
-        alloc,
         handle,
         b"a\xE9\x7F\x80b",
         &mut length,
@@ -52,11 +51,11 @@ fn latin1_length(alloc: Global, handle: &DecoderHandle) -> (u8, usize) {
 }
 
 // What it tells once it has decoded these bytes.
-fn length_after(alloc: Global, handle: &mut DecoderHandle, src: &[u8], last: bool) -> (u8, usize) {
+fn length_after(handle: &mut DecoderHandle, src: &[u8], last: bool) -> (u8, usize) {
     let mut text = [0; 8];
     let mut progress = Progress::NONE;
-    jillapun_decoder_decode_to_utf8(alloc, handle, src, &mut text, last, &mut progress);
-    latin1_length(alloc, handle)
+    jillapun_decoder_decode_to_utf8(handle, src, &mut text, last, &mut progress);
+    latin1_length(handle)
 }
 
 // How many bytes of UTF-8 are room enough for the text of so many.
@@ -84,18 +83,15 @@ fn encoded_length(handle: &EncoderHandle, n: usize) -> (u8, usize) {
 fn latin1_is_found(rt: HostRuntime) {
     let alloc = rt.alloc();
     let mut handle = decoder(alloc, WINDOWS_1252, KEEP);
-    assert_eq!(rt; length_after(alloc, &mut handle, b"a", false), (OK, 3));
-    assert_eq!(rt; length_after(alloc, &mut handle, b"a", true), (FINISHED, 0));
+    assert_eq!(rt; length_after(&mut handle, b"a", false), (OK, 3));
+    assert_eq!(rt; length_after(&mut handle, b"a", true), (FINISHED, 0));
     handle = DecoderHandle::none();
-    assert_eq!(rt; latin1_length(alloc, &handle), (CLOSED, 0));
+    assert_eq!(rt; latin1_length(&handle), (CLOSED, 0));
     let mut handle = decoder(alloc, UTF_8, KEEP);
-    assert_eq!(rt; length_after(alloc, &mut handle, b"a", false), (OK, 1));
-    assert_eq!(rt;
-        length_after(alloc, &mut handle, b"\xC3", false),
-        (OK, REFUSED)
-    );
+    assert_eq!(rt; length_after(&mut handle, b"a", false), (OK, 1));
+    assert_eq!(rt; length_after(&mut handle, b"\xC3", false), (OK, REFUSED));
     let mut handle = decoder(alloc, UTF_8, SNIFF);
-    assert_eq!(rt; latin1_length(alloc, &handle), (OK, REFUSED));
+    assert_eq!(rt; latin1_length(&handle), (OK, REFUSED));
 }
 
 #[test]
@@ -103,13 +99,13 @@ fn decoders_are_asked(rt: HostRuntime) {
     let alloc = rt.alloc();
     let mut handle = decoder(alloc, WINDOWS_1252, SNIFF);
     assert_eq!(rt; jillapun_decoder_encoding(&handle), WINDOWS_1252);
-    length_after(alloc, &mut handle, b"\xEF\xBB\xBF", false);
+    length_after(&mut handle, b"\xEF\xBB\xBF", false);
     assert_eq!(rt; jillapun_decoder_encoding(&handle), UTF_8);
     let mut handle = decoder(alloc, WINDOWS_1252, KEEP);
     assert_eq!(rt; units_for(&handle, 5), (OK, 5));
     assert_eq!(rt; bytes_for(&handle, 5), (OK, 15));
     assert_eq!(rt; bytes_for(&handle, usize::MAX), (OK, REFUSED));
-    length_after(alloc, &mut handle, b"a", true);
+    length_after(&mut handle, b"a", true);
     assert_eq!(rt; units_for(&handle, 5), (FINISHED, 0));
     assert_eq!(rt; jillapun_decoder_encoding(&handle), WINDOWS_1252);
     handle = DecoderHandle::none();
@@ -126,7 +122,7 @@ fn encoders_are_asked(rt: HostRuntime) {
     let mut tables = TablesHandle::none();
     let mut fault = IndexFault { file: 9, line: 9 };
     jillapun_tables_new(alloc, &[], &mut tables, &mut fault);
-    jillapun_encoder_new(alloc, tables, UTF_16LE, &mut handle);
+    jillapun_encoder_new(tables, UTF_16LE, &mut handle);
     assert_eq!(rt; jillapun_encoder_encoding(&handle), UTF_8);
     assert_eq!(rt; encoded_length(&handle, 5), (OK, 15));
     assert_eq!(rt; encoded_length(&handle, usize::MAX), (OK, REFUSED));

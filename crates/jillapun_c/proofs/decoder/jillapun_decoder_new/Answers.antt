@@ -13,3 +13,12 @@ new-decoder-requires c =
 
 pub of-requires : goal.of-requires
 of-requires c = subst (λ l. IsMadeFrom l (decoder_view c.new-decoder.result)) (lists_lent c.lent.result c.args.tables.tables c.lent.ensures) c.new-decoder.ensures.begins.made
+
+pub returns-clause-makes : goal.returns-clause-makes
+returns-clause-makes c =
+    let e = c.in-Some.encoding in
+    let m = c.in-Some-mark_of.mark in
+    let v = decoder_view c.new-decoder.result in
+    let tables = c.args.tables.tables in
+    made_new tables c.args.encoding c.args.mark c.of.result e m v (sym c.in-Some.ensures) (sym c.in-Some-mark_of.ensures) (c.are_ready.ensures.0 (rw c.if-not-are_ready.false refl)) c.of.ensures.holds c.of.ensures.tables
+    (subst (λ l. IsNewDecoder v l m e) (lists_lent c.lent.result tables c.lent.ensures) c.new-decoder.ensures.begins)

@@ -1,5 +1,5 @@
-use Rattle.std.proofs.Common.{rules, arith, ◌≡◌, ℕ, ◌-◌, ◌++◌, List, length, true, false, sym, ◌∙◌, ap, subst, [], Some}
-use Rattle.encoding_front.specs.calls.Seeking.{encoding_of_mark, mark_len, is_sought, find_mark, sought_pieces, sought_needs}
+use Rattle.std.proofs.Common.{rules, arith, ◌≡◌, ℕ, ◌-◌, ◌++◌, List, length, true, false, sym, ◌∙◌, ap, subst, []}
+use Rattle.encoding_front.specs.calls.Seeking.{mark_len, is_sought, find_mark, sought_pieces, sought_needs}
 use Rattle.encoding_front.specs.Encodings.{IsReady, needs_of, no_lists, pieces_of}
 use Rattle.encoding_front.specs.laws.Stream.{in_force, room_after_is}
 use Rattle.encoding_front.specs.calls.CodecBounds.{decoded_length_of}

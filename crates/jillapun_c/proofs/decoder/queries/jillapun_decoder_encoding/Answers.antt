@@ -5,4 +5,4 @@ use Rattle.jillapun_c.proofs.decoder.queries.jillapun_decoder_encoding.Goals as 
 
 pub returns-in-Some-clause-encoding : goal.returns-in-Some-clause-encoding
 returns-in-Some-clause-encoding c v holds =
-    c.number_of.ensures.number ∙ ap number_of (c.encoding_in_force.ensures v (saves_held c.args.decoder.now c.in-Some.saved v (sym c.in-Some.ensures) holds))
+    c.number_of.ensures.number ∙ ap number_of (sym (saves_held c.args.decoder.now c.in-Some.saved v (sym c.in-Some.ensures) holds).in_force)

@@ -1,4 +1,3 @@
-use Rattle.std.proofs.Common.{◌∙◌, ap, length}
 use Rattle.encoding_front.proofs.ResumedLemmas.{rule_saved}
 use Rattle.encoding_front.proofs.decoder.saved_decoder.SavedDecoder.room_rule.Goals as goal
 
