@@ -3,7 +3,7 @@ use Rattle.std.proofs.Common.{◌≡◌, ◌≢◌, ℕ, Bool, true, false, List
 use Rattle.std.proofs.Math.Logic.{∥∥₁_elim}
 use Rattle.encoding_mem.specs.calls.DecodedLength.{queried, decoded_length_utf8, decoded_length_utf16}
 use Rattle.encoding_mem.specs.calls.Decoding.{DecoderState}
-use Rattle.encoding_mem.specs.calls.Resuming.{Reading, reading_of, saved_bytes}
+use Rattle.encoding_mem.specs.calls.Resuming.{Reading, reading_of}
 use Rattle.encoding_mem.specs.declared.codec.decoder_result.DecoderResult.{DecoderResult}
 use Rattle.encoding_mem.specs.declared.codec.decoder_result.DecoderResult.TheVariants as raw_
 use Rattle.encoding_mem.specs.declared.codec.room.OutputUnit.{OutputUnit}
@@ -25,7 +25,7 @@ use Rattle.encoding_front.specs.declared.mark.Mark.{Mark}
 use Rattle.encoding_front.specs.laws.SavedDecoders.{CanGoOn-prop, call_alike, text_alike}
 use Rattle.jillapun_c.proofs.EncodingNumberLemmas.{same_some}
 use Rattle.jillapun_c.specs.EncodingNumbers.{encoding_at, mark_at}
-use Rattle.jillapun_c.specs.DecoderCalls.{AnswersDecoder, AsksRoom, Decodes, DecodesUpToFault, GoesOnFrom, HoldsNewDecoder, HoldsOne, IsOutcome, MakesDecoder, TellsIfKnown, TellsWhyNot, text_outcome}
+use Rattle.jillapun_c.specs.DecoderCalls.{AnswersDecoder, AsksRoom, Decodes, DecodesUpToFault, GoesOnFrom, HoldsOne, IsOutcome, MakesDecoder, TellsIfKnown, TellsWhyNot, text_outcome}
 use Rattle.jillapun_c.specs.HeldDecoders.{HoldsDecoder, IsSoundDecoder, saved_in}
 use Rattle.jillapun_c.specs.HeldTables.{held_lists}
 use Rattle.jillapun_c.specs.declared.decoder.handle.DecoderHandle.{DecoderHandle}

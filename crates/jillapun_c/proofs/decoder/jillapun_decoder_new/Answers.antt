@@ -1,5 +1,5 @@
 use Rattle.std.proofs.Common.{refl, subst, sym}
-use Rattle.encoding_front.specs.Encodings.{IsReady, lists_of}
+use Rattle.encoding_front.specs.Encodings.{IsReady}
 use Rattle.encoding_front.specs.calls.DecoderViews.{decoder_view}
 use Rattle.encoding_front.specs.calls.Stream.{IsMadeFrom, IsNewDecoder}
 use Rattle.jillapun_c.proofs.HeldDecoderLemmas.{made_new}
