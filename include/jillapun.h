@@ -298,7 +298,6 @@ typedef struct {
     bool private_is_there;
     bool private_is_finished;
     uint8_t private_encoding;
-    uint8_t private_taken;
     bool private_seeks_utf8;
     bool private_seeks_utf16_be;
     bool private_seeks_utf16_le;

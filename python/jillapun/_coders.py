@@ -17,7 +17,6 @@ class DecoderWords(ctypes.Structure):
         ("is_there", ctypes.c_bool),
         ("is_finished", ctypes.c_bool),
         ("encoding", c.Byte),
-        ("taken", c.Byte),
         ("seeks_utf8", ctypes.c_bool),
         ("seeks_utf16_be", ctypes.c_bool),
         ("seeks_utf16_le", ctypes.c_bool),

@@ -80,8 +80,8 @@ impl<'t> VariantDecoder<'t> {
 
     /// A decoder of a new stream in `encoding`, with nothing pending.
     ///
-    /// The condition is that the indexes of `encoding` are in `tables` (`Encoding::is_ready`), which
-    /// are `None` only if it needs none (`Encoding::needs`).
+    /// The condition, that the indexes of `encoding` are in `tables`, is tested by
+    /// `Encoding::is_ready`. If it needs none (`Encoding::needs`), `None` will do.
     pub fn new(encoding: Encoding, tables: Option<&'t Tables>) -> Self
         requires { IsReady (lists_of tables) encoding }
         ensures { IsNewIn (lists_of tables.entry) encoding result }

@@ -57,9 +57,9 @@ impl<'t> VariantEncoder<'t> {
     /// An encoder of a new stream into the output encoding of `encoding`, with ASCII as the set in
     /// force.
     ///
-    /// The condition is that the indexes of the output encoding are in `tables`
-    /// (`Encoding::is_ready` of `output_encoding`), which are `None` only if it needs none
-    /// (`Encoding::needs`).
+    /// The condition, that the indexes of the output encoding are in `tables`, is tested by
+    /// `Encoding::is_ready` of `output_encoding`. If it needs none (`Encoding::needs`), `None` will
+    /// do.
     pub fn new(encoding: Encoding, tables: Option<&'t Tables>) -> Self
         requires { IsReady (lists_of tables) (output_encoding_of encoding) }
         ensures { IsFreshEncoder (⟦<VariantEncoder<'t> as RawEncoder>⟧.parts result)

@@ -14,7 +14,7 @@ use Rattle.encoding_front.specs.calls.CodecBounds.{decoded_length_of}
 use Rattle.encoding_front.specs.calls.DecoderCall.{DecoderCall, IfRoomAsked, RoomLeft, TextCall}
 use Rattle.encoding_front.specs.calls.Latin1Prefix.{IsAtRest, IsLatin1Prefix, Latin1Rule, by_ascii, by_index, by_mode, latin1_rule, untold}
 use Rattle.encoding_front.specs.calls.RoomRules.{room_by, room_rule_of}
-use Rattle.encoding_front.specs.calls.SavedDecoders.{CanGoOn, ReadsAlike, Saves}
+use Rattle.encoding_front.specs.calls.SavedDecoders.{CanBeResumed, ReadsAlike, Saves}
 use Rattle.encoding_front.specs.calls.Stream.{DecoderView, IsMadeFrom, IsNewDecoder, Opening, SeeksNoMark, TellsLatin1Prefix, greater_if, room_asked}
 use Rattle.encoding_front.specs.declared.coder_result.CoderResult.{CoderResult}
 use Rattle.encoding_front.specs.declared.coder_result.CoderResult.TheVariants as text_
@@ -22,7 +22,7 @@ use Rattle.encoding_front.specs.declared.decoder.room_rule.RoomRule.{RoomRule}
 use Rattle.encoding_front.specs.declared.decoder.saved_decoder.SavedDecoder.{SavedDecoder}
 use Rattle.encoding_front.specs.declared.encoding.Encoding.{Encoding}
 use Rattle.encoding_front.specs.declared.mark.Mark.{Mark}
-use Rattle.encoding_front.specs.laws.SavedDecoders.{CanGoOn-prop, call_alike, text_alike}
+use Rattle.encoding_front.specs.laws.SavedDecoders.{CanBeResumed-prop, call_alike, text_alike}
 use Rattle.jillapun_c.proofs.EncodingNumberLemmas.{same_some}
 use Rattle.jillapun_c.specs.EncodingNumbers.{encoding_at, mark_at}
 use Rattle.jillapun_c.specs.DecoderCalls.{AnswersDecoder, AsksRoom, Decodes, DecodesUpToFault, GoesOnFrom, HoldsOne, IsOutcome, MakesDecoder, TellsIfKnown, TellsWhyNot, text_outcome}
@@ -41,7 +41,7 @@ saves_held h w v is holds = subst (λ (x : SavedDecoder). Saves x v) (same_some 
 
 -- and a decoder is held whose words these are
 pub held_by : (tables : Option IndexLists) (words : DecoderWords) (w : SavedDecoder) (v : DecoderView) → saved_in words ≡ Some w → Saves w v → IsMadeFrom (held_lists tables) v
-    → CanGoOn (held_lists tables) w → HoldsDecoder tables words v
+    → CanBeResumed (held_lists tables) w → HoldsDecoder tables words v
 held_by tables words w v is saves made goes = record { saved = w; is = is; saves = saves; made = made; goes_on = goes }
 
 pub sound_by : (tables : Option IndexLists) (words : DecoderWords) (v : DecoderView) → HoldsDecoder tables words v → IsSoundDecoder tables words
@@ -103,8 +103,8 @@ opened_answer h u Then goes then = record {
 
 -- ---- a decoder goes on
 
-pub can_go_on : (h : DecoderHandle) (w : SavedDecoder) → saved_in h.words ≡ Some w → CanGoOn (held_lists h.tables.tables) w
-can_go_on h w is = ∥∥₁_elim (h.sound w is) (CanGoOn-prop _ w) (λ s. subst (CanGoOn (held_lists h.tables.tables)) (same_some (s.1).saved w (sym (s.1).is ∙ is)) (s.1).goes_on)
+pub can_go_on : (h : DecoderHandle) (w : SavedDecoder) → saved_in h.words ≡ Some w → CanBeResumed (held_lists h.tables.tables) w
+can_go_on h w is = ∥∥₁_elim (h.sound w is) (CanBeResumed-prop _ w) (λ s. subst (CanBeResumed (held_lists h.tables.tables)) (same_some (s.1).saved w (sym (s.1).is ∙ is)) (s.1).goes_on)
 
 pub goes_on : (h : DecoderHandle) (w : SavedDecoder) (t : IndexLists) (u : DecoderView) → saved_in h.words ≡ Some w → w.is_finished ≡ false → t ≡ held_lists h.tables.tables
     → ((v : DecoderView) → Saves w v → IsMadeFrom t v → ReadsAlike v u) → IsMadeFrom t u → u.finished ≡ w.is_finished → GoesOnFrom h u

@@ -2,7 +2,7 @@
 use Rattle.std.specs.Prelude.{◌≡◌, if◌then◌else◌, Option, None, Some}
 use Rattle.std.specs.Option.{ForSome, option_map}
 use Rattle.encoding_tables.specs.IndexLists.{IndexLists}
-use Rattle.encoding_front.specs.calls.SavedDecoders.{CanGoOn, Saves}
+use Rattle.encoding_front.specs.calls.SavedDecoders.{CanBeResumed, Saves}
 use Rattle.encoding_front.specs.calls.Stream.{DecoderView, IsMadeFrom}
 use Rattle.encoding_front.specs.declared.decoder.saved_decoder.SavedDecoder.{SavedDecoder}
 use Rattle.encoding_front.specs.declared.encoding.Encoding.{Encoding}
@@ -31,7 +31,7 @@ pub record HoldsDecoder (tables : Option IndexLists) (words : DecoderWords) (v :
   pub is : saved_in words ≡ Some saved
   pub saves : Saves saved v
   pub made : IsMadeFrom (held_lists tables) v
-  pub goes_on : CanGoOn (held_lists tables) saved
+  pub goes_on : CanBeResumed (held_lists tables) saved
 
 -- words that stand for a decoder are those of one
 abbrev pub IsSoundDecoder : Option IndexLists → DecoderWords → Type 0

@@ -1,9 +1,10 @@
 //! Decoders and encoders that are saved between two calls, and go on as others.
 
 use encoding_front::{
-    CoderResult, Decoder, Encoder, Encoding, GB18030, ISO_2022_JP, Mark, REPLACEMENT, UTF_8,
-    UTF_16LE, WINDOWS_1252,
+    CoderResult, Decoder, Encoder, Encoding, GB18030, ISO_2022_JP, Mark, REPLACEMENT, SavedEncoder,
+    UTF_8, UTF_16LE, WINDOWS_1252, X_USER_DEFINED,
 };
+use encoding_mem::form::EscapeState;
 use encoding_tables::{IndexKind, TableFault, Tables};
 
 // Returns whether two decoders write the text of `bytes`, the second of which goes on from what was
@@ -13,11 +14,11 @@ fn goes_on(tables: &Tables, encoding: Encoding, bytes: &[u8], text: &str) -> boo
         if !encoding.is_ready(tables) {
             return false;
         }
-        let mut first = Decoder::new(encoding, Mark::Sniff, tables);
+        let mut first = Decoder::new(encoding, Mark::Sniff, Some(tables));
         let (begin, rest) = bytes.split_at(at);
         let mut room = [0; 64];
         let (result, _, start, _) = first.decode_to_utf8(begin, &mut room, false);
-        let mut second = Decoder::resumed(first.saved(), tables);
+        let mut second = Decoder::resumed(first.saved(), Some(tables));
         if second.is_finished() || second.encoding() != first.encoding() {
             return false;
         }
@@ -41,7 +42,7 @@ fn encodes_on(tables: &Tables, encoding: Encoding, begin: &str, rest: &str, byte
     let mut first = encoding.new_encoder(tables);
     let mut room = [0; 64];
     let (result, _, start, _) = first.encode_from_utf8(begin, &mut room, false);
-    let mut second = Encoder::resumed(first.saved(), tables);
+    let mut second = Encoder::resumed(first.saved(), Some(tables));
     if second.has_pending_state() != first.has_pending_state() {
         return false;
     }
@@ -119,10 +120,10 @@ fn with_indexes(rt: HostRuntime) {
 
 // Returns whether a decoder that has ended its stream is saved as one that has.
 fn ends(tables: &Tables) -> bool {
-    let mut first = Decoder::new(UTF_8, Mark::Sniff, tables);
+    let mut first = Decoder::new(UTF_8, Mark::Sniff, Some(tables));
     let mut room = [0; 8];
     let (result, _, _, _) = first.decode_to_utf8(b"a", &mut room, true);
-    let second = Decoder::resumed(first.saved(), tables);
+    let second = Decoder::resumed(first.saved(), Some(tables));
     result == CoderResult::InputEmpty && second.is_finished()
 }
 
@@ -133,4 +134,23 @@ fn finished_and_not_ready(rt: HostRuntime) {
     let tables = Tables::new(rt.alloc());
     assert!(rt; ends(&tables));
     assert!(rt; !goes_on(&tables, WINDOWS_1252, b"a", "a"));
+}
+
+// Coders that need no index are made and go on without tables.
+#[test]
+fn without_tables(rt: HostRuntime) {
+    let mut first = Decoder::new(UTF_16LE, Mark::Sniff, None);
+    let mut text = [0; 16];
+    let (_, read, start, _) = first.decode_to_utf8(b"a\0\x3D", &mut text, false);
+    let mut second = Decoder::resumed(first.saved(), None);
+    let (_, more, end, _) = second.decode_to_utf8(b"\xD8\0\xDE", &mut text[start..], true);
+    assert_eq!(rt; (read, more, start + end), (3, 3, 5));
+    assert_eq!(rt; &text[..5], "a\u{1F600}".as_bytes());
+    let saved = SavedEncoder {
+        encoding: X_USER_DEFINED,
+        set: EscapeState::Ascii,
+    };
+    let mut encoder = Encoder::resumed(saved, None);
+    let (_, _, written, _) = encoder.encode_from_utf8("a\u{F780}", &mut text, true);
+    assert_eq!(rt; &text[..written], b"a\x80".as_slice());
 }

@@ -42,7 +42,7 @@ pub record IsSound (own : Reading) (w : SavedDecoder) : Type 0 where
   pub prefix : IsTrue (is_sought w.sought) → find_mark w.sought (saved_bytes w.held) ≡ BomMatch.Prefix
 
 -- What was saved can go on over some indexes: those of the encoding in force are there.
-pub record CanGoOn (t : IndexLists) (w : SavedDecoder) : Type 0 where
+pub record CanBeResumed (t : IndexLists) (w : SavedDecoder) : Type 0 where
   pub ready : IsReady t w.encoding
   pub sound : IsSound (resumed_in t w.encoding w.pieces.mode (saved_pending w.pieces)) w
 

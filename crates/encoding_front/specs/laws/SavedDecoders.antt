@@ -9,7 +9,7 @@ use Rattle.encoding_front.specs.Encodings.{IsReady}
 use Rattle.encoding_front.specs.calls.DecodedText.{TakesText}
 use Rattle.encoding_front.specs.calls.DecoderCall.{DecoderCall, RoomLeft, TextCall}
 use Rattle.encoding_front.specs.calls.Resumed.{resumed_in}
-use Rattle.encoding_front.specs.calls.SavedDecoders.{CanGoOn, IsSound, ReadsAlike}
+use Rattle.encoding_front.specs.calls.SavedDecoders.{CanBeResumed, IsSound, ReadsAlike}
 use Rattle.encoding_front.specs.calls.Stream.{DecoderView, IsMadeFrom}
 use Rattle.encoding_front.specs.declared.coder_result.CoderResult.{CoderResult}
 use Rattle.encoding_front.specs.declared.decoder.saved_decoder.SavedDecoder.{SavedDecoder}
@@ -44,5 +44,5 @@ text_alike v u after src last read W left outcome had_errors h call = record {
 sound_once : (own : Reading) (w : SavedDecoder) → IsProp (IsSound own w)
 sound_once own w = hlevel props
 
-pub CanGoOn-prop : (t : IndexLists) (w : SavedDecoder) → IsProp (CanGoOn t w)
-CanGoOn-prop t w a b i = record { ready = AreThere-prop t _ a.ready b.ready i; sound = sound_once _ w a.sound b.sound i }
+pub CanBeResumed-prop : (t : IndexLists) (w : SavedDecoder) → IsProp (CanBeResumed t w)
+CanBeResumed-prop t w a b i = record { ready = AreThere-prop t _ a.ready b.ready i; sound = sound_once _ w a.sound b.sound i }

@@ -5,7 +5,7 @@ ghost use Rattle.encoding_tables.specs.IndexLists.{IndexLists};
 ghost use Rattle.encoding_front.specs.Encodings.{lists_of};
 ghost use Rattle.encoding_front.specs.calls.DecoderViews.{decoder_view};
 ghost use Rattle.encoding_front.specs.calls.RoomRules.{room_rule_of};
-ghost use Rattle.encoding_front.specs.calls.SavedDecoders.{CanGoOn, ReadsAlike, Saves};
+ghost use Rattle.encoding_front.specs.calls.SavedDecoders.{CanBeResumed, ReadsAlike, Saves};
 ghost use Rattle.encoding_front.specs.calls.Stream.{DecoderView, IsMadeFrom};
 
 use crate::decoder::room_rule::RoomRule;
@@ -55,7 +55,7 @@ impl<'t> Decoder<'t> {
     pub fn saved(&self) -> SavedDecoder
         ensures saves { Saves result (decoder_view self.now) }
         ensures goes_on { (t : IndexLists) → IsMadeFrom t (decoder_view self.now)
-            → CanGoOn t result }
+            → CanBeResumed t result }
     {
         SavedDecoder {
             encoding: self.encoding,
@@ -69,10 +69,10 @@ impl<'t> Decoder<'t> {
     /// A decoder that goes on where one was saved: its calls do what those of the saved decoder
     /// would have done.
     ///
-    /// The condition is that a decoder was saved which was made from these `tables`, which may be
-    /// `None` if it needs none: its caller keeps them together.
+    /// The condition is that a decoder was saved which was made from these `tables`, or, if its
+    /// encoding needs no index, from any or `None`: its caller keeps them together.
     pub fn resumed(saved: SavedDecoder, tables: Option<&'t Tables>) -> Self
-        requires { CanGoOn (lists_of tables) saved }
+        requires { CanBeResumed (lists_of tables) saved }
         ensures alike { (v : DecoderView) → Saves saved v → IsMadeFrom (lists_of tables.entry) v
             → ReadsAlike v (decoder_view result) }
         ensures made { IsMadeFrom (lists_of tables.entry) (decoder_view result) }

@@ -52,7 +52,6 @@ pub(super) struct DecoderWords {
     pub(super) private_is_there: bool,
     pub(super) private_is_finished: bool,
     pub(super) private_encoding: u8,
-    pub(super) private_taken: u8,
     pub(super) private_seeks_utf8: bool,
     pub(super) private_seeks_utf16_be: bool,
     pub(super) private_seeks_utf16_le: bool,
