@@ -145,12 +145,13 @@ fn without_tables(rt: HostRuntime) {
     let mut second = Decoder::resumed(first.saved(), None);
     let (_, more, end, _) = second.decode_to_utf8(b"\xD8\0\xDE", &mut text[start..], true);
     assert_eq!(rt; (read, more, start + end), (3, 3, 5));
-    assert_eq!(rt; &text[..5], "a\u{1F600}".as_bytes());
+    assert!(rt; text.starts_with("a\u{1F600}".as_bytes()));
     let saved = SavedEncoder {
         encoding: X_USER_DEFINED,
         set: EscapeState::Ascii,
     };
     let mut encoder = Encoder::resumed(saved, None);
     let (_, _, written, _) = encoder.encode_from_utf8("a\u{F780}", &mut text, true);
-    assert_eq!(rt; &text[..written], b"a\x80".as_slice());
+    assert_eq!(rt; written, 2);
+    assert!(rt; text.starts_with(b"a\x80"));
 }
