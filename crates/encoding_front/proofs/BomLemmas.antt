@@ -18,7 +18,7 @@ use Rattle.std.specs.List.{starts_with}
 use Rattle.std.proofs.lemmas.Bool.{eqb-true}
 use Rattle.std.specs.Option.{unwrap_or}
 use Rattle.encoding_tables.specs.IndexLists.{IndexLists}
-use Rattle.encoding_front.specs.Encodings.{first_mark, pieces_of}
+use Rattle.encoding_front.specs.Encodings.{IsReady, first_mark, needs_of, pieces_of}
 use Rattle.encoding_front.specs.calls.CodecBounds.{decoded_length_of}
 use Rattle.encoding_front.specs.Marks.{source_of, pieces_from, marked_pieces}
 use Rattle.encoding_mem.specs.declared.codec.room.DecodedLength.{DecodedLength}
@@ -623,3 +623,22 @@ suffices_malformed O M held after t last size left old new a b c OutputFull e g 
 suffices_malformed O M held after t last size left old new a b c (Malformed i j) e g h = λ k m is stops fits.
     (let there : left + (size + m) ≡ length after + ((size - 0) + m) = omega (arith, g) in
     subst (λ (n : ℕ). left_after (counts_past_malformed k) (replacement_len t) (M.needs k n) ≤ new) there (h k (size + m) is (λ n. cc) fits))
+
+-- The encodings that marks name.
+
+-- they need no index
+pub mark_needs_none : (m : ByteOrderMark) → needs_of (encoding_of_mark m) ≡ []
+mark_needs_none Utf8 = refl
+mark_needs_none Utf16Be = refl
+mark_needs_none Utf16Le = refl
+
+pub mark_ready : (t : IndexLists) (m : ByteOrderMark) → IsReady t (encoding_of_mark m)
+mark_ready t Utf8 = tt
+mark_ready t Utf16Be = tt
+mark_ready t Utf16Le = tt
+
+-- what follows a mark is read in its encoding
+pub mark_pieces : (t : IndexLists) (m : ByteOrderMark) → pieces_of t (encoding_of_mark m) ≡ pieces_after_mark m
+mark_pieces t Utf8 = refl
+mark_pieces t Utf16Be = refl
+mark_pieces t Utf16Le = refl

@@ -6,4 +6,3 @@ pub mod BomLemmas
 pub mod DecoderCallLemmas
 pub mod DecodedLengthLemmas
 pub mod HexadecimalLemmas
-pub mod ResumedLemmas

@@ -227,7 +227,7 @@ impl<'t> Decoder<'t> {
     /// A decoder of a new stream in `encoding`; `mark` says which byte order marks are taken.
     ///
     /// The condition, that the indexes of `encoding` are in `tables`, is tested by
-    /// `Encoding::is_ready`. If it needs none (`Encoding::needs`), `None` will do.
+    /// `Encoding::is_ready`. If `encoding` needs none (`Encoding::needs`), `None` will do.
     pub fn new(encoding: Encoding, mark: Mark, tables: Option<&'t Tables>) -> Self
         requires { IsReady (lists_of tables) encoding }
         ensures begins { IsNewDecoder (decoder_view result) (lists_of tables.entry) mark encoding }

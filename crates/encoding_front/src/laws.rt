@@ -31,8 +31,9 @@ ghost use Rattle.encoding_front.specs.Encodings.{is_ascii_compatible_of};
 ghost use Rattle.encoding_front.specs.Encodings.{output_encoding_of, pieces_of};
 ghost use Rattle.encoding_front.specs.Encodings.{set_pieces_of};
 ghost use Rattle.encoding_front.specs.Marks.{marked_pieces, marked_text, source_of};
-ghost use Rattle.encoding_front.specs.calls.SavedDecoders.{ReadsAlike};
-ghost use Rattle.encoding_front.specs.calls.Stream.{DecoderView};
+ghost use Rattle.encoding_front.specs.calls.SavedDecoders.{ReadsAlike, Saves};
+ghost use Rattle.encoding_front.specs.calls.Stream.{DecoderView, IsMadeFrom};
+ghost use Rattle.encoding_front.specs.declared.decoder.saved_decoder.SavedDecoder.{SavedDecoder};
 ghost use Rattle.encoding_front.specs.declared.coder_result.CoderResult.{CoderResult};
 ghost use Rattle.encoding_front.specs.declared.mark.Mark.{Mark};
 ghost use Rattle.encoding_front.specs.declared.one_shot_fault.OneShotFault.{OneShotFault};
@@ -191,10 +192,13 @@ pub fn last_calls_write_all_text()
         → AreWellFormed (v.state.pieces src) }
 {}
 
-/// A call of a decoder that reads alike, as one that goes on from what was saved
-/// (`Decoder::resumed`), is a call of the decoder that was saved: all that was said of this one's
-/// pieces, text and encoding holds of what both read together.
+/// Two decoders that were made from the same indexes, and of which the same was saved, read alike:
+/// so does one that goes on from what was saved (`Decoder::resumed`). A call of a decoder that
+/// reads alike is a call of the other: all that was said of this one's pieces, text and encoding
+/// holds of what both read together.
 pub fn resumed_decoders_go_on()
+    ensures alike { (t : IndexLists) (w : SavedDecoder) (v u : DecoderView) → Saves w v
+        → Saves w u → IsMadeFrom t v → IsMadeFrom t u → ReadsAlike v u }
     ensures reported { (v u after : DecoderView) (src : List ℕ) (last : Bool) (read : ℕ)
         → (there : Destination) (left : RoomLeft) (outcome : DecoderResult) → ReadsAlike v u
         → DecoderCall u after src last read (HasText there) left outcome

@@ -81,7 +81,7 @@ impl<'t> VariantDecoder<'t> {
     /// A decoder of a new stream in `encoding`, with nothing pending.
     ///
     /// The condition, that the indexes of `encoding` are in `tables`, is tested by
-    /// `Encoding::is_ready`. If it needs none (`Encoding::needs`), `None` will do.
+    /// `Encoding::is_ready`. If `encoding` needs none (`Encoding::needs`), `None` will do.
     pub fn new(encoding: Encoding, tables: Option<&'t Tables>) -> Self
         requires { IsReady (lists_of tables) encoding }
         ensures { IsNewIn (lists_of tables.entry) encoding result }

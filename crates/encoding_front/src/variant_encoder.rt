@@ -58,8 +58,8 @@ impl<'t> VariantEncoder<'t> {
     /// force.
     ///
     /// The condition, that the indexes of the output encoding are in `tables`, is tested by
-    /// `Encoding::is_ready` of `output_encoding`. If it needs none (`Encoding::needs`), `None` will
-    /// do.
+    /// `Encoding::is_ready` of `output_encoding`. If that needs none (`Encoding::needs`), `None`
+    /// will do.
     pub fn new(encoding: Encoding, tables: Option<&'t Tables>) -> Self
         requires { IsReady (lists_of tables) (output_encoding_of encoding) }
         ensures { IsFreshEncoder (⟦<VariantEncoder<'t> as RawEncoder>⟧.parts result)

@@ -22,7 +22,7 @@ use Rattle.encoding_front.specs.declared.decoder.room_rule.RoomRule.{RoomRule}
 use Rattle.encoding_front.specs.declared.decoder.saved_decoder.SavedDecoder.{SavedDecoder}
 use Rattle.encoding_front.specs.declared.encoding.Encoding.{Encoding}
 use Rattle.encoding_front.specs.declared.mark.Mark.{Mark}
-use Rattle.encoding_front.specs.laws.SavedDecoders.{CanBeResumed-prop, call_alike, text_alike}
+use Rattle.encoding_front.specs.laws.SavedDecoders.{CanBeResumed-prop, can_be_resumed, saved_alike, call_alike, text_alike}
 use Rattle.jillapun_c.proofs.EncodingNumberLemmas.{same_some}
 use Rattle.jillapun_c.specs.EncodingNumbers.{encoding_at, mark_at}
 use Rattle.jillapun_c.specs.DecoderCalls.{AnswersDecoder, AsksRoom, Decodes, DecodesUpToFault, GoesOnFrom, HoldsOne, IsOutcome, MakesDecoder, TellsIfKnown, TellsWhyNot, text_outcome}
@@ -41,8 +41,8 @@ saves_held h w v is holds = subst (λ (x : SavedDecoder). Saves x v) (same_some 
 
 -- and a decoder is held whose words these are
 pub held_by : (tables : Option IndexLists) (words : DecoderWords) (w : SavedDecoder) (v : DecoderView) → saved_in words ≡ Some w → Saves w v → IsMadeFrom (held_lists tables) v
-    → CanBeResumed (held_lists tables) w → HoldsDecoder tables words v
-held_by tables words w v is saves made goes = record { saved = w; is = is; saves = saves; made = made; goes_on = goes }
+    → HoldsDecoder tables words v
+held_by tables words w v is saves made = record { saved = w; is = is; saves = saves; made = made }
 
 pub sound_by : (tables : Option IndexLists) (words : DecoderWords) (v : DecoderView) → HoldsDecoder tables words v → IsSoundDecoder tables words
 sound_by tables words v holds w is = ∣ (v, holds) ∣₁
@@ -104,16 +104,18 @@ opened_answer h u Then goes then = record {
 -- ---- a decoder goes on
 
 pub can_go_on : (h : DecoderHandle) (w : SavedDecoder) → saved_in h.words ≡ Some w → CanBeResumed (held_lists h.tables.tables) w
-can_go_on h w is = ∥∥₁_elim (h.sound w is) (CanBeResumed-prop _ w) (λ s. subst (CanBeResumed (held_lists h.tables.tables)) (same_some (s.1).saved w (sym (s.1).is ∙ is)) (s.1).goes_on)
+can_go_on h w is = ∥∥₁_elim (h.sound w is) (CanBeResumed-prop _ w) (λ s. can_be_resumed (held_lists h.tables.tables) w s.0 (saves_held h w s.0 is s.1) (s.1).made)
 
 pub goes_on : (h : DecoderHandle) (w : SavedDecoder) (t : IndexLists) (u : DecoderView) → saved_in h.words ≡ Some w → w.is_finished ≡ false → t ≡ held_lists h.tables.tables
-    → ((v : DecoderView) → Saves w v → IsMadeFrom t v → ReadsAlike v u) → IsMadeFrom t u → u.finished ≡ w.is_finished → GoesOnFrom h u
-goes_on h w t u is live over alike made finished = record {
-  held = λ none. absurd (cc);
-  alike = λ v holds. alike v (saves_held h w v is holds) (subst (λ (l : IndexLists). IsMadeFrom l v) (sym over) holds.made);
-  made = subst (λ (l : IndexLists). IsMadeFrom l u) over made;
-  open_ = finished ∙ live;
-}
+    → Saves w u → IsMadeFrom t u → GoesOnFrom h u
+goes_on h w t u is live over saves made =
+    let by : IsMadeFrom (held_lists h.tables.tables) u = subst (λ (l : IndexLists). IsMadeFrom l u) over made in
+    record {
+      held = λ none. absurd (cc);
+      alike = λ v holds. saved_alike (held_lists h.tables.tables) w v u (saves_held h w v is holds) saves holds.made by;
+      made = by;
+      open_ = saves.finished ∙ live;
+    }
 
 -- ---- calls
 
@@ -159,7 +161,7 @@ decoded_up_to_fault h after u u' unit src last W size left p outcome goes holds 
 pub room_told : (w : SavedDecoder) (v : DecoderView) (k : OutputUnit) (n : ℕ) (room : Option ℕ) → Saves w v → room ≡ room_by (room_rule_of v) k n
     → unwrap_or room REFUSED ≡ unwrap_or (room_asked v.opening k n) REFUSED
 room_told w v k n room h is = let r = room_rule_of v in
-    let own : v.opening.room ≡ decoded_length_of r.encoding = ap (λ (o : Opening). o.room) h.opening ∙ ap decoded_length_of (sym h.in_force) in
+    let own : v.opening.room ≡ decoded_length_of r.encoding = ap (λ (o : Opening). o.room) h.opening ∙ h.sound.room ∙ ap decoded_length_of (sym h.in_force) in
     ap (λ o. unwrap_or o REFUSED) (is ∙ sym (ap (λ (room : DecodedLength). greater_if r.may_be_utf16 (queried decoded_length_utf16 k (n + r.ahead))
     (greater_if r.may_be_utf8 (queried decoded_length_utf8 k (n + r.ahead)) (queried room k (r.pending + (n + r.ahead))))) own))
 

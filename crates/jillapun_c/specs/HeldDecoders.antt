@@ -2,7 +2,7 @@
 use Rattle.std.specs.Prelude.{◌≡◌, if◌then◌else◌, Option, None, Some}
 use Rattle.std.specs.Option.{ForSome, option_map}
 use Rattle.encoding_tables.specs.IndexLists.{IndexLists}
-use Rattle.encoding_front.specs.calls.SavedDecoders.{CanBeResumed, Saves}
+use Rattle.encoding_front.specs.calls.SavedDecoders.{Saves}
 use Rattle.encoding_front.specs.calls.Stream.{DecoderView, IsMadeFrom}
 use Rattle.encoding_front.specs.declared.decoder.saved_decoder.SavedDecoder.{SavedDecoder}
 use Rattle.encoding_front.specs.declared.encoding.Encoding.{Encoding}
@@ -25,13 +25,12 @@ abbrev pub saved_in : DecoderWords → Option SavedDecoder
 saved_in w = if w.is_there then option_map (saved_as w) (encoding_at w.encoding) else None
 
 -- The words stand for a decoder that callers know by this view: it was made from these tables, or with no index if there
--- are none, and can go on.
+-- are none.
 pub record HoldsDecoder (tables : Option IndexLists) (words : DecoderWords) (v : DecoderView) : Type 0 where
   pub saved : SavedDecoder
   pub is : saved_in words ≡ Some saved
   pub saves : Saves saved v
   pub made : IsMadeFrom (held_lists tables) v
-  pub goes_on : CanBeResumed (held_lists tables) saved
 
 -- words that stand for a decoder are those of one
 abbrev pub IsSoundDecoder : Option IndexLists → DecoderWords → Type 0

@@ -88,8 +88,8 @@ impl TablesHandle {
         }
     }
 
-    /// Whether each index that an encoding needs is in the tables: if there are none, whether it
-    /// needs none.
+    /// Whether each index that an encoding needs is in the tables; if the handle holds no tables,
+    /// whether it needs none.
     pub(crate) fn are_ready(&self, encoding: Encoding) -> bool
         ensures { IsTrue result ↔ IsReady (held_lists self.now.tables) encoding }
     {

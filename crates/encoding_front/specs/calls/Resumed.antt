@@ -1,4 +1,4 @@
--- A decoder that was saved, and one that goes on in its place.
+-- How each encoding reads the bytes to come after a mode and pending bytes are resumed.
 use Rattle.std.specs.Prelude.{ℕ, List}
 use Rattle.encoding_mem.specs.calls.DecodedLength.{decoded_length_single_byte}
 use Rattle.encoding_mem.specs.calls.Resuming.{Reading, resumed_plain, with_none_pending}

@@ -21,27 +21,30 @@ sought_reading s own held = record {
   room = room_widest;
 }
 
--- What was saved is that of a decoder: the encoding in force, the marks that are sought with the
--- bytes that are held, the mode and the pending bytes, and whether it is finished.
-pub record Saves (w : SavedDecoder) (v : DecoderView) : Type 0 where
-  pub own : v.resumed w.pieces.mode (saved_pending w.pieces) ≡ reading_of v.own
-  pub pending : v.own.pending ≡ length (saved_pending w.pieces)
-  pub state : reading_of v.state ≡ sought_reading w.sought (reading_of v.own) (saved_bytes w.held)
-  pub opening : v.opening ≡ record { sought = w.sought; held = saved_bytes w.held; room = decoded_length_of w.encoding; pending = v.own.pending }
-  pub in_force : v.source [] ≡ w.encoding
-  pub source : (x : List ℕ) → v.source x ≡ sought_encoding w.sought w.encoding (saved_bytes w.held ++ x)
-  pub finished : v.finished ≡ w.is_finished
-
--- What was saved can go on, if the decoder of the encoding in force reads so after it is resumed: few
--- bytes are pending; none is while a mark is sought, and what is held then is a prefix of one.
+-- What was saved is sound, if the decoder of the encoding in force reads so: the pending bytes are
+-- those that were saved, and few; none are pending while a mark is sought, and what is held then is a
+-- prefix of one.
 pub record IsSound (own : Reading) (w : SavedDecoder) : Type 0 where
+  pub pending : own.pending ≡ length (saved_pending w.pieces)
   pub few : HoldsFew own
   pub room : own.room ≡ decoded_length_of w.encoding
   pub short : 0 < length (saved_bytes w.held) → own.pending + length (saved_bytes w.held) ≤ 2
   pub fresh : IsTrue (is_sought w.sought) → own.pending ≡ 0
   pub prefix : IsTrue (is_sought w.sought) → find_mark w.sought (saved_bytes w.held) ≡ BomMatch.Prefix
 
--- What was saved can go on over some indexes: those of the encoding in force are there.
+-- What was saved is that of a decoder: the encoding in force, the marks that are sought with the
+-- bytes that are held, the mode and the pending bytes, and whether it is finished.
+pub record Saves (w : SavedDecoder) (v : DecoderView) : Type 0 where
+  pub own : v.resumed w.pieces.mode (saved_pending w.pieces) ≡ reading_of v.own
+  pub sound : IsSound (reading_of v.own) w
+  pub state : reading_of v.state ≡ sought_reading w.sought (reading_of v.own) (saved_bytes w.held)
+  pub opening : v.opening ≡ record { sought = w.sought; held = saved_bytes w.held; room = v.own.room; pending = v.own.pending }
+  pub in_force : v.source [] ≡ w.encoding
+  pub source : (x : List ℕ) → v.source x ≡ sought_encoding w.sought w.encoding (saved_bytes w.held ++ x)
+  pub finished : v.finished ≡ w.is_finished
+
+-- What was saved can go on over these indexes: those of its encoding are there, and what it reads by
+-- them is sound.
 pub record CanBeResumed (t : IndexLists) (w : SavedDecoder) : Type 0 where
   pub ready : IsReady t w.encoding
   pub sound : IsSound (resumed_in t w.encoding w.pieces.mode (saved_pending w.pieces)) w

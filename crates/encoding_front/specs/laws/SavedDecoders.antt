@@ -1,15 +1,15 @@
 -- Laws of decoders that read alike, as one that was saved and one that goes on from it.
 use Rattle.std.proofs.Props.{props}
-use Rattle.std.proofs.Common.{ℕ, Bool, List, [], sym, subst, ◌∙◌, ap, ◌++◌}
+use Rattle.std.proofs.Common.{◌≡◌, ℕ, Bool, List, [], sym, subst, ◌∙◌, ap, ◌++◌}
 use Rattle.encoding_mem.specs.calls.Decoding.{Reports, Takes}
-use Rattle.encoding_mem.specs.calls.Resuming.{Reading}
+use Rattle.encoding_mem.specs.calls.Resuming.{Reading, reading_of, saved_bytes, saved_pending}
 use Rattle.encoding_mem.specs.declared.codec.decoder_result.DecoderResult.{DecoderResult}
 use Rattle.encoding_tables.specs.IndexLists.{IndexLists}
 use Rattle.encoding_front.specs.Encodings.{IsReady}
 use Rattle.encoding_front.specs.calls.DecodedText.{TakesText}
 use Rattle.encoding_front.specs.calls.DecoderCall.{DecoderCall, RoomLeft, TextCall}
 use Rattle.encoding_front.specs.calls.Resumed.{resumed_in}
-use Rattle.encoding_front.specs.calls.SavedDecoders.{CanBeResumed, IsSound, ReadsAlike}
+use Rattle.encoding_front.specs.calls.SavedDecoders.{CanBeResumed, IsSound, ReadsAlike, Saves, sought_reading}
 use Rattle.encoding_front.specs.calls.Stream.{DecoderView, IsMadeFrom}
 use Rattle.encoding_front.specs.declared.coder_result.CoderResult.{CoderResult}
 use Rattle.encoding_front.specs.declared.decoder.saved_decoder.SavedDecoder.{SavedDecoder}
@@ -40,9 +40,33 @@ text_alike v u after src last read W left outcome had_errors h call = record {
   made = λ t made. call.made t (made_alike t v u h made);
 }
 
--- that what was saved can go on has one proof at most, so that a struct can say it of itself
-sound_once : (own : Reading) (w : SavedDecoder) → IsProp (IsSound own w)
-sound_once own w = hlevel props
+-- what was saved of a decoder over some indexes reads by them as the decoder does
+pub own_resumed : (t : IndexLists) (w : SavedDecoder) (v : DecoderView) → Saves w v → IsMadeFrom t v
+    → reading_of v.own ≡ resumed_in t w.encoding w.pieces.mode (saved_pending w.pieces)
+own_resumed t w v h made =
+    sym h.own ∙ ap (λ (f : ℕ → List ℕ → Reading). f w.pieces.mode (saved_pending w.pieces)) (made.reads ∙ ap (resumed_in t) h.in_force)
+
+-- so it can go on over them
+pub can_be_resumed : (t : IndexLists) (w : SavedDecoder) (v : DecoderView) → Saves w v → IsMadeFrom t v → CanBeResumed t w
+can_be_resumed t w v h made = record { ready = subst (IsReady t) h.in_force made.ready; sound = subst (λ (r : Reading). IsSound r w) (own_resumed t w v h made) h.sound }
+
+-- and two decoders of which the same was saved read alike
+pub saved_alike : (t : IndexLists) (w : SavedDecoder) (v u : DecoderView) → Saves w v → Saves w u → IsMadeFrom t v → IsMadeFrom t u → ReadsAlike v u
+saved_alike t w v u h k made by =
+    let own : reading_of v.own ≡ reading_of u.own = own_resumed t w v h made ∙ sym (own_resumed t w u k by) in
+    record {
+      state = h.state ∙ ap (λ (r : Reading). sought_reading w.sought r (saved_bytes w.held)) own ∙ sym k.state;
+      own = own;
+      source = λ x. h.source x ∙ sym (k.source x);
+      opening = h.opening ∙ ap (λ (r : Reading). record { sought = w.sought; held = saved_bytes w.held; room = r.room; pending = r.pending }) own ∙ sym k.opening;
+      resumed = made.reads ∙ ap (resumed_in t) (h.in_force ∙ sym k.in_force) ∙ sym by.reads;
+      finished = h.finished ∙ sym k.finished;
+    }
+
+-- What was saved can go on: of that there is one proof at most, so it follows from a decoder that is
+-- only known to exist.
+IsSound-prop : (own : Reading) (w : SavedDecoder) → IsProp (IsSound own w)
+IsSound-prop own w = hlevel props
 
 pub CanBeResumed-prop : (t : IndexLists) (w : SavedDecoder) → IsProp (CanBeResumed t w)
-CanBeResumed-prop t w a b i = record { ready = AreThere-prop t _ a.ready b.ready i; sound = sound_once _ w a.sound b.sound i }
+CanBeResumed-prop t w a b i = record { ready = AreThere-prop t _ a.ready b.ready i; sound = IsSound-prop _ w a.sound b.sound i }

@@ -14,7 +14,7 @@ use Rattle.encoding_front.specs.declared.seeking.BomMatch.{BomMatch}
 use Rattle.encoding_front.specs.declared.seeking.BomMatch.TheVariants.{Prefix}
 use Rattle.encoding_front.specs.declared.seeking.BomSet.{BomSet}
 
--- what is held is no mark yet, so the encoding in force is the one that there was
+-- what is held is no whole mark: it leaves the encoding as it is
 held_at : (t : Bool) (e : Encoding) (F : BomMatch) → (IsTrue t → F ≡ Prefix) → cond t (encoding_seen e F) e ≡ e
 held_at true e F h = ap (encoding_seen e) (h refl)
 held_at false e F h = refl

@@ -4,9 +4,9 @@ ghost use Rattle.std.specs.Prelude.{◌≡◌};
 ghost use Rattle.encoding_tables.specs.IndexLists.{IndexLists};
 ghost use Rattle.encoding_front.specs.Encodings.{lists_of};
 ghost use Rattle.encoding_front.specs.calls.DecoderViews.{decoder_view};
-ghost use Rattle.encoding_front.specs.calls.RoomRules.{room_rule_of};
-ghost use Rattle.encoding_front.specs.calls.SavedDecoders.{CanBeResumed, ReadsAlike, Saves};
-ghost use Rattle.encoding_front.specs.calls.Stream.{DecoderView, IsMadeFrom};
+ghost use Rattle.encoding_front.specs.calls.RoomRules.{saved_rule};
+ghost use Rattle.encoding_front.specs.calls.SavedDecoders.{CanBeResumed, Saves};
+ghost use Rattle.encoding_front.specs.calls.Stream.{IsMadeFrom};
 
 use crate::decoder::room_rule::RoomRule;
 use crate::decoder::{Decoder, ahead};
@@ -37,7 +37,7 @@ pub struct SavedDecoder {
 impl SavedDecoder {
     /// What the length queries of the decoder that was saved depend on (`Decoder::room_rule`).
     pub fn room_rule(&self) -> RoomRule
-        ensures { (v : DecoderView) → Saves self.now v → result ≡ room_rule_of v }
+        ensures { result ≡ saved_rule self.now }
     {
         let held = self.held.as_slice();
         RoomRule {
@@ -67,16 +67,15 @@ impl<'t> Decoder<'t> {
     }
 
     /// A decoder that goes on where one was saved: its calls do what those of the saved decoder
-    /// would have done.
+    /// would have done (`laws::resumed_decoders_go_on`).
     ///
-    /// The condition is that a decoder was saved which was made from these `tables`, or, if its
-    /// encoding needs no index, from any or `None`: its caller keeps them together.
+    /// The condition is what `saved` promises of a decoder that was made from these `tables`: its
+    /// caller keeps them together. If the encoding in force needs no index (`Encoding::needs`), any
+    /// tables or `None` will do.
     pub fn resumed(saved: SavedDecoder, tables: Option<&'t Tables>) -> Self
         requires { CanBeResumed (lists_of tables) saved }
-        ensures alike { (v : DecoderView) → Saves saved v → IsMadeFrom (lists_of tables.entry) v
-            → ReadsAlike v (decoder_view result) }
+        ensures saves { Saves saved (decoder_view result) }
         ensures made { IsMadeFrom (lists_of tables.entry) (decoder_view result) }
-        ensures finished { (decoder_view result).finished ≡ saved.is_finished }
     {
         let mut inner = VariantDecoder::new(saved.encoding, tables);
         inner.resume_on(saved.pieces);

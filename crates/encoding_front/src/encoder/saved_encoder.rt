@@ -39,7 +39,7 @@ impl<'t> Encoder<'t> {
     /// An encoder that goes on where one was saved.
     ///
     /// The conditions are that the indexes of the output encoding are in `tables`
-    /// (`Encoding::is_ready` of `Encoding::output_encoding`; if it needs none, `None` will do), and
+    /// (`Encoding::is_ready` of `Encoding::output_encoding`; if that needs none, `None` will do), and
     /// that the set is one that calls of an encoder into this encoding leave, as that of a saved
     /// encoder is.
     pub fn resumed(saved: SavedEncoder, tables: Option<&'t Tables>) -> Self

@@ -8,8 +8,7 @@ use Rattle.encoding_front.specs.calls.TakesMark.{LeavesRoom}
 use Rattle.encoding_front.specs.calls.VariantDecoders.{state_of}
 use Rattle.encoding_front.specs.declared.seeking.BomSet.{BomSet}
 use Rattle.encoding_front.specs.declared.seeking.BomMatch.TheVariants.{Prefix, Whole}
-use Rattle.encoding_front.proofs.BomLemmas.{waits_mark, takes_all, takes_none, takes_whole, other_is, ended_is, prefix_short, few_of, unmarked, unnamed, named_whole, named_other, named_ended, named_prefix, leaves_whole, leaves_all, leaves_none}
-use Rattle.encoding_front.proofs.ResumedLemmas.{mark_needs_none, mark_pieces, mark_ready}
+use Rattle.encoding_front.proofs.BomLemmas.{mark_needs_none, mark_pieces, mark_ready, waits_mark, takes_all, takes_none, takes_whole, other_is, ended_is, prefix_short, few_of, unmarked, unnamed, named_whole, named_other, named_ended, named_prefix, leaves_whole, leaves_all, leaves_none}
 use Rattle.encoding_front.proofs.decoder.Decoder.take_mark.Goals as goal
 use Rattle.encoding_front.proofs.decoder.Decoder.take_mark.Goals.{in_default-via-in-Prefix+else-not-last, in_default-via-in_default}
 

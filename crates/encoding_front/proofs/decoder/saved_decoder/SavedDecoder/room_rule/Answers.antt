@@ -1,7 +1,5 @@
-use Rattle.encoding_front.proofs.ResumedLemmas.{rule_saved}
+use Rattle.std.proofs.Common.{refl}
 use Rattle.encoding_front.proofs.decoder.saved_decoder.SavedDecoder.room_rule.Goals as goal
 
 pub returns : goal.returns
-returns c v h =
-    rw c.can_be.ensures (rw c.can_be_utf16.ensures (rw c.ahead.ensures (rw c.as_slice-held.ensures.bytes (rw c.as_slice.ensures.bytes
-    (rule_saved c.args.self.now v h)))))
+returns c = rw c.can_be.ensures (rw c.can_be_utf16.ensures (rw c.ahead.ensures (rw c.as_slice-held.ensures.bytes (rw c.as_slice.ensures.bytes refl))))

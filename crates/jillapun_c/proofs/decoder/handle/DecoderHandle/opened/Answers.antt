@@ -21,4 +21,4 @@ pub returns : goal.returns
 returns c =
     let h = c.args.self.now in
     goes_on h c.in-Some.saved (lists_of c.lent.result) (decoder_view c.resumed.result) (sym c.in-Some.ensures) c.if-saved.false (lists_lent c.lent.result h.tables.tables c.lent.ensures)
-    c.resumed.ensures.alike c.resumed.ensures.made c.resumed.ensures.finished
+    c.resumed.ensures.saves c.resumed.ensures.made
