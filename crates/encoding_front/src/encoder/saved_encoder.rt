@@ -39,9 +39,9 @@ impl<'t> Encoder<'t> {
     /// An encoder that goes on where one was saved.
     ///
     /// The conditions are that the indexes of the output encoding are in `tables`
-    /// (`Encoding::is_ready` of `Encoding::output_encoding`; if that needs none, `None` will do), and
-    /// that the set is one that calls of an encoder into this encoding leave, as that of a saved
-    /// encoder is.
+    /// (`Encoding::is_ready` of `Encoding::output_encoding`; if that needs none, `None` will do),
+    /// and that the set is one that calls of an encoder into this encoding leave, as that of a
+    /// saved encoder is.
     pub fn resumed(saved: SavedEncoder, tables: Option<&'t Tables>) -> Self
         requires ready { IsReady (lists_of tables) (output_encoding_of saved.encoding) }
         requires set { ∥ Moves (coding_of (lists_of tables) saved.encoding) Ascii saved.set ∥₁ }
