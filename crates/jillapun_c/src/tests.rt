@@ -150,7 +150,6 @@ fn stream_is_decoded(rt: HostRuntime) {
     let mut progress = Progress::NONE;
     let mut text = [0; 8];
     let status = jillapun_decoder_decode_to_utf8(
-        alloc,
         &mut decoder,
         b"a",
         &mut text,
@@ -159,12 +158,11 @@ fn stream_is_decoded(rt: HostRuntime) {
     );
     assert_eq!(rt; status, CLOSED);
     assert_eq!(rt;
-        jillapun_decoder_new(alloc, euro(alloc), 31, KEEP, &mut decoder),
+        jillapun_decoder_new(euro(alloc), 31, KEEP, &mut decoder),
         OK
     );
     let bytes = [0x61, 0x80, 0x81];
     let status = jillapun_decoder_decode_to_utf8(
-        alloc,
         &mut decoder,
         &bytes,
         &mut text,
@@ -176,7 +174,6 @@ fn stream_is_decoded(rt: HostRuntime) {
     assert!(rt; progress.had_errors);
     assert_eq!(rt; &text[..7], b"a\xE2\x82\xAC\xEF\xBF\xBD".as_slice());
     let status = jillapun_decoder_decode_to_utf8_without_replacement(
-        alloc,
         &mut decoder,
         &[0x81, 0x61],
         &mut text,
@@ -190,7 +187,6 @@ fn stream_is_decoded(rt: HostRuntime) {
     );
     let mut units = [0; 4];
     let status = jillapun_decoder_decode_to_utf16(
-        alloc,
         &mut decoder,
         &[0x61],
         &mut units,
@@ -199,7 +195,6 @@ fn stream_is_decoded(rt: HostRuntime) {
     );
     assert_eq!(rt; (status, progress.written, units[0]), (OK, 1, 0x61));
     let status = jillapun_decoder_decode_to_utf8(
-        alloc,
         &mut decoder,
         b"a",
         &mut text,
@@ -209,7 +204,6 @@ fn stream_is_decoded(rt: HostRuntime) {
     assert_eq!(rt; (status, progress.read), (FINISHED, 0));
     decoder = DecoderHandle::none();
     let status = jillapun_decoder_decode_to_utf8(
-        alloc,
         &mut decoder,
         b"a",
         &mut text,
@@ -218,11 +212,11 @@ fn stream_is_decoded(rt: HostRuntime) {
     );
     assert_eq!(rt; status, CLOSED);
     assert_eq!(rt;
-        jillapun_decoder_new(alloc, euro(alloc), 0, SNIFF, &mut decoder),
+        jillapun_decoder_new(euro(alloc), 0, SNIFF, &mut decoder),
         NOT_READY
     );
     assert_eq!(rt;
-        jillapun_decoder_new(alloc, euro(alloc), 31, 3, &mut decoder),
+        jillapun_decoder_new(euro(alloc), 31, 3, &mut decoder),
         UNKNOWN
     );
 }
@@ -233,12 +227,8 @@ fn stream_is_encoded(rt: HostRuntime) {
     let mut encoder = EncoderHandle::none();
     let mut progress = EncoderProgress::NONE;
     let mut bytes = [0; 40];
-    assert_eq!(rt;
-        jillapun_encoder_new(alloc, euro(alloc), 31, &mut encoder),
-        OK
-    );
+    assert_eq!(rt; jillapun_encoder_new(euro(alloc), 31, &mut encoder), OK);
     let status = jillapun_encoder_encode_from_utf8(
-        alloc,
         &mut encoder,
         "a€日".as_bytes(),
         &mut bytes,
@@ -250,7 +240,6 @@ fn stream_is_encoded(rt: HostRuntime) {
     assert!(rt; progress.had_unmappable);
     assert_eq!(rt; &bytes[..10], b"a\x80&#26085;".as_slice());
     let status = jillapun_encoder_encode_from_utf8_without_replacement(
-        alloc,
         &mut encoder,
         "日".as_bytes(),
         &mut bytes,
@@ -262,7 +251,6 @@ fn stream_is_encoded(rt: HostRuntime) {
         (OK, UNMAPPABLE, 0x65E5)
     );
     let status = jillapun_encoder_encode_from_utf8(
-        alloc,
         &mut encoder,
         &[0x80],
         &mut bytes,
@@ -272,7 +260,6 @@ fn stream_is_encoded(rt: HostRuntime) {
     assert_eq!(rt; status, NOT_UTF8);
     encoder = EncoderHandle::none();
     let status = jillapun_encoder_encode_from_utf8(
-        alloc,
         &mut encoder,
         b"a",
         &mut bytes,
