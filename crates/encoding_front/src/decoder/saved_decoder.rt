@@ -69,9 +69,8 @@ impl<'t> Decoder<'t> {
     /// A decoder that goes on where one was saved: its calls do what those of the saved decoder
     /// would have done (`laws::resumed_decoders_go_on`).
     ///
-    /// The condition is what `saved` promises of a decoder that was made from these `tables`: its
-    /// caller keeps them together. If the encoding in force needs no index (`Encoding::needs`), any
-    /// tables or `None` will do.
+    /// The condition is what `saved` promises of a decoder that was made from these `tables`, or,
+    /// as the saved one may have been, with `None`: its caller keeps them together.
     pub fn resumed(saved: SavedDecoder, tables: Option<&'t Tables>) -> Self
         requires { CanBeResumed (lists_of tables) saved }
         ensures saves { Saves saved (decoder_view result) }
