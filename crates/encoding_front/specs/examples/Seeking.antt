@@ -4,6 +4,8 @@ use Rattle.encoding_mem.specs.Piece.{well_formed}
 use Rattle.encoding_mem.specs.Pieces.{pieces_in}
 use Rattle.encoding_mem.specs.declared.codec.room.OutputUnit.TheVariants.{Units, Bytes}
 use Rattle.encoding_front.specs.calls.Seeking.{find_mark, mark_needs, can_be, nothing_sought, sought_by, sought_encoding, sought_pieces}
+use Rattle.encoding_front.specs.calls.RoomRules.{saved_rule}
+use Rattle.encoding_front.specs.declared.decoder.saved_decoder.SavedDecoder.{SavedDecoder}
 use Rattle.encoding_front.specs.declared.encoding.Encoding.{Encoding}
 use Rattle.encoding_front.specs.declared.mark.Mark.TheVariants.{Sniff, Remove, Keep}
 use Rattle.encoding_front.specs.declared.seeking.ByteOrderMark.TheVariants.{Utf8, Utf16Be, Utf16Le}
@@ -56,3 +58,10 @@ wanted_behind_marks : (mark_needs all_marks (0xEF ∷ []) Bytes 9 Utf8 ≡ 10)
     × (mark_needs all_marks (0xFF ∷ []) Units 8 Utf16Le ≡ 5)
     × (mark_needs all_marks (0xEF ∷ []) Bytes 9 Utf16Be ≡ 0)
 wanted_behind_marks = (refl, refl, refl, refl)
+
+-- after EF it may become UTF-8, and two bytes are counted for those that are held
+abbrev after_ef : SavedDecoder
+after_ef = record { encoding = Encoding.Windows1252; sought = all_marks; held = record { len = 1; bytes = 0xEF ∷ 0 ∷ [] }; is_finished = false; pieces = record { mode = 0; pending = record { len = 0; bytes = 0 ∷ [] } } }
+
+rule_after_ef : saved_rule after_ef ≡ record { encoding = Encoding.Windows1252; may_be_utf8 = true; may_be_utf16 = false; ahead = 2; pending = 0 }
+rule_after_ef = refl
