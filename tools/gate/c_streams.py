@@ -382,20 +382,37 @@ class Streams:
 
     def refused(self):
         """Whole inputs and texts that are not taken: nothing is written."""
-        closed, ready, utf8 = self.library.struct("TablesHandle")(), self.tables, self.numbers["UTF-8"]
+        none, ready, utf8 = self.library.struct("TablesHandle")(), self.tables, self.numbers["UTF-8"]
+        western = self.numbers["windows-1252"]
         for call, tables, words, given, status in (
-            ("jillapun_decode", closed, (utf8, MARKS["keep"]), b"a", "CLOSED"),
+            ("jillapun_decode", none, (western, MARKS["keep"]), b"a", "NOT_READY"),
             ("jillapun_decode", ready, (len(self.numbers), MARKS["keep"]), b"a", "UNKNOWN"),
             ("jillapun_decode", ready, (utf8, len(MARKS)), b"a", "UNKNOWN"),
-            ("jillapun_decode_to_str", closed, (utf8, MARKS["keep"]), b"a", "CLOSED"),
+            ("jillapun_decode_to_str", none, (western, MARKS["keep"]), b"a", "NOT_READY"),
             ("jillapun_decode_to_str", ready, (utf8, len(MARKS)), b"a", "UNKNOWN"),
-            ("jillapun_encode", closed, (utf8,), b"a", "CLOSED"),
+            ("jillapun_encode", none, (western,), b"a", "NOT_READY"),
             ("jillapun_encode", ready, (len(self.numbers),), b"a", "UNKNOWN"),
             ("jillapun_encode", ready, (utf8,), b"a\xff", "NOT_UTF8"),
         ):
             room, written = bytearray(8), ctypes.c_size_t(9)
             self.must(call, getattr(self.library, call)(tables, *words, given, room, written), status)
             self.same(call, status, (bytes(room), written.value), (bytes(8), 0))
+
+    def without_tables(self):
+        """Whole inputs and texts in encodings that need no index, with no tables."""
+        none, utf8, user = self.library.struct("TablesHandle")(), self.numbers["UTF-8"], self.numbers["x-user-defined"]
+        text = "a\uf780".encode()
+        for call, words, given, output in (
+            ("jillapun_decode", (user, MARKS["sniff"]), b"a\x80", text),
+            ("jillapun_decode", (utf8, MARKS["remove"]), b"\xef\xbb\xbfa", b"a"),
+            ("jillapun_decode_to_str", (utf8, MARKS["sniff"]), b"\xff\xfea\x00", b"a"),
+            ("jillapun_encode", (user,), text, b"a\x80"),
+            ("jillapun_encode", (utf8,), text, text),
+        ):
+            for more in (0, 40):
+                room, written = bytearray(len(output) + more), ctypes.c_size_t()
+                self.must(call, getattr(self.library, call)(none, *words, given, room, written))
+                self.same(call, words, bytes(room), output + bytes(more))
 
     def coded(self, call, target, points, of_units):
         """A text by an encoder of its own: its bytes, its lost characters, and whether a call told of some."""
@@ -636,6 +653,7 @@ def faults(library):
     streams.needs()
     streams.pending()
     streams.refused()
+    streams.without_tables()
     streams.latin1()
     streams.without_tables()
     for _ in range(ROUNDS):

@@ -1,7 +1,7 @@
 -- What some bytes show of a mark, and more bytes do not change. What a look for a mark does. The mark that a look
 -- for it finds is the one that is taken. Held bytes that are decoded before a source.
 use Rattle.std.proofs.Common.{◌≡◌, ℕ, suc, ◌+◌, ◌≤◌, ◌<◌, ◌==◌, ◌&&◌, ◌||◌, Bool, true, false, cond, List, [], ◌∷◌, ◌++◌, length, refl, arith, zero, ◌-◌, IsTrue, take, drop, sym, ◌∙◌, ap, subst, append_assoc, length-append, length-take, Some, None, ◌⊎◌, inl, inr, length-drop}
-use Rattle.encoding_front.specs.calls.Seeking.{mark_len, is_sought, find_mark, find_second, find_end, mark_head, seeks, pieces_after_mark, pieces_seen, room_after_mark, sought_pieces, can_be, mark_needs, sought_needs, nothing_sought, encoding_of_mark, sought_by, sought_encoding, encoding_seen}
+use Rattle.encoding_front.specs.calls.Seeking.{mark_len, is_sought, find_mark, find_second, find_end, mark_head, seeks, pieces_after_mark, pieces_seen, sought_pieces, can_be, mark_needs, sought_needs, nothing_sought, encoding_of_mark, sought_by, sought_encoding, encoding_seen}
 use Rattle.encoding_front.specs.declared.seeking.ByteOrderMark.{ByteOrderMark}
 use Rattle.encoding_front.specs.declared.seeking.ByteOrderMark.TheVariants.{Utf8, Utf16Be, Utf16Le}
 use Rattle.encoding_front.specs.declared.seeking.BomSet.{BomSet}
@@ -267,7 +267,7 @@ whole_can_be : (s : BomSet) (m : ByteOrderMark) (window : List ℕ) → find_mar
 whole_can_be s m [] f = cc
 whole_can_be s m (a ∷ x) f = subst (λ (F : BomMatch). IsOf s a F) f (of_mark s a x)
 
-need_is : (s : BomSet) (held : List ℕ) (k : OutputUnit) (n : ℕ) (m : ByteOrderMark) → can_be s held m ≡ true → mark_needs s held k n m ≡ decoded_length (room_after_mark m) k ((length held + n) - mark_len m)
+need_is : (s : BomSet) (held : List ℕ) (k : OutputUnit) (n : ℕ) (m : ByteOrderMark) → can_be s held m ≡ true → mark_needs s held k n m ≡ decoded_length (decoded_length_of (encoding_of_mark m)) k ((length held + n) - mark_len m)
 need_is s held k n m h = rw h refl
 
 in_max : (s : BomSet) (own : OutputUnit → ℕ → ℕ) (held : List ℕ) (k : OutputUnit) (n : ℕ) (m : ByteOrderMark) → mark_needs s held k n m ≤ sought_needs s own held k n
@@ -276,13 +276,13 @@ in_max s own held k n Utf16Be = omega arith
 in_max s own held k n Utf16Le = omega arith
 
 -- a mark is taken
-pub leaves_whole : (s : BomSet) (own : OutputUnit → ℕ → ℕ) (after : DecoderState) (held src window none : List ℕ) (m : ByteOrderMark) (read : ℕ) → length held ≤ 2 → window ≡ take 3 (held ++ src) → find_mark s window ≡ Whole m → after.pending ≡ 0 → after.room ≡ room_after_mark m → none ≡ [] → read ≡ mark_len m - length held
+pub leaves_whole : (s : BomSet) (own : OutputUnit → ℕ → ℕ) (after : DecoderState) (held src window none : List ℕ) (m : ByteOrderMark) (read : ℕ) → length held ≤ 2 → window ≡ take 3 (held ++ src) → find_mark s window ≡ Whole m → after.pending ≡ 0 → after.room ≡ decoded_length_of (encoding_of_mark m) → none ≡ [] → read ≡ mark_len m - length held
     → LeavesRoom (sought_needs s own held) (sought_needs nothing_sought after.needs none) read
 leaves_whole s own after held src window none m read few cut_is f fresh is none_is read_is k n =
     let possible : can_be s held m ≡ true = could_be s m held src window cut_is (whole_can_be s m window f) in
     let size : (length held + (read + n)) - mark_len m ≡ n = omega (arith, read_is, few, (len_some m).0) in
     let now : sought_needs nothing_sought after.needs none k n ≤ decoded_length after.room k (after.pending + n) = rw none_is (let c : after.needs k n ≤ decoded_length after.room k (after.pending + n) = after.covers k n in let zero_ : 0 + n ≡ n = omega arith in omega (arith, c, ap (after.needs k) zero_)) in
-    let same : decoded_length after.room k (after.pending + n) ≡ decoded_length (room_after_mark m) k ((length held + (read + n)) - mark_len m) = ap (λ r. decoded_length r k (after.pending + n)) is ∙ ap (decoded_length (room_after_mark m) k) (let e : after.pending + n ≡ (length held + (read + n)) - mark_len m = omega (arith, fresh, size) in e) in
+    let same : decoded_length after.room k (after.pending + n) ≡ decoded_length (decoded_length_of (encoding_of_mark m)) k ((length held + (read + n)) - mark_len m) = ap (λ r. decoded_length r k (after.pending + n)) is ∙ ap (decoded_length (decoded_length_of (encoding_of_mark m)) k) (let e : after.pending + n ≡ (length held + (read + n)) - mark_len m = omega (arith, fresh, size) in e) in
     omega (arith, now, same, need_is s held k (read + n) m possible, in_max s own held k (read + n) m)
 
 -- all is held
@@ -291,7 +291,7 @@ need_by false q a b h e = omega arith
 need_by true q a b h e = rw (h refl) (omega (arith, e))
 
 need_falls : (s : BomSet) (m : ByteOrderMark) (held window : List ℕ) (k : OutputUnit) (i j : ℕ) → (can_be s window m ≡ true → can_be s held m ≡ true) → length window + j ≡ length held + i → mark_needs s window k j m ≤ mark_needs s held k i m
-need_falls s m held window k i j could same = need_by (can_be s window m) (can_be s held m) (decoded_length (room_after_mark m) k ((length window + j) - mark_len m)) (decoded_length (room_after_mark m) k ((length held + i) - mark_len m)) could (ap (λ n. decoded_length (room_after_mark m) k (n - mark_len m)) same)
+need_falls s m held window k i j could same = need_by (can_be s window m) (can_be s held m) (decoded_length (decoded_length_of (encoding_of_mark m)) k ((length window + j) - mark_len m)) (decoded_length (decoded_length_of (encoding_of_mark m)) k ((length held + i) - mark_len m)) could (ap (λ n. decoded_length (decoded_length_of (encoding_of_mark m)) k (n - mark_len m)) same)
 
 pub leaves_all : (s : BomSet) (own : OutputUnit → ℕ → ℕ) (held src window : List ℕ) → window ≡ take 3 (held ++ src) → length window < 3 → LeavesRoom (sought_needs s own held) (sought_needs s own window) (length src)
 leaves_all s own held src window e h k n =
@@ -323,15 +323,6 @@ needs_own own held k n = omega (arith, nothing_needs held k n Utf8, nothing_need
 
 pub leaves_none : (s : BomSet) (own : OutputUnit → ℕ → ℕ) (held : List ℕ) → LeavesRoom (sought_needs s own held) (sought_needs nothing_sought own held) 0
 leaves_none s own held k n = let same : 0 + n ≡ n = omega arith in omega (arith, needs_own own held k n, ap (λ i. own k (length held + i)) same)
-
--- the three first bytes of two lists
-take_past : (n : ℕ) (a b : List ℕ) → length a ≤ n → take n (a ++ b) ≡ a ++ take (n - length a) b
-take_past n [] b h = ap (λ k. take k b) (let e : n ≡ n - 0 = omega arith in e)
-take_past zero (x ∷ a) b h = absurd (omega (arith, h))
-take_past (suc n) (x ∷ a) b h = ap (λ y. x ∷ y) (take_past n a b (omega (arith, h)) ∙ ap (λ k. a ++ take k b) (let e : n - length a ≡ suc n - length (x ∷ a) = omega arith in e))
-
-pub first_room : (held src : List ℕ) → length held ≤ 3 → held ++ take (3 - length held) src ≡ take 3 (held ++ src)
-first_room held src h = sym (take_past 3 held src (omega (arith, h)))
 
 pub needs_settled : (s : BomSet) (own : OutputUnit → ℕ → ℕ) (held : List ℕ) → s ≡ nothing_sought → (k : OutputUnit) (n : ℕ) → sought_needs s own held k n ≡ own k (length held + n)
 needs_settled s own held e k n = ap (λ (t : BomSet). sought_needs t own held k n) e ∙ needs_own own held k n
@@ -610,12 +601,6 @@ suffices_then O M A held after t last size unread old mid new InputEmpty (Malfor
     subst (λ (n : ℕ). left_after (counts_past_malformed k) (replacement_len t) (A.needs k n) ≤ new) there (j k m is stops (h k (size + m) is (λ n. cc) fits)))
 suffices_then O M A held after t last size unread old mid new OutputFull outcome g e h j = cc
 suffices_then O M A held after t last size unread old mid new (Malformed a b) outcome g e h j = cc
-
--- a call that didn't
-pub suffices_full : (O M : DecoderState) (held after : List ℕ) (t last : Bool) (size left old new : ℕ) (outcome : DecoderResult) → outcome ≡ OutputFull → Suffices O.needs M.needs t false (length held) left old new outcome → Suffices (held_state O held).needs (held_state M after).needs t last size (size - 0) old new OutputFull
-suffices_full O M held after t last size left old new InputEmpty e h = cc
-suffices_full O M held after t last size left old new OutputFull e h = λ k m is stops fits. h k (size + m) is (λ n. cc) fits
-suffices_full O M held after t last size left old new (Malformed a b) e h = cc
 
 pub suffices_malformed : (O M : DecoderState) (held after : List ℕ) (t last : Bool) (size left old new a b c : ℕ) (outcome : DecoderResult) → outcome ≡ Malformed a b → length after ≡ left → Suffices O.needs M.needs t false (length held) left old new outcome → Suffices (held_state O held).needs (held_state M after).needs t last size (size - 0) old new (Malformed a c)
 suffices_malformed O M held after t last size left old new a b c InputEmpty e g h = cc

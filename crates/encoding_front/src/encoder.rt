@@ -29,7 +29,8 @@ use encoding_tables::Tables;
 use std::fmt;
 use std::marker::Model;
 
-/// An encoder of one stream of text into an output encoding. It is made by `Encoding::new_encoder`.
+/// An encoder of one stream of text into an output encoding. It is made by `Encoding::new_encoder`,
+/// or by `Encoder::new`.
 ///
 /// Between calls it keeps only the set in force, which ISO-2022-JP alone has; the caller keeps the
 /// unread text. How it is used:
@@ -90,16 +91,33 @@ impl Encoding {
         ensures coding { (⟦<Encoder<'static> as RawEncoder>⟧.parts result).coding
             ≡ coding_of tables.now self }
     {
-        let encoding = self.output_encoding();
-        Encoder {
-            tables: Some(tables),
-            encoding,
-            variant: VariantEncoder::new(encoding, Some(tables)),
-        }
+        Encoder::new(self, Some(tables))
     }
 }
 
 impl<'t> Encoder<'t> {
+    ghost use Rattle.encoding_front.specs.Encodings.{lists_of};
+
+    /// An encoder of a new stream into the output encoding of `encoding` (`output_encoding`; the
+    /// Encoding Standard, section 4.3).
+    ///
+    /// The condition, that the indexes of the output encoding are in `tables`, is tested by
+    /// `Encoding::is_ready` of the output encoding. If that needs none (`Encoding::needs`), `None`
+    /// will do.
+    pub fn new(encoding: Encoding, tables: Option<&'t Tables>) -> Self
+        requires { IsReady (lists_of tables) (output_encoding_of encoding) }
+        ensures state { result ≡ new_state (lists_of tables.entry) encoding }
+        ensures coding { (⟦<Encoder<'static> as RawEncoder>⟧.parts result).coding
+            ≡ coding_of (lists_of tables.entry) encoding }
+    {
+        let encoding = encoding.output_encoding();
+        Encoder {
+            tables,
+            encoding,
+            variant: VariantEncoder::new(encoding, tables),
+        }
+    }
+
     /// The output encoding, in which it writes.
     pub fn encoding(&self) -> Encoding
         ensures { result ≡ self.now.encoding }

@@ -29,7 +29,7 @@ use Rattle.encoding_front.specs.laws.Encodings.{coding_of_utf8}
 use Rattle.encoding_front.specs.laws.Input.{marked_scalars}
 use Rattle.jillapun_c.specs.Conversions.{IsVerdict}
 use Rattle.jillapun_c.specs.EncodingNumbers.{encoding_at, mark_at}
-use Rattle.jillapun_c.specs.Openings.{IfFound, IfReady}
+use Rattle.jillapun_c.specs.Openings.{IfReady}
 use Rattle.jillapun_c.specs.Room.{IsPut, TextIsPut}
 use Rattle.jillapun_c.specs.Whole.{BeginsWithText, DecodesIfReady, DecodesWhole, EncodesWhole, MayDecode, PutsIfRoom, verdict_of}
 use Rattle.jillapun_c.specs.declared.status.TheConstants.{LOSSY, NO_MEMORY, OK}
@@ -102,36 +102,38 @@ by_option None A F G f h = h
 by_option (Some x) A F G f h = f x h
 
 -- what is put may be put otherwise
-decodes_as : (P Q : (old output new : List ℕ) (written : ℕ) → Type 0) (tables : Option IndexLists) (encoding mark : ℕ) (src old mid new : List ℕ) (w status : ℕ)
+decodes_as : (P Q : (old output new : List ℕ) (written : ℕ) → Type 0) (t : IndexLists) (encoding mark : ℕ) (src old mid new : List ℕ) (w status : ℕ)
     → ((made : List ℕ) (had : Bool) → PutsIfRoom P made old mid had w status → PutsIfRoom Q made old new had w status) → (status ≡ NO_MEMORY → mid ≡ old → new ≡ old)
-    → IfFound tables encoding (DecodesIfReady P mark src old mid w status) status → IfFound tables encoding (DecodesIfReady Q mark src old new w status) status
-decodes_as P Q tables encoding mark src old mid new w status puts kept h =
-    by_option tables _ (λ t. MatchOption (encoding_at encoding) _ (λ e. DecodesIfReady P mark src old mid w status t e)) (λ t. MatchOption (encoding_at encoding) _ (λ e. DecodesIfReady Q mark src old new w status t e))
-    (λ t. by_option (encoding_at encoding) _ (λ e. DecodesIfReady P mark src old mid w status t e) (λ e. DecodesIfReady Q mark src old new w status t e)
-    (λ e. by_option (mark_at mark) _ (λ m. IfReady t e (MayDecode P t e m src old mid w status) status) (λ m. IfReady t e (MayDecode Q t e m src old new w status) status) (ready t e))) h
+    → DecodesIfReady P t encoding mark src old mid w status → DecodesIfReady Q t encoding mark src old new w status
+decodes_as P Q t encoding mark src old mid new w status puts kept h =
+    by_option (encoding_at encoding) _ (λ e. MatchOption (mark_at mark) _ (λ m. Decodes P mid e m)) (λ e. MatchOption (mark_at mark) _ (λ m. Decodes Q new e m))
+    (λ e. by_option (mark_at mark) _ (λ m. Decodes P mid e m) (λ m. Decodes Q new e m) (ready e)) h
   where
-    made : (t : IndexLists) (e : Encoding) (m : Mark) → MayDecode P t e m src old mid w status → MayDecode Q t e m src old new w status
-    made t e m (inl d) = inl (record { text = d.text; had_errors = d.had_errors; decoded = d.decoded; put = puts d.text d.had_errors d.put })
-    made t e m (inr none) = inr (none.0, kept none.0 none.1)
+    Decodes : (R : (old output new : List ℕ) (written : ℕ) → Type 0) → List ℕ → Encoding → Mark → Type 0
+    Decodes R l e m = IfReady t e (MayDecode R t e m src old l w status) status
 
-    ready : (t : IndexLists) (e : Encoding) (m : Mark) → IfReady t e (MayDecode P t e m src old mid w status) status → IfReady t e (MayDecode Q t e m src old new w status) status
-    ready t e m (inl (is, d)) = inl (is, made t e m d)
-    ready t e m (inr other) = inr other
+    made : (e : Encoding) (m : Mark) → MayDecode P t e m src old mid w status → MayDecode Q t e m src old new w status
+    made e m (inl d) = inl (record { text = d.text; had_errors = d.had_errors; decoded = d.decoded; put = puts d.text d.had_errors d.put })
+    made e m (inr none) = inr (none.0, kept none.0 none.1)
+
+    ready : (e : Encoding) (m : Mark) → Decodes P mid e m → Decodes Q new e m
+    ready e m (inl (is, d)) = inl (is, made e m d)
+    ready e m (inr other) = inr other
 
 -- nothing is, if the status is no verdict
-pub not_put : (P Q : (old output new : List ℕ) (written : ℕ) → Type 0) (tables : Option IndexLists) (encoding mark : ℕ) (src old new : List ℕ) (w status : ℕ) → ¬ (IsVerdict status)
-    → IfFound tables encoding (DecodesIfReady P mark src old new w status) status → IfFound tables encoding (DecodesIfReady Q mark src old new w status) status
-not_put P Q tables encoding mark src old new w status other = decodes_as P Q tables encoding mark src old new new w status (λ made had. too_long made had) (λ _ same. same)
+pub not_put : (P Q : (old output new : List ℕ) (written : ℕ) → Type 0) (t : IndexLists) (encoding mark : ℕ) (src old new : List ℕ) (w status : ℕ) → ¬ (IsVerdict status)
+    → DecodesIfReady P t encoding mark src old new w status → DecodesIfReady Q t encoding mark src old new w status
+not_put P Q t encoding mark src old new w status other = decodes_as P Q t encoding mark src old new new w status (λ made had. too_long made had) (λ _ same. same)
   where
     too_long : (made : List ℕ) (had : Bool) → PutsIfRoom P made old new had w status → PutsIfRoom Q made old new had w status
     too_long made had (inl fits) = absurd (other (told_verdict had status fits.told))
     too_long made had (inr long) = inr long
 
 -- a text is, whatever is behind it
-pub put_over_text : (tables : Option IndexLists) (encoding mark : ℕ) (src old mid new : List ℕ) (w status : ℕ) → IsVerdict status → IsUtf8 (take w mid) → PutsOver mid new w
-    → IfFound tables encoding (DecodesIfReady IsPut mark src old mid w status) status → IfFound tables encoding (DecodesIfReady TextIsPut mark src old new w status) status
-put_over_text tables encoding mark src old mid new w status verdict is over =
-    decodes_as IsPut TextIsPut tables encoding mark src old mid new w status (λ made had. puts made had) (λ none same. is_memory status verdict none)
+pub put_over_text : (t : IndexLists) (encoding mark : ℕ) (src old mid new : List ℕ) (w status : ℕ) → IsVerdict status → IsUtf8 (take w mid) → PutsOver mid new w
+    → DecodesIfReady IsPut t encoding mark src old mid w status → DecodesIfReady TextIsPut t encoding mark src old new w status
+put_over_text t encoding mark src old mid new w status verdict is over =
+    decodes_as IsPut TextIsPut t encoding mark src old mid new w status (λ made had. puts made had) (λ none same. is_memory status verdict none)
   where
     puts : (made : List ℕ) (had : Bool) → PutsIfRoom IsPut made old mid had w status → PutsIfRoom TextIsPut made old new had w status
     puts made had (inl fits) = inl (record {

@@ -51,10 +51,11 @@ OrNoMemory Put old new status = Put ⊎ ((status ≡ NO_MEMORY) × (new ≡ old)
 abbrev pub MayDecode : (Puts : (old output new : List ℕ) (written : ℕ) → Type 0) → IndexLists → Encoding → Mark → (src old new : List ℕ) → (written status : ℕ) → Type 0
 MayDecode Puts tables e mark src old new written status = OrNoMemory (DecodesWhole Puts tables e mark src old new written status) old new status
 
--- an input is decoded, if the number says what becomes of marks, and the tables are ready
-abbrev pub DecodesIfReady : (Puts : (old output new : List ℕ) (written : ℕ) → Type 0) (mark : ℕ) (src old new : List ℕ) (written status : ℕ) → IndexLists → Encoding → Type 0
-DecodesIfReady Puts mark src old new written status t e =
-    MatchOption (mark_at mark) (status ≡ UNKNOWN) (λ m. IfReady t e (MayDecode Puts t e m src old new written status) status)
+-- an input is decoded, if each number stands for something, and each index that the encoding needs is there
+abbrev pub DecodesIfReady : (Puts : (old output new : List ℕ) (written : ℕ) → Type 0) → IndexLists → (encoding mark : ℕ) (src old new : List ℕ) (written status : ℕ) → Type 0
+DecodesIfReady Puts t encoding mark src old new written status =
+    MatchOption (encoding_at encoding) (status ≡ UNKNOWN) (λ e. MatchOption (mark_at mark) (status ≡ UNKNOWN)
+    (λ m. IfReady t e (MayDecode Puts t e m src old new written status) status))
 
 -- bytes begin with a text of so many
 pub record BeginsWithText (bytes : List ℕ) (size : ℕ) : Type 0 where
@@ -80,6 +81,7 @@ abbrev pub TakesNoMemory : (encoding mark size room status : ℕ) → Type 0
 TakesNoMemory encoding mark size room status =
     (e : Encoding) (m : Mark) → encoding_at encoding ≡ Some e → mark_at mark ≡ Some m → HasRoomAsked (room_at_start m e Replaced size) room → status ≢ NO_MEMORY
 
--- a text is encoded, if the tables are ready for the output encoding
-abbrev pub EncodesIfReady : (text old new : List ℕ) (written status : ℕ) → IndexLists → Encoding → Type 0
-EncodesIfReady text old new written status t e = IfReady t (output_encoding_of e) (MayEncode t e text old new written status) status
+-- a text is encoded, if there is an encoding with that number, and each index that its output encoding needs is there
+abbrev pub EncodesIfReady : IndexLists → (encoding : ℕ) (text old new : List ℕ) (written status : ℕ) → Type 0
+EncodesIfReady t encoding text old new written status =
+    MatchOption (encoding_at encoding) (status ≡ UNKNOWN) (λ e. IfReady t (output_encoding_of e) (MayEncode t e text old new written status) status)

@@ -1,12 +1,11 @@
 //! The exports that decode streams.
 
-ghost use Rattle.std.specs.Prelude.{◌≡◌, ◌≢◌, None, MatchResult};
+ghost use Rattle.std.specs.Prelude.{◌≡◌, ◌≢◌, MatchResult};
 ghost use Rattle.encoding_mem.specs.declared.codec.room.OutputUnit.{OutputUnit};
 ghost use Rattle.encoding_front.specs.calls.DecoderViews.{decoder_view};
 ghost use Rattle.encoding_front.specs.calls.Stream.{IsMadeFrom};
 ghost use Rattle.jillapun_c.specs.DecoderCalls.{AsksRoom, GoesOnFrom, HoldsOne};
 ghost use Rattle.jillapun_c.specs.DecoderCalls.{MakesDecoder, TellsWhyNot};
-ghost use Rattle.jillapun_c.specs.HeldDecoders.{saved_in};
 ghost use Rattle.jillapun_c.specs.HeldTables.{held_lists};
 ghost use Rattle.jillapun_c.specs.declared.status.TheConstants.{OK};
 

@@ -1,6 +1,6 @@
 //! The exports that encode streams.
 
-ghost use Rattle.std.specs.Prelude.{◌≡◌, ◌≢◌, None};
+ghost use Rattle.std.specs.Prelude.{◌≡◌, ◌≢◌};
 ghost use Rattle.jillapun_c.specs.Coders.{encoder_in};
 ghost use Rattle.jillapun_c.specs.EncoderCalls.{MakesEncoder};
 ghost use Rattle.jillapun_c.specs.declared.status.TheConstants.{OK};

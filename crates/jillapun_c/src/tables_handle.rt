@@ -6,7 +6,7 @@ ghost use Rattle.std.specs.declared.option.Option.{Option};
 ghost use Rattle.std.specs.declared.option.Option.TheVariants.{None, Some};
 ghost use Rattle.encoding_tables.specs.IndexLists.{IndexLists};
 ghost use Rattle.encoding_tables.specs.contracts.tables.Tables.{the_row};
-ghost use Rattle.encoding_front.specs.Encodings.{IsReady};
+ghost use Rattle.encoding_front.specs.Encodings.{IsReady, lists_of};
 ghost use Rattle.jillapun_c.specs.HeldTables.{held_lists};
 ghost use Rattle.jillapun_c.specs.Ownership.{tables_handle_owns};
 
@@ -101,7 +101,7 @@ impl TablesHandle {
 
     /// The tables that it holds, where it cannot be moved.
     pub(crate) fn lent(&self) -> Option<&'static Tables>
-        ensures { MatchOption result (self.now.tables ≡ None) (λ t. self.now.tables ≡ Some t.now) }
+        ensures { lists_of result ≡ held_lists self.now.tables }
     {
         self.copied().get()
     }

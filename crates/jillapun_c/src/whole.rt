@@ -6,15 +6,15 @@ ghost use Rattle.std.specs.Str.{IsUtf8, chars};
 ghost use Rattle.encoding_mem.specs.Coding.{lost_count, output};
 ghost use Rattle.encoding_mem.specs.declared.codec.reference.Reference.TheVariants.{Decimal};
 ghost use Rattle.encoding_mem.specs.declared.codec.room.OutputUnit.TheVariants.{Replaced};
-ghost use Rattle.encoding_tables.specs.IndexLists.{IndexLists};
-ghost use Rattle.encoding_front.specs.Encodings.{IsReady, coding_of, output_encoding_of};
+ghost use Rattle.encoding_tables.specs.IndexLists.{AreAcceptedTables, IndexLists};
+ghost use Rattle.encoding_front.specs.Encodings.{IsReady, coding_of, lists_of, output_encoding_of};
 ghost use Rattle.encoding_front.specs.calls.DecoderViews.{decoder_view};
 ghost use Rattle.encoding_front.specs.calls.OneShot.{IsDecoded, room_at_start};
 ghost use Rattle.encoding_front.specs.calls.Stream.{IsNewDecoder, room_asked};
 ghost use Rattle.encoding_front.specs.declared.encoding.Encoding.{Encoding};
 ghost use Rattle.encoding_front.specs.declared.mark.Mark.{Mark};
 ghost use Rattle.jillapun_c.specs.Conversions.{IsVerdict};
-ghost use Rattle.jillapun_c.specs.Openings.{IfFound};
+ghost use Rattle.jillapun_c.specs.HeldTables.{held_lists};
 ghost use Rattle.jillapun_c.specs.Room.{IsPut, TextIsPut};
 ghost use Rattle.jillapun_c.specs.Whole.{BeginsWithText, DecodesIfReady, DecodesWhole};
 ghost use Rattle.jillapun_c.specs.Whole.{EncodesIfReady, HasRoomAsked, MayDecode, MayEncode};
@@ -26,23 +26,24 @@ ghost use Rattle.jillapun_c.specs.declared.status.TheConstants.{OK, ROOM};
 use crate::encoding_number::{encoding_of, mark_of};
 use crate::mem::text_room::clear_rest;
 use crate::mem::utf8::is_text;
-use crate::status::{CLOSED, LOSSY, NO_MEMORY, NOT_READY, NOT_UTF8, OK, ROOM, UNKNOWN};
+use crate::status::{LOSSY, NO_MEMORY, NOT_READY, NOT_UTF8, OK, ROOM, UNKNOWN};
 use crate::tables_handle::TablesHandle;
-use encoding_front::{CoderResult, Decoder, Encoding, Mark, OneShotFault};
+use encoding_front::{CoderResult, Decoder, Encoder, Encoding, Mark, OneShotFault};
 use encoding_tables::Tables;
 use std::alloc::Global;
 use std::str;
 
 /// Decodes a whole input to UTF-8, at the start of `dst`, with U+FFFD for each malformed sequence.
-/// `mark` says what becomes of a byte order mark at its start. `written` is the length of the text
-/// in bytes, and nothing after it changes.
+/// `mark` says what becomes of a byte order mark at its start. `tables` may be `{0}` if the encoding
+/// needs no index. `written` is the length of the text in bytes, and nothing after it changes.
 ///
 /// Returns `OK`; or `LOSSY`, a malformed sequence was replaced. At `ROOM` nothing is written, since
 /// `dst` is shorter than the text: call again with room for `written` bytes. Else nothing is done,
-/// and `written` is 0: `CLOSED`, there are no tables; `UNKNOWN`, no encoding or no handling of
-/// marks has the number; `NOT_READY`, the tables lack an index of the encoding; `NO_MEMORY`, memory
-/// was refused, which is not asked for if `dst` is as long as `jillapun_decoder_max_utf8_length`
-/// tells of `src_len` bytes and a new decoder of this encoding with this `mark`.
+/// and `written` is 0: `UNKNOWN`, no encoding or no handling of marks has the number; `NOT_READY`,
+/// the tables lack an index of the encoding, or there are none and it needs one; `NO_MEMORY`,
+/// memory was refused, which is not asked for if `dst` is as long as
+/// `jillapun_decoder_max_utf8_length` tells of `src_len` bytes and a new decoder of this encoding
+/// with this `mark`.
 #[unsafe(no_mangle)]
 pub extern "C" fn jillapun_decode(
     alloc: Global,
@@ -53,27 +54,24 @@ pub extern "C" fn jillapun_decode(
     dst: &mut [u8],
     written: &mut usize,
 ) -> u8
-    ensures decodes { IfFound tables.tables encoding
-        (DecodesIfReady IsPut mark src.now dst.old dst.new written.new result) result }
+    ensures decodes { DecodesIfReady IsPut (held_lists tables.tables) encoding mark src.now dst.old
+        dst.new written.new result }
     ensures text { IsVerdict result → BeginsWithText dst.new written.new }
     ensures kept { result ≢ OK → result ≢ LOSSY → dst.new ≡ dst.old }
     ensures nothing { result ≢ OK → result ≢ LOSSY → result ≢ ROOM → written.new ≡ 0 }
     ensures memory { TakesNoMemory encoding mark (length src.now) (length dst.old) result }
 {
     *written = 0;
-    let Some(tables) = tables.get() else {
-        return CLOSED;
-    };
     let Some(encoding) = encoding_of(encoding) else {
         return UNKNOWN;
     };
     let Some(mark) = mark_of(mark) else {
         return UNKNOWN;
     };
-    if !encoding.is_ready(tables) {
+    if !tables.are_ready(encoding) {
         return NOT_READY;
     }
-    decode_into(alloc, tables, encoding, mark, src, dst, written)
+    decode_into(alloc, tables.lent(), encoding, mark, src, dst, written)
 }
 
 /// Decodes a whole input to UTF-8 at the start of a text, with U+FFFD for each malformed sequence.
@@ -90,8 +88,8 @@ pub extern "C" fn jillapun_decode_to_str(
     dst: &mut [u8],
     written: &mut usize,
 ) -> u8
-    ensures decodes { IfFound tables.tables encoding
-        (DecodesIfReady TextIsPut mark src.now dst.old dst.new written.new result) result }
+    ensures decodes { DecodesIfReady TextIsPut (held_lists tables.tables) encoding mark src.now
+        dst.old dst.new written.new result }
     ensures kept { result ≢ OK → result ≢ LOSSY → dst.new ≡ dst.old }
     ensures nothing { result ≢ OK → result ≢ LOSSY → result ≢ ROOM → written.new ≡ 0 }
     ensures memory { TakesNoMemory encoding mark (length src.now) (length dst.old) result }
@@ -114,15 +112,15 @@ fn is_verdict(status: u8) -> bool
 // Decodes a whole input into the room: straight into it, if it is surely enough.
 fn decode_into(
     alloc: Global,
-    tables: &Tables,
+    tables: Option<&Tables>,
     encoding: Encoding,
     mark: Mark,
     src: &[u8],
     dst: &mut [u8],
     written: &mut usize,
 ) -> u8
-    requires { IsReady tables.now encoding }
-    ensures decodes { MayDecode IsPut tables.now encoding mark src.now dst.old dst.new
+    requires { IsReady (lists_of tables) encoding }
+    ensures decodes { MayDecode IsPut (lists_of tables.entry) encoding mark src.now dst.old dst.new
         written.new result }
     ensures text { IsVerdict result → BeginsWithText dst.new written.new }
     ensures kept { result ≢ OK → result ≢ LOSSY → dst.new ≡ dst.old }
@@ -130,13 +128,27 @@ fn decode_into(
     ensures memory { HasRoomAsked (room_at_start mark encoding Replaced (length src.now))
         (length dst.old) → result ≢ NO_MEMORY }
 {
-    // What the tables hold is accepted: their type's invariant, which only a call tells.
-    tables.accepted();
-    let mut decoder = Decoder::new(encoding, mark, Some(tables));
+    are_accepted(tables);
+    let mut decoder = Decoder::new(encoding, mark, tables);
     if is_enough(&decoder, src.len(), dst.len()) {
         return decode_straight(&mut decoder, src, dst, written);
     }
-    decode_by_copy(alloc, tables, encoding, mark, src, dst, written)
+    match tables {
+        Some(tables) => decode_by_copy(alloc, tables, encoding, mark, src, dst, written),
+        None => {
+            let none = Tables::new(alloc);
+            decode_by_copy(alloc, &none, encoding, mark, src, dst, written)
+        }
+    }
+}
+
+// The law that each index of tables was accepted: their type's invariant, which only a call tells.
+fn are_accepted(tables: Option<&Tables>)
+    ensures { AreAcceptedTables (lists_of tables.entry) }
+{
+    if let Some(tables) = tables {
+        tables.accepted();
+    }
 }
 
 // Whether so much room is surely enough for the text of so many bytes.
@@ -215,14 +227,14 @@ fn decoded(
 
 /// Encodes a whole text, which is UTF-8, into the output encoding of the one with this number (the
 /// Encoding Standard, section 6, "encode"), at the start of `dst`, with the decimal reference
-/// (`&#8364;`) of each character that has no bytes. `written` is the length of the output in bytes,
-/// and nothing after it changes.
+/// (`&#8364;`) of each character that has no bytes. `tables` may be `{0}` if the output encoding
+/// needs no index. `written` is the length of the output in bytes, and nothing after it changes.
 ///
 /// Returns `OK`; or `LOSSY`, a reference was written. At `ROOM` nothing is written, since `dst` is
 /// shorter than the output: call again with room for `written` bytes. Else nothing is done, and
-/// `written` is 0: `NOT_UTF8`, the text is not UTF-8; `CLOSED`, there are no tables; `UNKNOWN`, no
-/// encoding has the number; `NOT_READY`, the tables lack an index of the output encoding;
-/// `NO_MEMORY`, memory was refused.
+/// `written` is 0: `NOT_UTF8`, the text is not UTF-8; `UNKNOWN`, no encoding has the number;
+/// `NOT_READY`, the tables lack an index of the output encoding, or there are none and it needs
+/// one; `NO_MEMORY`, memory was refused.
 #[unsafe(no_mangle)]
 pub extern "C" fn jillapun_encode(
     alloc: Global,
@@ -233,8 +245,8 @@ pub extern "C" fn jillapun_encode(
     written: &mut usize,
 ) -> u8
     ensures text { (¬ (IsUtf8 text.now)) → result ≡ NOT_UTF8 }
-    ensures encodes { IsUtf8 text.now → IfFound tables.tables encoding
-        (EncodesIfReady text.now dst.old dst.new written.new result) result }
+    ensures encodes { IsUtf8 text.now → EncodesIfReady (held_lists tables.tables) encoding text.now
+        dst.old dst.new written.new result }
     ensures kept { result ≢ OK → result ≢ LOSSY → dst.new ≡ dst.old }
     ensures nothing { result ≢ OK → result ≢ LOSSY → result ≢ ROOM → written.new ≡ 0 }
 {
@@ -243,16 +255,13 @@ pub extern "C" fn jillapun_encode(
         return NOT_UTF8;
     }
     let text = unsafe { str::from_utf8_unchecked(text) };
-    let Some(tables) = tables.get() else {
-        return CLOSED;
-    };
     let Some(encoding) = encoding_of(encoding) else {
         return UNKNOWN;
     };
-    if !encoding.output_encoding().is_ready(tables) {
+    if !tables.are_ready(encoding.output_encoding()) {
         return NOT_READY;
     }
-    encode_into(alloc, tables, encoding, text, dst, written)
+    encode_into(alloc, tables.lent(), encoding, text, dst, written)
 }
 
 // How long an output may be to be made on the stack, in bytes.
@@ -262,14 +271,15 @@ const SHORT: usize = 512;
 // on the stack, so that no memory is asked for.
 fn encode_into(
     alloc: Global,
-    tables: &Tables,
+    tables: Option<&Tables>,
     encoding: Encoding,
     text: &str,
     dst: &mut [u8],
     written: &mut usize,
 ) -> u8
-    requires { IsReady tables.now (output_encoding_of encoding) }
-    ensures encodes { MayEncode tables.now encoding text.now dst.old dst.new written.new result }
+    requires { IsReady (lists_of tables) (output_encoding_of encoding) }
+    ensures encodes { MayEncode (lists_of tables.entry) encoding text.now dst.old dst.new
+        written.new result }
     ensures kept { result ≢ OK → result ≢ LOSSY → dst.new ≡ dst.old }
     ensures nothing { result ≢ OK → result ≢ LOSSY → result ≢ ROOM → written.new ≡ 0 }
 {
@@ -279,29 +289,35 @@ fn encode_into(
     let mut short = [0; SHORT];
     match encoded(tables, encoding, text, &mut short) {
         Some((length, had_unmappable)) => put(&short[..length], had_unmappable, dst, written),
-        None => encode_by_copy(alloc, tables, encoding, text, dst, written),
+        None => match tables {
+            Some(tables) => encode_by_copy(alloc, tables, encoding, text, dst, written),
+            None => {
+                let none = Tables::new(alloc);
+                encode_by_copy(alloc, &none, encoding, text, dst, written)
+            }
+        },
     }
 }
 
 // Encodes a whole text at the start of a room. Returns the length of the output, and whether a
 // reference was written; or nothing, if the room is not enough, or is shorter than the text.
 fn encoded(
-    tables: &Tables,
+    tables: Option<&Tables>,
     encoding: Encoding,
     text: &str,
     room: &mut [u8],
 ) -> Option<(usize, bool)>
-    requires { IsReady tables.now (output_encoding_of encoding) }
+    requires { IsReady (lists_of tables) (output_encoding_of encoding) }
     ensures bytes { IfSome result (λ r. take r.0 room.new
-        ≡ output Decimal (coding_of tables.now encoding) (chars text.now)) }
+        ≡ output Decimal (coding_of (lists_of tables.entry) encoding) (chars text.now)) }
     ensures lost { IfSome result (λ r. IsTrue r.1
-        ↔ (0 < lost_count (coding_of tables.now encoding) (chars text.now))) }
+        ↔ (0 < lost_count (coding_of (lists_of tables.entry) encoding) (chars text.now))) }
     ensures within { IfSome result (λ r. r.0 ≤ length room.new) }
 {
     if room.len() < text.len() {
         return None;
     }
-    let mut encoder = encoding.new_encoder(tables);
+    let mut encoder = Encoder::new(encoding, tables);
     let (outcome, _, length, had_unmappable) = encoder.encode_from_utf8(text, room, true);
     match outcome {
         CoderResult::InputEmpty => Some((length, had_unmappable)),

@@ -7,6 +7,7 @@ use Rattle.encoding_mem.specs.declared.codec.room.OutputUnit.{OutputUnit}
 use Rattle.encoding_mem.specs.declared.codec.room.DecodedLength.{DecodedLength}
 use Rattle.encoding_tables.specs.Utf16.{pieces_utf16}
 use Rattle.encoding_front.specs.Marks.{takes_mark_of}
+use Rattle.encoding_front.specs.calls.CodecBounds.{decoded_length_of}
 use Rattle.encoding_front.specs.declared.encoding.Encoding.{Encoding}
 use Rattle.encoding_front.specs.declared.mark.Mark.{Mark}
 use Rattle.encoding_front.specs.declared.seeking.ByteOrderMark.{ByteOrderMark}
@@ -38,12 +39,6 @@ abbrev pub pieces_after_mark : ByteOrderMark → List ℕ → List Piece
 pieces_after_mark Utf8 = pieces_utf8
 pieces_after_mark Utf16Be = pieces_utf16 true
 pieces_after_mark Utf16Le = pieces_utf16 false
-
--- the decoded length of what follows a byte order mark, in the mark's encoding
-abbrev pub room_after_mark : ByteOrderMark → DecodedLength
-room_after_mark Utf8 = decoded_length_utf8
-room_after_mark Utf16Be = decoded_length_utf16
-room_after_mark Utf16Le = decoded_length_utf16
 
 -- the marks that would be taken
 abbrev pub sought_by : Mark → Encoding → BomSet
@@ -113,7 +108,7 @@ can_be s (b ∷ held) m = (b == mark_head m) && seeks s m
 
 -- the room for what follows a mark in held bytes and n more, or 0 if the held can't begin the mark
 abbrev pub mark_needs : BomSet → (held : List ℕ) → OutputUnit → ℕ → ByteOrderMark → ℕ
-mark_needs s held k n m = if can_be s held m then decoded_length (room_after_mark m) k ((length held + n) - mark_len m) else 0
+mark_needs s held k n m = if can_be s held m then decoded_length (decoded_length_of (encoding_of_mark m)) k ((length held + n) - mark_len m) else 0
 
 -- the most room that a call needs free for held bytes and n more, by the decoder or after a mark
 abbrev pub sought_needs : BomSet → (own : OutputUnit → ℕ → ℕ) (held : List ℕ) → OutputUnit → ℕ → ℕ

@@ -14,7 +14,7 @@ use Rattle.encoding_front.specs.EncodingTable.{codec_kind_of}
 use Rattle.encoding_front.specs.calls.CodecBounds.{decoded_length_of, decoded_length_of_codec_kind}
 use Rattle.encoding_front.specs.declared.encoding.Encoding.{Encoding}
 use Rattle.encoding_front.specs.declared.codec_kind.CodecKind.{CodecKind}
-use Rattle.encoding_front.specs.calls.Seeking.{mark_len, pieces_after_mark, room_after_mark, is_sought, find_mark, find_second, find_end, pieces_seen, sought_pieces, can_be, sought_needs, room_widest}
+use Rattle.encoding_front.specs.calls.Seeking.{mark_len, encoding_of_mark, pieces_after_mark, is_sought, find_mark, find_second, find_end, pieces_seen, sought_pieces, can_be, sought_needs, room_widest}
 use Rattle.encoding_front.specs.declared.seeking.ByteOrderMark.{ByteOrderMark}
 use Rattle.encoding_front.specs.declared.seeking.ByteOrderMark.TheVariants.{Utf8, Utf16Be, Utf16Le}
 use Rattle.encoding_front.specs.declared.seeking.BomSet.{BomSet}
@@ -107,7 +107,7 @@ widest_utf16 Units n = omega arith
 widest_utf16 Bytes n = omega arith
 widest_utf16 Replaced n = omega arith
 
-pub widest_after : (m : ByteOrderMark) (k : OutputUnit) (n : ℕ) → decoded_length (room_after_mark m) k n ≤ decoded_length room_widest k n
+pub widest_after : (m : ByteOrderMark) (k : OutputUnit) (n : ℕ) → decoded_length (decoded_length_of (encoding_of_mark m)) k n ≤ decoded_length room_widest k n
 widest_after Utf8 k n = widest_utf8 k n
 widest_after Utf16Be k n = widest_utf16 k n
 widest_after Utf16Le k n = widest_utf16 k n
@@ -117,7 +117,7 @@ widest_rises Units m n h = omega (arith, h)
 widest_rises Bytes m n h = omega (arith, h)
 widest_rises Replaced m n h = omega (arith, h)
 
-widest_cond : (t : Bool) (m : ByteOrderMark) (k : OutputUnit) (j n : ℕ) → j ≤ n → cond t (decoded_length (room_after_mark m) k j) 0 ≤ decoded_length room_widest k n
+widest_cond : (t : Bool) (m : ByteOrderMark) (k : OutputUnit) (j n : ℕ) → j ≤ n → cond t (decoded_length (decoded_length_of (encoding_of_mark m)) k j) 0 ≤ decoded_length room_widest k n
 widest_cond true m k j n h = omega (arith, widest_after m k j, widest_rises k j n h)
 widest_cond false m k j n h = omega arith
 

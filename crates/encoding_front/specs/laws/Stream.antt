@@ -5,11 +5,9 @@ use Rattle.encoding_mem.specs.calls.DecodedLength.{decoded_length}
 use Rattle.encoding_mem.specs.declared.codec.room.DecodedLength.{DecodedLength}
 use Rattle.encoding_mem.specs.declared.codec.room.OutputUnit.{OutputUnit}
 use Rattle.encoding_front.specs.calls.CodecBounds.{decoded_length_of}
-use Rattle.encoding_front.specs.calls.Seeking.{encoding_of_mark, encoding_seen, find_mark, is_sought, room_after_mark, room_widest, sought_encoding}
+use Rattle.encoding_front.specs.calls.Seeking.{encoding_seen, find_mark, is_sought, room_widest, sought_encoding}
 use Rattle.encoding_front.specs.laws.Seeking.{widest_encoding}
 use Rattle.encoding_front.specs.declared.encoding.Encoding.{Encoding}
-use Rattle.encoding_front.specs.declared.seeking.ByteOrderMark.{ByteOrderMark}
-use Rattle.encoding_front.specs.declared.seeking.ByteOrderMark.TheVariants.{Utf8, Utf16Be, Utf16Le}
 use Rattle.encoding_front.specs.declared.seeking.BomMatch.{BomMatch}
 use Rattle.encoding_front.specs.declared.seeking.BomMatch.TheVariants.{Prefix}
 use Rattle.encoding_front.specs.declared.seeking.BomSet.{BomSet}
@@ -28,11 +26,6 @@ pub named_by : (e : Encoding) (s : BomSet) (held : List ℕ) → (IsTrue (is_sou
 named_by e s held prefix x = ap (λ (f : Encoding). sought_encoding s f (held ++ x)) (sym (in_force s e held prefix))
 
 -- and the room is that of the encoding in force
-pub room_after_is : (m : ByteOrderMark) → room_after_mark m ≡ decoded_length_of (encoding_of_mark m)
-room_after_is Utf8 = refl
-room_after_is Utf16Be = refl
-room_after_is Utf16Le = refl
-
 pub room_named : (e : Encoding) (s : BomSet) (held : List ℕ) (room : DecodedLength) → (IsTrue (is_sought s) → find_mark s held ≡ Prefix)
     → room ≡ decoded_length_of e → room ≡ decoded_length_of (sought_encoding s e (held ++ []))
 room_named e s held room prefix is = is ∙ ap decoded_length_of (sym (in_force s e held prefix))

@@ -1,6 +1,6 @@
 //! The export that makes a step of a conversion.
 
-ghost use Rattle.std.specs.Prelude.{◌≡◌, ◌↔◌, [], None, Some, false, true};
+ghost use Rattle.std.specs.Prelude.{◌≡◌, [], None, Some, false, true};
 ghost use Rattle.jillapun_c.specs.ConverterRuns.{JoinsToCalls};
 ghost use Rattle.jillapun_c.specs.Converters.{ConvertsByStep, IsIdle, TellsStatus, view_in};
 ghost use Rattle.jillapun_c.specs.declared.converter.Converter.{Converter};

@@ -1,7 +1,7 @@
 //! Conversions of the longest prefix that fits. Each says how much was read and how much was
 //! written: the caller goes on with what is unread.
 
-ghost use Rattle.std.specs.Prelude.{◌≡◌, length, take, encode_utf8_all};
+ghost use Rattle.std.specs.Prelude.{length, take, encode_utf8_all};
 ghost use Rattle.std.specs.Str.{IsUtf8};
 ghost use Rattle.encoding_mem.specs.Conversions.{IsLongest, IsUnitBoundary};
 ghost use Rattle.encoding_mem.specs.Conversions.{text_in_utf16, units_in_utf8};

@@ -20,12 +20,8 @@ const WINDOWS_1252: u8 = 31;
 
 // A copy, byte for byte.
 fn copied(handle: &EncoderHandle) -> EncoderHandle {
-    let tables = match handle.tables.lent() {
-        Some(tables) => TablesHandle::of(tables),
-        None => TablesHandle::none(),
-    };
     EncoderHandle {
-        tables,
+        tables: handle.tables.copied(),
         words: handle.words,
     }
 }

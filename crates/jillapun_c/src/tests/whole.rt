@@ -1,6 +1,6 @@
 //! Calls of the exports for whole texts.
 
-use crate::status::{CLOSED, KEEP, LOSSY, NOT_READY, NOT_UTF8, OK, REMOVE, ROOM, SNIFF, UNKNOWN};
+use crate::status::{KEEP, LOSSY, NOT_READY, NOT_UTF8, OK, REMOVE, ROOM, SNIFF, UNKNOWN};
 use crate::tables_handle::TablesHandle;
 use crate::tests::euro;
 use crate::whole::{jillapun_decode, jillapun_decode_to_str, jillapun_encode};
@@ -12,13 +12,25 @@ const UTF_8: u8 = 25;
 
 const UTF_16LE: u8 = 27;
 
+const X_USER_DEFINED: u8 = 39;
+
 // What a call leaves: its status, the room, and the length.
 type Left = (u8, [u8; 12], usize);
 
 fn decoded(alloc: Global, encoding: u8, mark: u8, src: &[u8], room: usize) -> Left {
+    decoded_over(alloc, euro(alloc), encoding, mark, src, room)
+}
+
+fn decoded_over(
+    alloc: Global,
+    tables: TablesHandle,
+    encoding: u8,
+    mark: u8,
+    src: &[u8],
+    room: usize,
+) -> Left {
     let mut dst = *b"............";
     let mut written = 9;
-    let tables = euro(alloc);
     let status = jillapun_decode(
         alloc,
         tables,
@@ -111,10 +123,21 @@ fn others_are_not_decoded(rt: HostRuntime) {
     assert_eq!(rt; decoded(alloc, 40, KEEP, b"a", 12), (UNKNOWN, same, 0));
     assert_eq!(rt; decoded(alloc, UTF_8, 3, b"a", 12), (UNKNOWN, same, 0));
     assert_eq!(rt; decoded(alloc, 0, KEEP, b"a", 12), (NOT_READY, same, 0));
-    let (mut dst, mut written) = (same, 9);
+}
+
+// Room for 12 bytes is surely enough for one of input, and not for four, which are copied.
+#[test]
+fn no_tables_do_if_no_index_is_needed(rt: HostRuntime) {
+    let alloc = rt.alloc();
     let none = TablesHandle::none();
-    let status = jillapun_decode(alloc, none, UTF_8, KEEP, b"a", &mut dst, &mut written);
-    assert_eq!(rt; (status, dst, written), (CLOSED, same, 0));
+    let left = decoded_over(alloc, none, UTF_8, KEEP, &[0xFF], 12);
+    assert_eq!(rt; left, (LOSSY, *b"\xEF\xBF\xBD.........", 3));
+    let none = TablesHandle::none();
+    let left = decoded_over(alloc, none, UTF_8, SNIFF, &[0xFF, 0xFE, 0x61, 0], 12);
+    assert_eq!(rt; left, (OK, *b"a...........", 1));
+    let none = TablesHandle::none();
+    let left = decoded_over(alloc, none, WINDOWS_1252, KEEP, b"a", 12);
+    assert_eq!(rt; left, (NOT_READY, *b"............", 0));
 }
 
 #[test]
@@ -157,8 +180,23 @@ fn others_are_not_encoded(rt: HostRuntime) {
     );
     assert_eq!(rt; encoded(alloc, 40, b"a", 12), (UNKNOWN, same, 0));
     assert_eq!(rt; encoded(alloc, 0, b"a", 12), (NOT_READY, same, 0));
+}
+
+#[test]
+fn text_is_encoded_without_tables(rt: HostRuntime) {
+    let alloc = rt.alloc();
+    let same = *b"............";
     let (mut dst, mut written) = (same, 9);
     let none = TablesHandle::none();
-    let status = jillapun_encode(alloc, none, UTF_8, b"a", &mut dst, &mut written);
-    assert_eq!(rt; (status, dst, written), (CLOSED, same, 0));
+    let text = "a\u{F780}".as_bytes();
+    let status = jillapun_encode(alloc, none, X_USER_DEFINED, text, &mut dst, &mut written);
+    assert_eq!(rt; (status, dst, written), (OK, *b"a\x80..........", 2));
+    let none = TablesHandle::none();
+    let text = [0x61; 600];
+    let status = jillapun_encode(alloc, none, X_USER_DEFINED, &text, &mut dst, &mut written);
+    assert_eq!(rt; (status, written), (ROOM, 600));
+    let (mut dst, mut written) = (same, 9);
+    let none = TablesHandle::none();
+    let status = jillapun_encode(alloc, none, WINDOWS_1252, b"a", &mut dst, &mut written);
+    assert_eq!(rt; (status, dst, written), (NOT_READY, same, 0));
 }

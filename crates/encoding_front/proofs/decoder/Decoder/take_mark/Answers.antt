@@ -1,7 +1,7 @@
 use Rattle.std.proofs.Common.{rules, arith, ◌≡◌, ℕ, ◌-◌, ◌++◌, List, length, true, false, sym, ◌∙◌, ap, subst, []}
 use Rattle.encoding_front.specs.calls.Seeking.{mark_len, is_sought, find_mark, sought_pieces, sought_needs}
 use Rattle.encoding_front.specs.Encodings.{IsReady, needs_of, no_lists, pieces_of}
-use Rattle.encoding_front.specs.laws.Stream.{in_force, room_after_is}
+use Rattle.encoding_front.specs.laws.Stream.{in_force}
 use Rattle.encoding_front.specs.calls.CodecBounds.{decoded_length_of}
 use Rattle.encoding_front.specs.calls.Resumed.{resumed_in}
 use Rattle.encoding_front.specs.calls.TakesMark.{LeavesRoom}
@@ -46,7 +46,7 @@ returns-in-Whole-clause-takes c =
     let few = few_of (length d.held) own.pending d.few in (
       c.nothing-self.ensures,
       takes_whole d.sought own after (λ x. sought_pieces c.nothing-self.result after.pieces x) d.held c.args.src.now window c.new-self.result c.args.last c.in-Whole.mark _ e (d.fresh e) few c.prefix_of-window.ensures f (λ x. unmarked c.nothing-self.result after.pieces x (ap is_sought c.nothing-self.ensures)) ((c.without_tables-self.ensures no_lists).pieces ∙ ap (pieces_of no_lists) c.encoding-self.ensures ∙ mark_pieces no_lists c.in-Whole.mark) (c.without_tables-self.ensures no_lists).pending c.new-self.ensures size,
-      subst (λ (s : BomSet). LeavesRoom (sought_needs d.sought own.needs d.held) (sought_needs s after.needs c.new-self.result) (c.len.result - c.len-in-Whole.result)) (sym c.nothing-self.ensures) (leaves_whole d.sought own.needs after d.held c.args.src.now window c.new-self.result c.in-Whole.mark _ few c.prefix_of-window.ensures f (c.without_tables-self.ensures no_lists).pending ((c.without_tables-self.ensures no_lists).room ∙ ap decoded_length_of c.encoding-self.ensures ∙ sym (room_after_is c.in-Whole.mark)) c.new-self.ensures size),
+      subst (λ (s : BomSet). LeavesRoom (sought_needs d.sought own.needs d.held) (sought_needs s after.needs c.new-self.result) (c.len.result - c.len-in-Whole.result)) (sym c.nothing-self.ensures) (leaves_whole d.sought own.needs after d.held c.args.src.now window c.new-self.result c.in-Whole.mark _ few c.prefix_of-window.ensures f (c.without_tables-self.ensures no_lists).pending ((c.without_tables-self.ensures no_lists).room ∙ ap decoded_length_of c.encoding-self.ensures) c.new-self.ensures size),
     )
 
 pub returns-in-Whole-clause-source : goal.returns-in-Whole-clause-source
