@@ -903,15 +903,16 @@ uint8_t jillapun_encoder_encode_from_utf8_without_replacement(jillapun_encoder *
 
 /**
  * Decodes a whole input to UTF-8, at the start of `dst`, with U+FFFD for each malformed
- * sequence. `mark` says what becomes of a byte order mark at its start. `written` is the length
- * of the text in bytes, and nothing after it changes.
+ * sequence. `mark` says what becomes of a byte order mark at its start. `tables` may be `{0}`
+ * if the encoding needs no index. `written` is the length of the text in bytes, and nothing
+ * after it changes.
  *
  * Returns `JILLAPUN_OK`; or `JILLAPUN_LOSSY`, a malformed sequence was replaced. At
  * `JILLAPUN_ROOM` nothing is written, since `dst` is shorter than the text: call again with
- * room for `written` bytes. Else nothing is done, and `written` is 0: `JILLAPUN_CLOSED`, there
- * are no tables; `JILLAPUN_UNKNOWN`, no encoding or no handling of marks has the number;
- * `JILLAPUN_NOT_READY`, the tables lack an index of the encoding; `JILLAPUN_NO_MEMORY`, memory
- * was refused, which is not asked for if `dst` is as long as `jillapun_decoder_max_utf8_length`
+ * room for `written` bytes. Else nothing is done, and `written` is 0: `JILLAPUN_UNKNOWN`, no
+ * encoding or no handling of marks has the number; `JILLAPUN_NOT_READY`, the tables lack an
+ * index of the encoding, or there are none and it needs one; `JILLAPUN_NO_MEMORY`, memory was
+ * refused, which is not asked for if `dst` is as long as `jillapun_decoder_max_utf8_length`
  * tells of `src_len` bytes and a new decoder of this encoding with this `mark`.
  */
 uint8_t jillapun_decode(jillapun_tables tables, uint8_t encoding, uint8_t mark, const uint8_t *src,
@@ -929,14 +930,15 @@ uint8_t jillapun_decode_to_str(jillapun_tables tables, uint8_t encoding, uint8_t
 /**
  * Encodes a whole text, which is UTF-8, into the output encoding of the one with this number
  * (the Encoding Standard, section 6, "encode"), at the start of `dst`, with the decimal
- * reference (`&#8364;`) of each character that has no bytes. `written` is the length of the
- * output in bytes, and nothing after it changes.
+ * reference (`&#8364;`) of each character that has no bytes. `tables` may be `{0}` if the
+ * output encoding needs no index. `written` is the length of the output in bytes, and nothing
+ * after it changes.
  *
  * Returns `JILLAPUN_OK`; or `JILLAPUN_LOSSY`, a reference was written. At `JILLAPUN_ROOM`
  * nothing is written, since `dst` is shorter than the output: call again with room for
  * `written` bytes. Else nothing is done, and `written` is 0: `JILLAPUN_NOT_UTF8`, the text is
- * not UTF-8; `JILLAPUN_CLOSED`, there are no tables; `JILLAPUN_UNKNOWN`, no encoding has the
- * number; `JILLAPUN_NOT_READY`, the tables lack an index of the output encoding;
+ * not UTF-8; `JILLAPUN_UNKNOWN`, no encoding has the number; `JILLAPUN_NOT_READY`, the tables
+ * lack an index of the output encoding, or there are none and it needs one;
  * `JILLAPUN_NO_MEMORY`, memory was refused.
  */
 uint8_t jillapun_encode(jillapun_tables tables, uint8_t encoding, const uint8_t *text,

@@ -4,5 +4,6 @@ pub mod ReferenceLemmas
 pub mod DestinationLemmas
 pub mod BomLemmas
 pub mod DecoderCallLemmas
+pub mod SavedNewLemmas
 pub mod DecodedLengthLemmas
 pub mod HexadecimalLemmas

@@ -15,7 +15,7 @@ use Rattle.encoding_front.specs.calls.DecoderCall.{DecoderCall, IfRoomAsked, Roo
 use Rattle.encoding_front.specs.calls.Latin1Prefix.{IsAtRest, IsLatin1Prefix, Latin1Rule, by_ascii, by_index, by_mode, latin1_rule, untold}
 use Rattle.encoding_front.specs.calls.RoomRules.{room_by, room_rule_of}
 use Rattle.encoding_front.specs.calls.SavedDecoders.{CanBeResumed, ReadsAlike, Saves}
-use Rattle.encoding_front.specs.calls.Stream.{DecoderView, IsMadeFrom, IsNewDecoder, Opening, SeeksNoMark, TellsLatin1Prefix, greater_if, room_asked}
+use Rattle.encoding_front.specs.calls.Stream.{DecoderView, IsMadeFrom, Opening, SeeksNoMark, TellsLatin1Prefix, greater_if, room_asked}
 use Rattle.encoding_front.specs.declared.coder_result.CoderResult.{CoderResult}
 use Rattle.encoding_front.specs.declared.coder_result.CoderResult.TheVariants as text_
 use Rattle.encoding_front.specs.declared.decoder.room_rule.RoomRule.{RoomRule}
@@ -25,7 +25,7 @@ use Rattle.encoding_front.specs.declared.mark.Mark.{Mark}
 use Rattle.encoding_front.specs.laws.SavedDecoders.{CanBeResumed-prop, can_be_resumed, saved_alike, call_alike, text_alike}
 use Rattle.jillapun_c.proofs.EncodingNumberLemmas.{same_some}
 use Rattle.jillapun_c.specs.EncodingNumbers.{encoding_at, mark_at}
-use Rattle.jillapun_c.specs.DecoderCalls.{AnswersDecoder, AsksRoom, Decodes, DecodesUpToFault, GoesOnFrom, HoldsOne, IsOutcome, MakesDecoder, TellsIfKnown, TellsWhyNot, text_outcome}
+use Rattle.jillapun_c.specs.DecoderCalls.{AnswersDecoder, AsksRoom, Decodes, DecodesUpToFault, GoesOnFrom, HoldsNewDecoder, HoldsOne, IsOutcome, MakesDecoder, TellsIfKnown, TellsWhyNot, text_outcome}
 use Rattle.jillapun_c.specs.HeldDecoders.{HoldsDecoder, IsSoundDecoder, saved_in}
 use Rattle.jillapun_c.specs.HeldTables.{held_lists}
 use Rattle.jillapun_c.specs.declared.decoder.handle.DecoderHandle.{DecoderHandle}
@@ -204,6 +204,6 @@ latin1_told h u bytes known goes tells = opened_answer h u (λ v. TellsIfKnown v
 
 -- ---- a decoder is made
 
-pub made_new : (tables : Option IndexLists) (encoding mark : ℕ) (new : DecoderHandle) (e : Encoding) (m : Mark) (v : DecoderView) → encoding_at encoding ≡ Some e → mark_at mark ≡ Some m
-    → IsReady (held_lists tables) e → HoldsOne new v → new.tables.tables ≡ tables → IsNewDecoder v (held_lists tables) m e → MakesDecoder tables encoding mark new OK
-made_new tables encoding mark new e m v e_is m_is ready holds over is_new = rw e_is (rw m_is (inl (ready, (refl, record { view = v; holds = holds; over = over; is_new = is_new }))))
+pub made_new : (tables : Option IndexLists) (encoding mark : ℕ) (new : DecoderHandle) (e : Encoding) (m : Mark) → encoding_at encoding ≡ Some e → mark_at mark ≡ Some m
+    → IsReady (held_lists tables) e → HoldsNewDecoder tables e m new → MakesDecoder tables encoding mark new OK
+made_new tables encoding mark new e m e_is m_is ready holds = rw e_is (rw m_is (inl (ready, (refl, holds))))

@@ -2,10 +2,11 @@
 
 ghost use Rattle.std.specs.Prelude.{◌≡◌, ◌≢◌, MatchResult};
 ghost use Rattle.encoding_mem.specs.declared.codec.room.OutputUnit.{OutputUnit};
+ghost use Rattle.encoding_front.specs.Encodings.{IsReady};
 ghost use Rattle.encoding_front.specs.calls.DecoderViews.{decoder_view};
 ghost use Rattle.encoding_front.specs.calls.Stream.{IsMadeFrom};
-ghost use Rattle.jillapun_c.specs.DecoderCalls.{AsksRoom, GoesOnFrom, HoldsOne};
-ghost use Rattle.jillapun_c.specs.DecoderCalls.{MakesDecoder, TellsWhyNot};
+ghost use Rattle.jillapun_c.specs.DecoderCalls.{AsksRoom, GoesOnFrom, HoldsNewDecoder};
+ghost use Rattle.jillapun_c.specs.DecoderCalls.{HoldsOne, MakesDecoder, TellsWhyNot};
 ghost use Rattle.jillapun_c.specs.HeldTables.{held_lists};
 ghost use Rattle.jillapun_c.specs.declared.status.TheConstants.{OK};
 
@@ -20,20 +21,20 @@ use crate::decoder::words::DecoderWords;
 use crate::encoding_number::{encoding_of, mark_of};
 use crate::status::{CLOSED, FINISHED, NOT_READY, OK, REFUSED, UNKNOWN};
 use crate::tables_handle::TablesHandle;
-use encoding_front::Decoder;
+use encoding_front::{Decoder, Encoding, Mark, SavedDecoder};
 use encoding_mem::room::OutputUnit;
 pub use handle::DecoderHandle;
 
 impl DecoderHandle {
-    // One that holds a decoder, which was made from these tables.
-    fn of(tables: TablesHandle, decoder: &Decoder<'_>) -> DecoderHandle
-        requires { IsMadeFrom (held_lists tables.tables) (decoder_view decoder.now) }
-        ensures holds { HoldsOne result (decoder_view decoder.now) }
-        ensures tables { result.tables.tables ≡ tables.tables }
+    // One that holds a decoder of a new stream.
+    fn of_new(tables: TablesHandle, encoding: Encoding, mark: Mark) -> DecoderHandle
+        requires { IsReady (held_lists tables.tables) encoding }
+        ensures { HoldsNewDecoder tables.tables encoding mark result }
     {
+        tables.accepted();
         DecoderHandle {
             tables,
-            words: DecoderWords::of(decoder.saved()),
+            words: DecoderWords::of(SavedDecoder::new(encoding, mark)),
         }
     }
 
@@ -107,7 +108,6 @@ pub extern "C" fn jillapun_decoder_new(
     if !tables.are_ready(encoding) {
         return NOT_READY;
     }
-    let decoder = Decoder::new(encoding, mark, tables.lent());
-    *out = DecoderHandle::of(tables, &decoder);
+    *out = DecoderHandle::of_new(tables, encoding, mark);
     OK
 }

@@ -4,7 +4,7 @@ ghost use Rattle.std.specs.Prelude.{◌≡◌, ◌↔◌, IsTrue, MatchOption};
 ghost use Rattle.std.specs.Coded.{coded_option};
 ghost use Rattle.std.specs.declared.option.Option.{Option};
 ghost use Rattle.std.specs.declared.option.Option.TheVariants.{None, Some};
-ghost use Rattle.encoding_tables.specs.IndexLists.{IndexLists};
+ghost use Rattle.encoding_tables.specs.IndexLists.{AreAcceptedTables, IndexLists};
 ghost use Rattle.encoding_tables.specs.contracts.tables.Tables.{the_row};
 ghost use Rattle.encoding_front.specs.Encodings.{IsReady, lists_of};
 ghost use Rattle.jillapun_c.specs.HeldTables.{held_lists};
@@ -85,6 +85,16 @@ impl TablesHandle {
         TablesHandle {
             at: self.at,
             is_open: self.is_open,
+        }
+    }
+
+    /// The law that each index was accepted that the tables have: an invariant of their type, which
+    /// only a call tells. The function does nothing.
+    pub(crate) fn accepted(&self)
+        ensures { AreAcceptedTables (held_lists self.now.tables) }
+    {
+        if let Some(tables) = self.lent() {
+            tables.accepted();
         }
     }
 

@@ -71,6 +71,7 @@ pub extern "C" fn jillapun_decode(
     if !tables.are_ready(encoding) {
         return NOT_READY;
     }
+    tables.accepted();
     decode_into(alloc, tables.lent(), encoding, mark, src, dst, written)
 }
 
@@ -119,7 +120,8 @@ fn decode_into(
     dst: &mut [u8],
     written: &mut usize,
 ) -> u8
-    requires { IsReady (lists_of tables) encoding }
+    requires ready { IsReady (lists_of tables) encoding }
+    requires accepted { AreAcceptedTables (lists_of tables) }
     ensures decodes { MayDecode IsPut (lists_of tables.entry) encoding mark src.now dst.old dst.new
         written.new result }
     ensures text { IsVerdict result → BeginsWithText dst.new written.new }
@@ -128,7 +130,6 @@ fn decode_into(
     ensures memory { HasRoomAsked (room_at_start mark encoding Replaced (length src.now))
         (length dst.old) → result ≢ NO_MEMORY }
 {
-    are_accepted(tables);
     let mut decoder = Decoder::new(encoding, mark, tables);
     if is_enough(&decoder, src.len(), dst.len()) {
         return decode_straight(&mut decoder, src, dst, written);
@@ -139,15 +140,6 @@ fn decode_into(
             let none = Tables::new(alloc);
             decode_by_copy(alloc, &none, encoding, mark, src, dst, written)
         }
-    }
-}
-
-// The law that each index of tables was accepted: their type's invariant, which only a call tells.
-fn are_accepted(tables: Option<&Tables>)
-    ensures { AreAcceptedTables (lists_of tables.entry) }
-{
-    if let Some(tables) = tables {
-        tables.accepted();
     }
 }
 

@@ -6,8 +6,10 @@ use Rattle.encoding_front.specs.Encodings.{IsReady}
 use Rattle.encoding_front.specs.calls.CodecBounds.{decoded_length_of}
 use Rattle.encoding_front.specs.calls.Resumed.{resumed_in}
 use Rattle.encoding_front.specs.calls.Seeking.{find_mark, is_sought, room_widest, sought_encoding, sought_needs, sought_pieces}
-use Rattle.encoding_front.specs.calls.Stream.{DecoderView}
+use Rattle.encoding_front.specs.calls.Stream.{DecoderView, IsNewDecoder}
 use Rattle.encoding_front.specs.declared.decoder.saved_decoder.SavedDecoder.{SavedDecoder}
+use Rattle.encoding_front.specs.declared.encoding.Encoding.{Encoding}
+use Rattle.encoding_front.specs.declared.mark.Mark.{Mark}
 use Rattle.encoding_front.specs.declared.seeking.BomMatch.{BomMatch}
 use Rattle.encoding_front.specs.declared.seeking.BomSet.{BomSet}
 
@@ -42,6 +44,12 @@ pub record Saves (w : SavedDecoder) (v : DecoderView) : Type 0 where
   pub in_force : v.source [] ≡ w.encoding
   pub source : (x : List ℕ) → v.source x ≡ sought_encoding w.sought w.encoding (saved_bytes w.held ++ x)
   pub finished : v.finished ≡ w.is_finished
+
+-- what was saved is that of a decoder of a new stream
+pub record IsSavedOfNew (t : IndexLists) (mark : Mark) (e : Encoding) (w : SavedDecoder) : Type 0 where
+  pub view : DecoderView
+  pub saves : Saves w view
+  pub is_new : IsNewDecoder view t mark e
 
 -- What was saved can go on over these indexes: those of its encoding are there, and what it reads by
 -- them is sound.

@@ -1,16 +1,17 @@
 //! What a decoder keeps between calls, as plain words, and a decoder that goes on from them.
 
 ghost use Rattle.std.specs.Prelude.{◌≡◌};
-ghost use Rattle.encoding_tables.specs.IndexLists.{IndexLists};
-ghost use Rattle.encoding_front.specs.Encodings.{lists_of};
+ghost use Rattle.encoding_tables.specs.IndexLists.{AreAcceptedTables, IndexLists};
+ghost use Rattle.encoding_front.specs.Encodings.{IsReady, lists_of};
 ghost use Rattle.encoding_front.specs.calls.DecoderViews.{decoder_view};
 ghost use Rattle.encoding_front.specs.calls.RoomRules.{saved_rule};
-ghost use Rattle.encoding_front.specs.calls.SavedDecoders.{CanBeResumed, Saves};
+ghost use Rattle.encoding_front.specs.calls.SavedDecoders.{CanBeResumed, IsSavedOfNew, Saves};
 ghost use Rattle.encoding_front.specs.calls.Stream.{IsMadeFrom};
 
 use crate::decoder::room_rule::RoomRule;
 use crate::decoder::{Decoder, ahead};
 use crate::encoding::Encoding;
+use crate::mark::Mark;
 use crate::seeking::{BomSet, ByteOrderMark};
 use crate::variant_decoder::VariantDecoder;
 use encoding_mem::pending::Pending;
@@ -35,6 +36,31 @@ pub struct SavedDecoder {
 }
 
 impl SavedDecoder {
+    /// What is saved of a decoder of a new stream in `encoding`, as [`Decoder::new`] makes it;
+    /// `mark` says which byte order marks are taken.
+    ///
+    /// [`Decoder::resumed`] takes it with tables in which the indexes of `encoding` are
+    /// (`Encoding::is_ready`).
+    pub fn new(encoding: Encoding, mark: Mark) -> Self
+        ensures { (t : IndexLists) → AreAcceptedTables t → IsReady t encoding
+            → IsSavedOfNew t mark encoding result }
+    {
+        let none = SavedBytes {
+            len: 0,
+            bytes: [0; 6],
+        };
+        SavedDecoder {
+            encoding,
+            sought: BomSet::new(mark, encoding),
+            held: none,
+            is_finished: false,
+            pieces: SavedPieces {
+                mode: 0,
+                pending: none,
+            },
+        }
+    }
+
     /// What the length queries of the decoder that was saved depend on (`Decoder::room_rule`).
     pub fn room_rule(&self) -> RoomRule
         ensures { result ≡ saved_rule self.now }
@@ -52,6 +78,7 @@ impl SavedDecoder {
 
 impl<'t> Decoder<'t> {
     /// What this decoder keeps between calls, as it stands. The decoder itself stays as it is.
+    #[inline(always)]
     pub fn saved(&self) -> SavedDecoder
         ensures saves { Saves result (decoder_view self.now) }
         ensures goes_on { (t : IndexLists) → IsMadeFrom t (decoder_view self.now)
@@ -71,6 +98,7 @@ impl<'t> Decoder<'t> {
     ///
     /// The condition is what `saved` promises of a decoder that was made from these `tables`, or,
     /// as the saved one may have been, with `None`: its caller keeps them together.
+    #[inline(always)]
     pub fn resumed(saved: SavedDecoder, tables: Option<&'t Tables>) -> Self
         requires { CanBeResumed (lists_of tables) saved }
         ensures saves { Saves saved (decoder_view result) }
