@@ -40,6 +40,7 @@ impl DecoderHandle {
 
     // The decoder that it holds, as one that goes on. Else the status: `CLOSED`, it holds no
     // decoder; `FINISHED`, the stream has ended.
+    #[inline(always)]
     fn opened(&self) -> Result<Decoder<'static>, u8>
         ensures { MatchResult result (λ d. GoesOnFrom self.now (decoder_view d))
             (λ status. TellsWhyNot self.now status) }

@@ -34,8 +34,9 @@ use std::alloc::Global;
 use std::str;
 
 /// Decodes a whole input to UTF-8, at the start of `dst`, with U+FFFD for each malformed sequence.
-/// `mark` says what becomes of a byte order mark at its start. `tables` may be `{0}` if the encoding
-/// needs no index. `written` is the length of the text in bytes, and nothing after it changes.
+/// `mark` says what becomes of a byte order mark at its start. `tables` may be `{0}` if the
+/// encoding needs no index. `written` is the length of the text in bytes, and nothing after it
+/// changes.
 ///
 /// Returns `OK`; or `LOSSY`, a malformed sequence was replaced. At `ROOM` nothing is written, since
 /// `dst` is shorter than the text: call again with room for `written` bytes. Else nothing is done,

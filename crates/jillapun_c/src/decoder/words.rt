@@ -67,6 +67,7 @@ impl DecoderWords {
     }
 
     /// What was saved of the decoder: `None` if there is none, or if no encoding has the number.
+    #[inline(always)]
     pub(crate) fn saved(self) -> Option<SavedDecoder>
         ensures { result ≡ saved_in self }
     {
