@@ -1,10 +1,9 @@
 -- What is saved of a decoder of a new stream: the view of such a decoder, without the decoder.
-use Rattle.std.proofs.Common.{◌≡◌, ℕ, ◌+◌, ◌≤◌, ◌++◌, List, [], false, refl, sym, ap, subst, arith, ◌∙◌}
+use Rattle.std.proofs.Common.{◌≡◌, ℕ, ◌+◌, ◌≤◌, ◌++◌, List, [], false, refl, sym, ap, subst, arith}
 use Rattle.std.proofs.Math.Path.{fun_ext}
 use Rattle.encoding_mem.specs.Piece.{Piece}
 use Rattle.encoding_mem.specs.calls.DecodedLength.{decoded_length}
 use Rattle.encoding_mem.specs.calls.Decoding.{DecoderState}
-use Rattle.encoding_mem.specs.calls.Resuming.{Reading, reading_of}
 use Rattle.encoding_mem.specs.declared.codec.room.OutputUnit.{OutputUnit}
 use Rattle.encoding_tables.specs.IndexLists.{AreAcceptedTables, IndexLists}
 use Rattle.encoding_tables.specs.laws.Replacement.{all_left, replacement_covers}

@@ -2,7 +2,7 @@
 //! and calls no device: who has bytes hands them in, and takes what was made of them.
 
 ghost use Rattle.std.specs.Prelude.{◌≡◌, ◌+◌, ◌-◌, ◌≤◌, ◌<◌, ◌^◌, ◌++◌, ◌↔◌, Some, [], true, false};
-ghost use Rattle.std.specs.Prelude.{IsSome, IsTrue, IfSome, drop, length, map, take};
+ghost use Rattle.std.specs.Prelude.{IsSome, IfSome, drop, length, map, take};
 ghost use Rattle.encoding_mem.specs.Items.{Byte};
 ghost use Rattle.encoding_mem.specs.calls.EncoderRule.{WritesBytes};
 ghost use Rattle.recode.specs.Converter.{ConverterEndsWith, ConverterView, ConvertsPart};

@@ -43,10 +43,10 @@ pub struct Writers<'w, W, L> {
 }
 
 impl<'w, W: Write, L: Write> Writers<'w, W, L> {
-    ghost use Rattle.std.specs.Prelude.{◌+◌, ◌-◌, ◌∷◌, ◌++◌, [], List, map, length};
-    ghost use Rattle.std.specs.Prelude.{None, OnOk, IfErr};
+    ghost use Rattle.std.specs.Prelude.{◌-◌, ◌∷◌, [], map, length};
+    ghost use Rattle.std.specs.Prelude.{None, OnOk};
     ghost use Rattle.encoding_mem.specs.Coding.{reference_bytes};
-    ghost use Rattle.encoding_mem.specs.Items.{Item, Byte};
+    ghost use Rattle.encoding_mem.specs.Items.{Byte};
     ghost use Rattle.recode_log.specs.Line.{IsValid};
     ghost use Rattle.recode.specs.calls.Held.{item_of, log_line_of};
     ghost use Rattle.recode.specs.calls.Writers.{AreReady, HandsOn, HoldNothing};

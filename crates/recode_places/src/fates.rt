@@ -38,7 +38,7 @@ pub struct Fates<'t> {
 }
 
 impl<'t> Fates<'t> {
-    ghost use Rattle.recode_places.specs.Fates.{AreAllKept, Target, read_alone, target_pieces};
+    ghost use Rattle.recode_places.specs.Fates.{AreAllKept, read_alone, target_pieces};
     ghost use Rattle.recode_places.specs.calls.FatesViews.{IsWrittenAs, fates_target};
 
     /// Of characters that are written in the output encoding of `to`. The condition, that the

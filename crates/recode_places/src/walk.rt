@@ -7,7 +7,6 @@ ghost use Rattle.std.specs.Str.{chars};
 ghost use Rattle.encoding_mem.specs.Piece.{Piece, malformed, sizes, text};
 ghost use Rattle.encoding_front.specs.Encodings.{IsReady};
 ghost use Rattle.encoding_front.specs.Marks.{marked_pieces};
-ghost use Rattle.encoding_front.specs.calls.DecoderViews.{decoder_view};
 ghost use Rattle.recode_places.specs.Places.{IsPlaceAfter};
 ghost use Rattle.recode_places.specs.Entries.{TellsTrue, TellsTrueIn};
 ghost use Rattle.recode_places.specs.Findings.{TellsFound, found_in, found_in_text};

@@ -1,7 +1,7 @@
 -- A look for a byte order mark, and the state of a decoder that looks for one.
 use Rattle.std.specs.Prelude.{ℕ, ◌+◌, ◌-◌, ◌==◌, ◌&&◌, ◌||◌, Bool, true, false, List, [], ◌∷◌, length, drop, if◌then◌else◌, max}
 use Rattle.encoding_mem.specs.Piece.{Piece, well_formed}
-use Rattle.encoding_mem.specs.calls.DecodedLength.{decoded_length, decoded_length_utf8, decoded_length_utf16, of_bytes, linear_bound}
+use Rattle.encoding_mem.specs.calls.DecodedLength.{decoded_length, of_bytes, linear_bound}
 use Rattle.encoding_mem.specs.Utf8.{pieces_utf8}
 use Rattle.encoding_mem.specs.declared.codec.room.OutputUnit.{OutputUnit}
 use Rattle.encoding_mem.specs.declared.codec.room.DecodedLength.{DecodedLength}

@@ -27,6 +27,7 @@ pub struct SavedEncoder {
 
 impl<'t> Encoder<'t> {
     /// What this encoder keeps between calls, as it stands. The encoder itself stays as it is.
+    #[inline(always)]
     pub fn saved(&self) -> SavedEncoder
         ensures { result ≡ saved_of self.now }
     {
@@ -42,6 +43,7 @@ impl<'t> Encoder<'t> {
     /// (`Encoding::is_ready` of `Encoding::output_encoding`; if that needs none, `None` will do),
     /// and that the set is one that calls of an encoder into this encoding leave, as that of a
     /// saved encoder is.
+    #[inline(always)]
     pub fn resumed(saved: SavedEncoder, tables: Option<&'t Tables>) -> Self
         requires ready { IsReady (lists_of tables) (output_encoding_of saved.encoding) }
         requires set { ∥ Moves (coding_of (lists_of tables) saved.encoding) Ascii saved.set ∥₁ }

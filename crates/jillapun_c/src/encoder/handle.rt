@@ -52,6 +52,7 @@ impl EncoderHandle {
     }
 
     /// The encoder that it holds, as one that goes on.
+    #[inline(always)]
     pub(crate) fn opened(&self) -> Option<Encoder<'static>>
         ensures { result ≡ encoder_in self.now }
     {

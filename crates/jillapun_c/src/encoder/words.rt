@@ -40,6 +40,7 @@ impl EncoderWords {
     }
 
     /// What was saved of the encoder, if there is one.
+    #[inline(always)]
     pub(crate) fn saved(self) -> Option<SavedEncoder>
         ensures { result ≡ saved_encoder_in self }
     {
