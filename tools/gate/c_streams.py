@@ -398,7 +398,7 @@ class Streams:
             self.must(call, getattr(self.library, call)(tables, *words, given, room, written), status)
             self.same(call, status, (bytes(room), written.value), (bytes(8), 0))
 
-    def without_tables(self):
+    def whole_without_tables(self):
         """Whole inputs and texts in encodings that need no index, with no tables."""
         none, utf8, user = self.library.struct("TablesHandle")(), self.numbers["UTF-8"], self.numbers["x-user-defined"]
         text = "a\uf780".encode()
@@ -412,7 +412,7 @@ class Streams:
             for more in (0, 40):
                 room, written = bytearray(len(output) + more), ctypes.c_size_t()
                 self.must(call, getattr(self.library, call)(none, *words, given, room, written))
-                self.same(call, words, bytes(room), output + bytes(more))
+                self.same(call, words, (bytes(room), written.value), (output + bytes(more), len(output)))
 
     def coded(self, call, target, points, of_units):
         """A text by an encoder of its own: its bytes, its lost characters, and whether a call told of some."""
@@ -653,7 +653,7 @@ def faults(library):
     streams.needs()
     streams.pending()
     streams.refused()
-    streams.without_tables()
+    streams.whole_without_tables()
     streams.latin1()
     streams.without_tables()
     for _ in range(ROUNDS):

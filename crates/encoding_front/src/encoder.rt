@@ -98,8 +98,8 @@ impl Encoding {
 impl<'t> Encoder<'t> {
     ghost use Rattle.encoding_front.specs.Encodings.{lists_of};
 
-    /// An encoder of a new stream into the output encoding of `encoding` (`output_encoding`; the
-    /// Encoding Standard, section 4.3).
+    /// An encoder of a new stream into the output encoding of `encoding`
+    /// (`Encoding::output_encoding`; the Encoding Standard, section 4.3).
     ///
     /// The condition, that the indexes of the output encoding are in `tables`, is tested by
     /// `Encoding::is_ready` of the output encoding. If that needs none (`Encoding::needs`), `None`

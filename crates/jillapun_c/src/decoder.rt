@@ -2,6 +2,7 @@
 
 ghost use Rattle.std.specs.Prelude.{◌≡◌, ◌≢◌, MatchResult};
 ghost use Rattle.encoding_mem.specs.declared.codec.room.OutputUnit.{OutputUnit};
+ghost use Rattle.encoding_tables.specs.IndexLists.{AreAcceptedTables};
 ghost use Rattle.encoding_front.specs.Encodings.{IsReady};
 ghost use Rattle.encoding_front.specs.calls.DecoderViews.{decoder_view};
 ghost use Rattle.encoding_front.specs.calls.Stream.{IsMadeFrom};
@@ -28,10 +29,10 @@ pub use handle::DecoderHandle;
 impl DecoderHandle {
     // One that holds a decoder of a new stream.
     fn of_new(tables: TablesHandle, encoding: Encoding, mark: Mark) -> DecoderHandle
-        requires { IsReady (held_lists tables.tables) encoding }
+        requires ready { IsReady (held_lists tables.tables) encoding }
+        requires accepted { AreAcceptedTables (held_lists tables.tables) }
         ensures { HoldsNewDecoder tables.tables encoding mark result }
     {
-        tables.accepted();
         DecoderHandle {
             tables,
             words: DecoderWords::of(SavedDecoder::new(encoding, mark)),

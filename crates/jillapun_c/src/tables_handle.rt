@@ -88,20 +88,11 @@ impl TablesHandle {
         }
     }
 
-    /// The law that each index was accepted that the tables have: an invariant of their type, which
-    /// only a call tells. The function does nothing.
-    pub(crate) fn accepted(&self)
-        ensures { AreAcceptedTables (held_lists self.now.tables) }
-    {
-        if let Some(tables) = self.lent() {
-            tables.accepted();
-        }
-    }
-
     /// Whether each index that an encoding needs is in the tables; if the handle holds no tables,
     /// whether it needs none.
     pub(crate) fn are_ready(&self, encoding: Encoding) -> bool
-        ensures { IsTrue result ↔ IsReady (held_lists self.now.tables) encoding }
+        ensures ready { IsTrue result ↔ IsReady (held_lists self.now.tables) encoding }
+        ensures accepted { AreAcceptedTables (held_lists self.now.tables) }
     {
         match self.lent() {
             Some(tables) => encoding.is_ready(tables),
@@ -111,7 +102,9 @@ impl TablesHandle {
 
     /// The tables that it holds, where it cannot be moved.
     pub(crate) fn lent(&self) -> Option<&'static Tables>
-        ensures { lists_of result ≡ held_lists self.now.tables }
+        ensures held { MatchOption result (self.now.tables ≡ None)
+            (λ t. self.now.tables ≡ Some t.now) }
+        ensures lists { lists_of result ≡ held_lists self.now.tables }
     {
         self.copied().get()
     }

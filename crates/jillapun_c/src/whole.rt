@@ -72,7 +72,6 @@ pub extern "C" fn jillapun_decode(
     if !tables.are_ready(encoding) {
         return NOT_READY;
     }
-    tables.accepted();
     decode_into(alloc, tables.lent(), encoding, mark, src, dst, written)
 }
 
@@ -137,6 +136,7 @@ fn decode_into(
     }
     match tables {
         Some(tables) => decode_by_copy(alloc, tables, encoding, mark, src, dst, written),
+        // The call of the library for a whole input asks for tables.
         None => {
             let none = Tables::new(alloc);
             decode_by_copy(alloc, &none, encoding, mark, src, dst, written)
@@ -284,6 +284,7 @@ fn encode_into(
         Some((length, had_unmappable)) => put(&short[..length], had_unmappable, dst, written),
         None => match tables {
             Some(tables) => encode_by_copy(alloc, tables, encoding, text, dst, written),
+            // So does that for a whole text.
             None => {
                 let none = Tables::new(alloc);
                 encode_by_copy(alloc, &none, encoding, text, dst, written)

@@ -1,11 +1,11 @@
 -- What was saved of a decoder, and a decoder that goes on from it.
-use Rattle.std.specs.Prelude.{◌≡◌, ℕ, ◌+◌, ◌≤◌, ◌<◌, IsTrue, List, [], ◌++◌, length}
+use Rattle.std.specs.Prelude.{◌≡◌, ℕ, ◌+◌, ◌≤◌, ◌<◌, IsTrue, false, List, [], ◌++◌, length}
 use Rattle.encoding_mem.specs.calls.Resuming.{HoldsFew, Reading, reading_of, saved_bytes, saved_pending}
 use Rattle.encoding_tables.specs.IndexLists.{IndexLists}
 use Rattle.encoding_front.specs.Encodings.{IsReady}
 use Rattle.encoding_front.specs.calls.CodecBounds.{decoded_length_of}
 use Rattle.encoding_front.specs.calls.Resumed.{resumed_in}
-use Rattle.encoding_front.specs.calls.Seeking.{find_mark, is_sought, room_widest, sought_encoding, sought_needs, sought_pieces}
+use Rattle.encoding_front.specs.calls.Seeking.{find_mark, is_sought, room_widest, sought_by, sought_encoding, sought_needs, sought_pieces}
 use Rattle.encoding_front.specs.calls.Stream.{DecoderView, IsNewDecoder}
 use Rattle.encoding_front.specs.declared.decoder.saved_decoder.SavedDecoder.{SavedDecoder}
 use Rattle.encoding_front.specs.declared.encoding.Encoding.{Encoding}
@@ -44,6 +44,15 @@ pub record Saves (w : SavedDecoder) (v : DecoderView) : Type 0 where
   pub in_force : v.source [] ≡ w.encoding
   pub source : (x : List ℕ) → v.source x ≡ sought_encoding w.sought w.encoding (saved_bytes w.held ++ x)
   pub finished : v.finished ≡ w.is_finished
+
+-- Nothing was read when this was saved: the marks are sought that would be taken, and no byte is held or pending.
+pub record HasReadNothing (mark : Mark) (e : Encoding) (w : SavedDecoder) : Type 0 where
+  pub in_force : w.encoding ≡ e
+  pub sought : w.sought ≡ sought_by mark e
+  pub held : saved_bytes w.held ≡ []
+  pub open_ : w.is_finished ≡ false
+  pub mode : w.pieces.mode ≡ 0
+  pub pending : saved_pending w.pieces ≡ []
 
 -- what was saved is that of a decoder of a new stream
 pub record IsSavedOfNew (t : IndexLists) (mark : Mark) (e : Encoding) (w : SavedDecoder) : Type 0 where

@@ -5,7 +5,8 @@ ghost use Rattle.encoding_tables.specs.IndexLists.{AreAcceptedTables, IndexLists
 ghost use Rattle.encoding_front.specs.Encodings.{IsReady, lists_of};
 ghost use Rattle.encoding_front.specs.calls.DecoderViews.{decoder_view};
 ghost use Rattle.encoding_front.specs.calls.RoomRules.{saved_rule};
-ghost use Rattle.encoding_front.specs.calls.SavedDecoders.{CanBeResumed, IsSavedOfNew, Saves};
+ghost use Rattle.encoding_front.specs.calls.SavedDecoders.{CanBeResumed, HasReadNothing};
+ghost use Rattle.encoding_front.specs.calls.SavedDecoders.{IsSavedOfNew, Saves};
 ghost use Rattle.encoding_front.specs.calls.Stream.{IsMadeFrom};
 
 use crate::decoder::room_rule::RoomRule;
@@ -20,7 +21,8 @@ use encoding_mem::sink_decoder::SinkDecoder;
 use encoding_tables::Tables;
 
 /// What a `Decoder` keeps between calls, as plain words that can be copied, without the indexes.
-/// [`Decoder::saved`] returns it, and [`Decoder::resumed`] makes a decoder of it that goes on.
+/// [`Decoder::saved`] and [`SavedDecoder::new`] return it, and [`Decoder::resumed`] makes a decoder
+/// of it that goes on.
 #[derive(Clone, Copy)]
 pub struct SavedDecoder {
     /// The encoding in force, as [`Decoder::encoding`] returns it.
@@ -40,9 +42,10 @@ impl SavedDecoder {
     /// `mark` says which byte order marks are taken.
     ///
     /// [`Decoder::resumed`] takes it with tables in which the indexes of `encoding` are
-    /// (`Encoding::is_ready`).
+    /// (`Encoding::is_ready`), or with `None` if it needs none (`Encoding::needs`).
     pub fn new(encoding: Encoding, mark: Mark) -> Self
-        ensures { (t : IndexLists) → AreAcceptedTables t → IsReady t encoding
+        ensures words { HasReadNothing mark encoding result }
+        ensures new { (t : IndexLists) → AreAcceptedTables t → IsReady t encoding
             → IsSavedOfNew t mark encoding result }
     {
         let none = SavedBytes {

@@ -195,6 +195,12 @@ fn text_is_encoded_without_tables(rt: HostRuntime) {
     let text = [0x61; 600];
     let status = jillapun_encode(alloc, none, X_USER_DEFINED, &text, &mut dst, &mut written);
     assert_eq!(rt; (status, written), (ROOM, 600));
+    let none = TablesHandle::none();
+    let mut long = [0x2E; 602];
+    let status = jillapun_encode(alloc, none, X_USER_DEFINED, &text, &mut long, &mut written);
+    assert_eq!(rt; (status, written), (OK, 600));
+    assert!(rt; long.starts_with(&text));
+    assert_eq!(rt; (long[600], long[601]), (0x2E, 0x2E));
     let (mut dst, mut written) = (same, 9);
     let none = TablesHandle::none();
     let status = jillapun_encode(alloc, none, WINDOWS_1252, b"a", &mut dst, &mut written);

@@ -4,5 +4,5 @@ use Rattle.jillapun_c.specs.declared.tables_handle.TablesHandle.{TablesHandle}
 use Rattle.jillapun_c.proofs.TablesLemmas.{lists_lent}
 use Rattle.jillapun_c.proofs.tables_handle.TablesHandle.lent.Goals as goal
 
-pub returns : goal.returns
-returns c = lists_lent c.get.result c.copied.result.tables c.get.ensures ∙ ap (λ (h : TablesHandle). held_lists h.tables) c.copied.ensures
+pub returns-clause-lists : goal.returns-clause-lists
+returns-clause-lists c = lists_lent c.get.result c.copied.result.tables c.get.ensures ∙ ap (λ (h : TablesHandle). held_lists h.tables) c.copied.ensures

@@ -1,5 +1,9 @@
+use Rattle.std.proofs.Common.{refl}
 use Rattle.encoding_front.proofs.SavedNewLemmas.{saved_of_new}
 use Rattle.encoding_front.proofs.decoder.saved_decoder.SavedDecoder.new.Goals as goal
 
-pub returns : goal.returns
-returns c t taken ready = saved_of_new t c.args.mark c.args.encoding c.new.result _ c.new.ensures taken ready
+pub returns-clause-words : goal.returns-clause-words
+returns-clause-words c = record { in_force = refl; sought = c.new.ensures; held = refl; open_ = refl; mode = refl; pending = refl }
+
+pub returns-clause-new : goal.returns-clause-new
+returns-clause-new c t taken ready = saved_of_new t c.args.mark c.args.encoding c.new.result _ c.new.ensures taken ready

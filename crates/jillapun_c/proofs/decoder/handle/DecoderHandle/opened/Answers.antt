@@ -14,10 +14,10 @@ returns-then-saved c = finished_why c.args.self.now c.in-Some.saved (sym c.in-So
 pub resumed-requires : goal.resumed-requires
 resumed-requires c =
     let h = c.args.self.now in
-    subst (λ t. CanBeResumed t c.in-Some.saved) (sym c.lent.ensures) (can_go_on h c.in-Some.saved (sym c.in-Some.ensures))
+    subst (λ t. CanBeResumed t c.in-Some.saved) (sym c.lent.ensures.lists) (can_go_on h c.in-Some.saved (sym c.in-Some.ensures))
 
 pub returns : goal.returns
 returns c =
     let h = c.args.self.now in
-    goes_on h c.in-Some.saved (lists_of c.lent.result) (decoder_view c.resumed.result) (sym c.in-Some.ensures) c.if-saved.false c.lent.ensures
+    goes_on h c.in-Some.saved (lists_of c.lent.result) (decoder_view c.resumed.result) (sym c.in-Some.ensures) c.if-saved.false c.lent.ensures.lists
     c.resumed.ensures.saves c.resumed.ensures.made
