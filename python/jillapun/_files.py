@@ -3,9 +3,9 @@
 import contextlib
 import errno
 import os
+import secrets
 import shutil
 import stat
-import tempfile
 from typing import BinaryIO, Callable, Iterator, List, Optional, Tuple, Union, cast
 
 from . import _library as c
@@ -117,17 +117,22 @@ class _Place:
     def beside(self) -> Iterator[Tuple[str, BinaryIO]]:
         """A new file in the folder of the place, which no one else can read, and its path. At the end it is removed,
         unless it was moved."""
+        # Its name is known before it is there, so a signal that ends the program at once leaves no file behind.
+        path = os.path.join(self.folder, ".jillapun-" + secrets.token_hex(8))
+        is_there = True
         try:
-            descriptor, path = tempfile.mkstemp(prefix=".jillapun-", dir=self.folder)
-        except OSError as fault:
-            fault.filename = self.folder
-            raise
-        try:
+            try:
+                descriptor = os.open(path, os.O_WRONLY | os.O_CREAT | os.O_EXCL | os.O_NOFOLLOW, 0o600)
+            except OSError as fault:
+                is_there = False
+                fault.filename = self.folder
+                raise
             with open(descriptor, "wb") as made:
                 yield path, cast(BinaryIO, made)
         finally:
-            with contextlib.suppress(FileNotFoundError):
-                os.unlink(path)
+            if is_there:
+                with contextlib.suppress(FileNotFoundError):
+                    os.unlink(path)
 
     def finish(self, made: BinaryIO, mode: int) -> None:
         """Ends the file beside the place: like the one that it replaces, and safe on the disk, or, if it replaces none,

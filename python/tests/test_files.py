@@ -326,11 +326,26 @@ class InPlace(Folder):
     def test_a_disk_that_fails(self) -> None:
         """What is not known to be on the disk, or what may not be made like the file, does not replace it."""
         self.put("a", GOOD)
-        for call in ("os.fsync", "os.fchmod", "os.replace", "tempfile.mkstemp", *self.attribute_calls()):
+        for call in ("os.fsync", "os.fchmod", "os.replace", *self.attribute_calls()):
             with mock.patch(call, side_effect=OSError(errno.EIO, "the disk fails")), self.assertRaises(OSError) as it:
                 self.convert(self.path, backup="~")
             self.assertEqual(it.exception.errno, errno.EIO)
             self.holds(a=GOOD)
+
+    def test_a_folder_that_takes_no_file(self) -> None:
+        """The file is as it was, and the fault names the folder."""
+        self.put("a", GOOD)
+        opened = os.open
+
+        def refused(path: str, flags: int, mode: int = 0o777) -> int:
+            if flags & os.O_CREAT:
+                raise OSError(errno.EIO, "the disk fails", path)
+            return opened(path, flags, mode)
+
+        with mock.patch("os.open", refused), self.assertRaises(OSError) as it:
+            self.convert(self.path, backup="~")
+        self.assertEqual((it.exception.errno, it.exception.filename), (errno.EIO, os.path.realpath(self.folder)))
+        self.holds(a=GOOD)
 
     def test_the_folder_of_another(self) -> None:
         """Who may write a file, and may not take its name away, as in /tmp."""

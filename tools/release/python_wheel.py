@@ -134,7 +134,10 @@ def ends(program, folder, plain):
         end = time.monotonic() + PATIENCE
         while not os.listdir(into) and time.monotonic() < end:
             time.sleep(0.01)
-        process.terminate()
+        # Python sees a signal that comes just before it waits only after that, so it may take a second one.
+        while process.poll() is None and time.monotonic() < end:
+            process.terminate()
+            time.sleep(0.5)
         status = process.wait(PATIENCE)
     if status != 128 + signal.SIGTERM or os.listdir(into):
         yield "wheel: jillapun, after SIGTERM: status %d, and it leaves %s" % (status, os.listdir(into))
