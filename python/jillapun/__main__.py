@@ -178,10 +178,15 @@ def convert(arguments: List[str]) -> int:
 def program() -> int:
     """`main`, of which an interruption and a request to end leave no part of a file."""
 
+    ends = signal.SIGHUP, signal.SIGTERM
+
     def end(number: int, _: object) -> NoReturn:
+        # One is enough: another would interrupt what removes a file.
+        for each in ends:
+            signal.signal(each, signal.SIG_IGN)
         sys.exit(128 + number)
 
-    for number in (signal.SIGHUP, signal.SIGTERM):
+    for number in ends:
         if signal.getsignal(number) == signal.SIG_DFL:
             signal.signal(number, end)
     try:
