@@ -4,6 +4,7 @@ use Rattle.std.proofs.Math.Path.{fun_ext}
 use Rattle.encoding_mem.specs.Piece.{Piece}
 use Rattle.encoding_mem.specs.calls.DecodedLength.{decoded_length}
 use Rattle.encoding_mem.specs.calls.Decoding.{DecoderState}
+use Rattle.encoding_mem.specs.calls.Resuming.{Reading}
 use Rattle.encoding_mem.specs.declared.codec.room.OutputUnit.{OutputUnit}
 use Rattle.encoding_tables.specs.IndexLists.{AreAcceptedTables, IndexLists}
 use Rattle.encoding_tables.specs.laws.Replacement.{all_left, replacement_covers}
@@ -13,7 +14,7 @@ use Rattle.encoding_front.specs.Encodings.{IsReady, pieces_of}
 use Rattle.encoding_front.specs.calls.BomDecoderState.{bom_decoder_state}
 use Rattle.encoding_front.specs.calls.CodecBounds.{decoded_length_of, decoded_length_of_codec_kind}
 use Rattle.encoding_front.specs.calls.Resumed.{resumed_in, resumed_of_codec_kind}
-use Rattle.encoding_front.specs.calls.SavedDecoders.{IsSavedOfNew}
+use Rattle.encoding_front.specs.calls.SavedDecoders.{CanBeResumed, IsSavedOfNew, IsSound}
 use Rattle.encoding_front.specs.calls.Seeking.{sought_by, sought_encoding}
 use Rattle.encoding_front.specs.calls.Stream.{DecoderView}
 use Rattle.encoding_front.specs.declared.codec_kind.CodecKind.{CodecKind}
@@ -89,6 +90,20 @@ new_saved e s bytes = record {
   pieces = record { mode = 0; pending = record { len = 0; bytes = bytes } };
 }
 
+sound_new : (t : IndexLists) (mark : Mark) (e : Encoding) (bytes : List ℕ) → IsSound (resumed_in t e 0 []) (new_saved e (sought_by mark e) bytes)
+sound_new t mark e bytes = subst (λ (r : Reading). IsSound r (new_saved e (sought_by mark e) bytes)) (sym (reads_new t (codec_kind_of e))) (record {
+  pending = refl;
+  few = record { short = omega arith; near = λ r p first. omega arith };
+  room = refl;
+  short = λ some. absurd (omega (arith, some));
+  fresh = λ sought. refl;
+  prefix = λ sought. refl;
+})
+
+-- it can be resumed, whether or not its indexes were accepted
+pub new_resumes : (t : IndexLists) (mark : Mark) (e : Encoding) (s : BomSet) (bytes : List ℕ) → s ≡ sought_by mark e → IsReady t e → CanBeResumed t (new_saved e s bytes)
+new_resumes t mark e s bytes is ready = subst (λ (r : BomSet). CanBeResumed t (new_saved e r bytes)) (sym is) (record { ready = ready; sound = sound_new t mark e bytes })
+
 saved_by : (t : IndexLists) (mark : Mark) (e : Encoding) (bytes : List ℕ) → AreAcceptedTables t → IsReady t e → IsSavedOfNew t mark e (new_saved e (sought_by mark e) bytes)
 saved_by t mark e bytes taken ready = let s = sought_by mark e in
     let named : sought_encoding s e ([] ++ []) ≡ e = in_force s e [] (λ sought. refl) in
@@ -96,14 +111,7 @@ saved_by t mark e bytes taken ready = let s = sought_by mark e in
       view = new_view t mark e taken;
       saves = record {
         own = reads_new t (codec_kind_of e);
-        sound = record {
-          pending = refl;
-          few = record { short = omega arith; near = λ r p first. omega arith };
-          room = refl;
-          short = λ some. absurd (omega (arith, some));
-          fresh = λ sought. refl;
-          prefix = λ sought. refl;
-        };
+        sound = subst (λ (r : Reading). IsSound r (new_saved e s bytes)) (reads_new t (codec_kind_of e)) (sound_new t mark e bytes);
         state = refl;
         opening = refl;
         in_force = named;

@@ -1,10 +1,9 @@
 //! Decoders and encoders that are saved between two calls, and go on as others.
 
 use encoding_front::{
-    CoderResult, Decoder, Encoder, Encoding, GB18030, ISO_2022_JP, Mark, REPLACEMENT, SavedEncoder,
+    CoderResult, Decoder, Encoder, Encoding, GB18030, ISO_2022_JP, Mark, REPLACEMENT, SavedDecoder,
     UTF_8, UTF_16LE, WINDOWS_1252, X_USER_DEFINED,
 };
-use encoding_mem::form::EscapeState;
 use encoding_tables::{IndexKind, TableFault, Tables};
 
 // Returns whether two decoders write the text of `bytes`, the second of which goes on from what was
@@ -136,6 +135,31 @@ fn finished_and_not_ready(rt: HostRuntime) {
     assert!(rt; !goes_on(&tables, WINDOWS_1252, b"a", "a"));
 }
 
+// Returns whether a decoder that goes on from the words of a new one writes the text of `bytes`.
+fn begins_in_words(tables: &Tables, encoding: Encoding, bytes: &[u8], text: &str) -> bool {
+    if !encoding.is_ready(tables) {
+        return false;
+    }
+    let mut decoder = Decoder::resumed(SavedDecoder::new(encoding, Mark::Sniff), Some(tables));
+    if decoder.is_finished() || decoder.encoding() != encoding {
+        return false;
+    }
+    let mut room = [0; 64];
+    let (result, read, written, _) = decoder.decode_to_utf8(bytes, &mut room, true);
+    (result, read) == (CoderResult::InputEmpty, bytes.len()) && &room[..written] == text.as_bytes()
+}
+
+#[test]
+fn new_words(rt: HostRuntime) {
+    let mut tables = Tables::new(rt.alloc());
+    assert!(rt; insert_few(&mut tables).is_ok());
+    assert!(rt; begins_in_words(&tables, UTF_8, b"\xFF\xFEa\0", "a"));
+    assert!(rt; begins_in_words(&tables, UTF_8, b"\xEF\xBB", "\u{FFFD}"));
+    assert!(rt; begins_in_words(&tables, ISO_2022_JP, b"\\\x1B(J\\", "\\\u{A5}"));
+    assert!(rt; begins_in_words(&tables, REPLACEMENT, b"ab", "\u{FFFD}"));
+    assert!(rt; !begins_in_words(&tables, WINDOWS_1252, b"a", "a"));
+}
+
 // Coders that need no index are made and go on without tables.
 #[test]
 fn without_tables(rt: HostRuntime) {
@@ -146,11 +170,7 @@ fn without_tables(rt: HostRuntime) {
     let (_, more, end, _) = second.decode_to_utf8(b"\xD8\0\xDE", &mut text[start..], true);
     assert_eq!(rt; (read, more, start + end), (3, 3, 5));
     assert!(rt; text.starts_with("a\u{1F600}".as_bytes()));
-    let saved = SavedEncoder {
-        encoding: X_USER_DEFINED,
-        set: EscapeState::Ascii,
-    };
-    let mut encoder = Encoder::resumed(saved, None);
+    let mut encoder = Encoder::new(X_USER_DEFINED, None);
     let (_, _, written, _) = encoder.encode_from_utf8("a\u{F780}", &mut text, true);
     assert_eq!(rt; written, 2);
     assert!(rt; text.starts_with(b"a\x80"));

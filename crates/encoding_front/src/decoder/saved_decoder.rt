@@ -45,6 +45,7 @@ impl SavedDecoder {
     /// (`Encoding::is_ready`), or with `None` if it needs none (`Encoding::needs`).
     pub fn new(encoding: Encoding, mark: Mark) -> Self
         ensures words { HasReadNothing mark encoding result }
+        ensures goes_on { (t : IndexLists) → IsReady t encoding → CanBeResumed t result }
         ensures new { (t : IndexLists) → AreAcceptedTables t → IsReady t encoding
             → IsSavedOfNew t mark encoding result }
     {
