@@ -571,7 +571,9 @@ uint8_t jillapun_tables_is_ready(jillapun_tables tables, uint8_t encoding);
  * text has a fault, or the index was loaded already; `JILLAPUN_NO_MEMORY`, memory was refused,
  * and the call can be made again.
  *
- * The tables are never freed, so that they can be shared by all threads: load them once.
+ * The tables are never freed, so that they can be shared by all threads: load them once. An
+ * index that is wanted later is loaded into a handle of its own: a decoder or an encoder needs
+ * none but those of its encoding.
  */
 uint8_t jillapun_tables_new(const jillapun_index_file *files, size_t files_len,
     jillapun_tables *out, jillapun_index_fault *fault);

@@ -28,7 +28,9 @@ pub struct IndexFault {
 /// index has a file of that name; `BAD_INDEX`, the text has a fault, or the index was loaded
 /// already; `NO_MEMORY`, memory was refused, and the call can be made again.
 ///
-/// The tables are never freed, so that they can be shared by all threads: load them once.
+/// The tables are never freed, so that they can be shared by all threads: load them once. An index
+/// that is wanted later is loaded into a handle of its own: a decoder or an encoder needs none but
+/// those of its encoding.
 #[unsafe(no_mangle)]
 pub extern "C" fn jillapun_tables_new(
     alloc: Global,
