@@ -1,4 +1,4 @@
-"""The library's decoders and encoders, as `include/jillapun.h` has them: of wholes, and of parts up to a fault."""
+"""The library's decoders and encoders, as `include/jillapun.h` has them: of wholes, and of parts up to a loss."""
 
 import ctypes
 from typing import Any

@@ -64,10 +64,10 @@ def _room() -> _Room:
         return _Room()
 
 
-def _handled(errors: str, fault: UnicodeError, size: int) -> Tuple[Union[str, bytes], int]:
+def _handled(errors: str, error: UnicodeError, size: int) -> Tuple[Union[str, bytes], int]:
     """What the handler of this name has in place of a loss, and where in the object, of this size, it goes on."""
-    result = codecs.lookup_error(errors)(fault)
-    kinds = (str,) if isinstance(fault, UnicodeDecodeError) else (str, bytes)
+    result = codecs.lookup_error(errors)(error)
+    kinds = (str,) if isinstance(error, UnicodeDecodeError) else (str, bytes)
     if not (
         isinstance(result, tuple) and len(result) == 2 and isinstance(result[0], kinds) and isinstance(result[1], int)
     ):
@@ -252,10 +252,10 @@ class _Decoding:
     def _replace(self) -> None:
         """Asks the handler what stands in place of a malformed sequence, and where to go on."""
         end = self._at - self._progress.malformed_after
-        fault = UnicodeDecodeError(
+        error = UnicodeDecodeError(
             self._coding.name, self._data, end - self._progress.malformed_length, end, "malformed sequence"
         )
-        text, position = _handled(self._errors, fault, len(self._data))
+        text, position = _handled(self._errors, error, len(self._data))
         self._parts.append(text)  # type: ignore[arg-type]
         if position != end:
             self._state = self._state_at(end)
@@ -291,8 +291,8 @@ class _Encoding:
             at, size = 0, _BLOCK
             while at < len(self._text):
                 block = self._text[at : at + size]
-                fault = self._put_block(at, block)
-                at, size = (self._replace(fault), _SMALL) if fault else (at + len(block), min(2 * size, _BLOCK))
+                error = self._put_block(at, block)
+                at, size = (self._replace(error), _SMALL) if error else (at + len(block), min(2 * size, _BLOCK))
             self._put(b"", final)
         finally:
             _rooms.append(self._room)
@@ -300,17 +300,17 @@ class _Encoding:
 
     def _put_block(self, at: int, block: str) -> Optional[UnicodeEncodeError]:
         """Encodes what stands at a place of the text, and returns the first loss in it, before which it stops."""
-        fault = None
+        error = None
         try:
             data = block.encode()
         except UnicodeEncodeError as found:
-            fault = self._fault(at + found.start, at + found.end, "surrogates not allowed")
+            error = self._error_at(at + found.start, at + found.end, "surrogates not allowed")
             data = block[: found.start].encode()
         read, is_lost = self._put(data)
         if is_lost:
             end = at + len(data[:read].decode())
-            return self._fault(end - 1, end, "no bytes for this character")
-        return fault
+            return self._error_at(end - 1, end, "no bytes for this character")
+        return error
 
     def _put(self, data: bytes, last: bool = False) -> Tuple[int, bool]:
         """Encodes a text in UTF-8 up to the first character without bytes. Returns how many bytes were read, and whether
@@ -326,18 +326,18 @@ class _Encoding:
                 self._state = self._coding.state_after(self._state, self._parts[-1])
         return at, outcome == coders.UNMAPPABLE
 
-    def _fault(self, start: int, end: int, reason: str) -> UnicodeEncodeError:
+    def _error_at(self, start: int, end: int, reason: str) -> UnicodeEncodeError:
         return UnicodeEncodeError(self._coding.name, self._text, start, end, reason)
 
-    def _replace(self, fault: UnicodeEncodeError) -> int:
+    def _replace(self, error: UnicodeEncodeError) -> int:
         """Writes what the handler has in place of a loss, and returns where it goes on."""
-        replacement, position = _handled(self._errors, fault, len(self._text))
+        replacement, position = _handled(self._errors, error, len(self._text))
         if isinstance(replacement, bytes):
             self._parts.append(replacement)
         elif replacement.isascii() and not self._coding.has_modes:
             self._parts.append(replacement.encode())
         elif self._put_block(0, replacement):
-            raise fault
+            raise error
         return position
 
 

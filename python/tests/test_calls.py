@@ -90,7 +90,7 @@ class Files(unittest.TestCase):
             self.assertEqual("".join(parts), TEXT)
             self.assertEqual((len(parts[0]), parts[1][-1], len(parts[2])), (1000, "\n", 3))
 
-    def test_faults_of_streams(self) -> None:
+    def test_losses_of_streams(self) -> None:
         Path(self.path).write_bytes(b"a\xff\nb\x83")
         told = []
         with jillapun.open(self.path, encoding="shift_jis", on_loss=told.append, keep_losses=1) as file:
@@ -205,7 +205,7 @@ class Files(unittest.TestCase):
 
 
 class Streams(unittest.TestCase):
-    def test_faults_as_they_come(self) -> None:
+    def test_losses_as_they_come(self) -> None:
         """Each is handed on once, by the call that reads it."""
         told = []
         decoder = jillapun.Decoder("shift_jis", on_loss=told.append, keep_losses=2)
@@ -219,8 +219,8 @@ class Streams(unittest.TestCase):
     def test_a_callback_that_raises(self) -> None:
         """The stream has ended: it does not go on with a part missing."""
 
-        def refuse(fault: jillapun.Bad) -> None:
-            raise UnicodeError("%s" % (fault,))
+        def refuse(loss: jillapun.Bad) -> None:
+            raise UnicodeError("%s" % (loss,))
 
         decoder = jillapun.Decoder("utf-8", on_loss=refuse)
         self.assertEqual(decoder.decode(b"abc"), "abc")
@@ -237,7 +237,7 @@ class Streams(unittest.TestCase):
         """Other streams go on, and this one says that it cannot."""
         other, told = jillapun.Decoder("utf-8"), []
 
-        def call(fault: jillapun.Bad) -> None:
+        def call(loss: jillapun.Bad) -> None:
             told.append(other.decode(b"\xff\xe3\x81"))
             told.append(jillapun.decode(b"\xff", "utf-8").text)
             self.assertRaisesRegex(ValueError, "ended", decoder.decode, b"x")
@@ -254,7 +254,7 @@ class Streams(unittest.TestCase):
         self.assertRaisesRegex(ValueError, "ended", encoder.encode, "c")
 
     def test_verdict(self) -> None:
-        """A character that does not read back is lost without a fault."""
+        """A character that does not read back makes the verdict false, and is not in the list of losses."""
         for text, verdict in (("a", True), ("¥", False)):
             encoder = jillapun.Encoder("shift_jis")
             encoder.encode(text)
@@ -372,7 +372,7 @@ class Short(unittest.TestCase):
         every = "".join(map(chr, [*range(0xD800), *range(0xE000, 0x110000)]))
         for label in jillapun._bare.FOLDED:
             folded = jillapun._bare.encoding_to(label, "decimal", None)[3]
-            lost = {fault.index for fault in jillapun.encode(every, label).losses}
+            lost = {loss.index for loss in jillapun.encode(every, label).losses}
             kept = [character for index, character in enumerate(every) if index not in lost and not folded(character)]
             self.assertEqual(jillapun.encode("".join(kept), label)[1:], ([], True))
             for character in filter(folded, every):
@@ -399,7 +399,7 @@ class Short(unittest.TestCase):
         pairs = b"".join(bytes((lead, trail)) for lead in range(0x80, 0x100) for trail in range(0x40, 0x100))
         read = {*jillapun.decode(bytes(range(256)), name).text, *jillapun.decode(pairs, name).text}
         text = "".join(sorted(read - {"\ufffd"}))
-        lost = {fault.character for fault in jillapun.encode(text, name).losses}
+        lost = {loss.character for loss in jillapun.encode(text, name).losses}
         return "".join(character for character in text if character not in lost)
 
     def test_beside_lists(self) -> None:

@@ -37,7 +37,7 @@ class Streams(unittest.TestCase):
                 continue
             count += 1
             indexes = TABLES.of(texts)
-            losses = [Bad(*fault) for fault in case.losses]
+            losses = [Bad(*loss) for loss in case.losses]
             with self.subTest(place=place, words=words):
                 done = jillapun.decode(case.data, case.encoding, mark=case.mark, indexes=indexes)
                 self.assertEqual((done.text, done.losses), (case.text, losses))
@@ -56,7 +56,7 @@ class Streams(unittest.TestCase):
                 continue
             count += 1
             indexes = TABLES.of(texts)
-            losses = [Lost(*fault) for fault in case.losses]
+            losses = [Lost(*loss) for loss in case.losses]
             with self.subTest(place=place, words=words):
                 done = jillapun.encode(case.text, case.encoding, indexes=indexes)
                 self.assertEqual((done.data, done.losses), (case.data, losses))
@@ -133,7 +133,7 @@ class Conversions(unittest.TestCase):
         else:
             with open(made, "rb") as file:
                 self.assertEqual(file.read(), case.output)
-            counts = [sum(isinstance(fault, kind) for fault in told) for kind in (Bad, Lost)]
+            counts = [sum(isinstance(loss, kind) for loss in told) for kind in (Bad, Lost)]
             self.assertEqual([done.read, done.bad, done.lost], [len(case.data), *counts])
         self.assertEqual((list(map(str, told)), verdict), (case.log, case.verdict))
 

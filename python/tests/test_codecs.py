@@ -85,7 +85,7 @@ def seen_by(name: str, encoding: standard.Encoding, data: bytes) -> Tuple[str, L
 
 
 class Log:
-    """A handler that keeps where each fault is, and what is faulty, and writes U+FFFD or something of its own."""
+    """A handler that keeps where each loss is, and what is lost there, and writes U+FFFD or something of its own."""
 
     def __init__(self, replacement: Any = "\ufffd"):
         self.spans: List[Tuple[int, int]] = []
@@ -93,10 +93,10 @@ class Log:
         self.replacement = replacement
         codecs.register_error("log", self.handle)
 
-    def handle(self, fault: Any) -> Tuple[Any, int]:
-        self.spans.append((fault.start, fault.end))
-        self.pieces.append(fault.object[fault.start : fault.end])
-        return self.replacement, fault.end
+    def handle(self, error: Any) -> Tuple[Any, int]:
+        self.spans.append((error.start, error.end))
+        self.pieces.append(error.object[error.start : error.end])
+        return self.replacement, error.end
 
 
 class Names(unittest.TestCase):
@@ -148,8 +148,8 @@ class Decoders(unittest.TestCase):
                 if losses:
                     with self.assertRaises(UnicodeDecodeError) as raised:
                         data.decode(name)
-                    fault = raised.exception
-                    self.assertEqual((fault.encoding, fault.object, fault.start, fault.end), (name, data, *losses[0]))
+                    error = raised.exception
+                    self.assertEqual((error.encoding, error.object, error.start, error.end), (name, data, *losses[0]))
                 else:
                     self.assertEqual(data.decode(name), text)
 
@@ -296,9 +296,9 @@ class Encoders(unittest.TestCase):
                     text = "ab" + character + "c"
                     with self.assertRaises(UnicodeEncodeError) as raised:
                         text.encode("web-" + name.lower())
-                    fault = raised.exception
+                    error = raised.exception
                     wanted = ("web-" + name.lower(), text, 2, 3)
-                    self.assertEqual((fault.encoding, fault.object, fault.start, fault.end), wanted)
+                    self.assertEqual((error.encoding, error.object, error.start, error.end), wanted)
 
     def test_handlers(self) -> None:
         """What a handler writes for characters without bytes, as it does in Python's codecs."""
@@ -318,11 +318,11 @@ class Encoders(unittest.TestCase):
                         )
 
     def made(self, text: str, codec: str, errors: str) -> Any:
-        """The bytes, or where the first fault begins."""
+        """The bytes, or where the first loss begins."""
         try:
             return text.encode(codec, errors)
-        except UnicodeEncodeError as fault:
-            return fault.start
+        except UnicodeEncodeError as error:
+            return error.start
 
     def test_unencodable_replacement(self) -> None:
         Log("日")
@@ -364,7 +364,7 @@ class Encoders(unittest.TestCase):
 
 
 class Handlers(unittest.TestCase):
-    """Python's handlers, and those that go on elsewhere than at the end of a fault."""
+    """Python's handlers, and those that go on elsewhere than at the end of a loss."""
 
     def test_decoding_handlers(self) -> None:
         data = b"a\xff\x80b\xc3(\xf0\x9f\x98\xe2"
@@ -402,8 +402,8 @@ class Handlers(unittest.TestCase):
 
     def test_moving_handlers(self) -> None:
         """A handler may skip what follows, or go back."""
-        codecs.register_error("skip", lambda fault: ("<>", fault.end + 1))
-        codecs.register_error("last", lambda fault: ("<>", -1))
+        codecs.register_error("skip", lambda error: ("<>", error.end + 1))
+        codecs.register_error("last", lambda error: ("<>", -1))
         for count in (1, 2000):
             self.assertEqual((b"a\xffbc" * count).decode("web-shift_jis", "skip"), "a<>c" * count)
             self.assertEqual(("aдbc" * count).encode("web-windows-1252", "skip"), b"a<>c" * count)
@@ -412,15 +412,15 @@ class Handlers(unittest.TestCase):
         # The mode stays, and bytes that are skipped are not looked at.
         self.assertEqual(b"\x1b$B\xff!$O$O".decode("web-iso-2022-jp", "skip"), "<>はは")
         again = iter([1])
-        codecs.register_error("again", lambda fault: ("<>", fault.end - next(again, 0)))
+        codecs.register_error("again", lambda error: ("<>", error.end - next(again, 0)))
         self.assertEqual(b"\x1b$B$O\xff$O".decode("web-iso-2022-jp", "again"), "は<><>は")
 
     def test_wrong_handlers(self) -> None:
         for result, kind in ((None, TypeError), (("", 1, 2), TypeError), ((b"", 1), TypeError), (("", 9), IndexError)):
-            codecs.register_error("wrong", lambda fault, result=result: result)
+            codecs.register_error("wrong", lambda error, result=result: result)
             self.assertRaises(kind, b"\xff".decode, "web-utf-8", "wrong")
         for result, kind in ((None, TypeError), ((1, 1), TypeError), (("", -9), IndexError)):
-            codecs.register_error("wrong", lambda fault, result=result: result)
+            codecs.register_error("wrong", lambda error, result=result: result)
             self.assertRaises(kind, "д".encode, "web-windows-1252", "wrong")
         self.assertRaises(LookupError, b"\xff".decode, "web-utf-8", "no such handler")
         self.assertRaises(TypeError, codecs.encode, b"", "web-utf-8")
@@ -428,7 +428,7 @@ class Handlers(unittest.TestCase):
 
     def test_handler_that_decodes(self) -> None:
         """A handler may call the codecs itself."""
-        codecs.register_error("inner", lambda fault: (b"\x83\x6e".decode("web-shift_jis"), fault.end))
+        codecs.register_error("inner", lambda error: (b"\x83\x6e".decode("web-shift_jis"), error.end))
         self.assertEqual((b"a" * 2000 + b"\xffb").decode("web-shift_jis", "inner"), "a" * 2000 + "ハb")
 
 

@@ -47,7 +47,7 @@ def by_parts(parts: List[bytes], source: str, target: str, **words: Any) -> Made
     except jillapun.Stopped as stop:
         assert converter.report is None
         return output + stop.output, losses + stop.losses, stop.lost
-    counts = [sum(isinstance(fault, kind) for fault in losses) for kind in (Bad, Lost)]
+    counts = [sum(isinstance(loss, kind) for loss in losses) for kind in (Bad, Lost)]
     assert converter.report[:3] == (sum(map(len, parts)), *counts), converter.report
     return output, losses, converter.report.faithful
 
@@ -214,7 +214,7 @@ class Calls(unittest.TestCase):
         converter.convert(b"", last=True)
         self.assertEqual({part.output for part in made}, {b"a&#65533;" * 100})
         self.assertEqual({len(part.losses) for part in made}, {200})
-        places = sorted(fault.offset for part in made for fault in part.losses if isinstance(fault, Bad))
+        places = sorted(loss.offset for part in made for loss in part.losses if isinstance(loss, Bad))
         self.assertEqual(places, list(range(1, 40000, 2)))
         self.assertEqual(converter.report, (40000, 20000, 20000, False, 40000))
 

@@ -19,15 +19,15 @@ from test_files import Folder
 
 try:
     from dask.distributed import LocalCluster
-except ImportError as fault:
-    LocalCluster, REASON = None, "Dask is not there: %s" % fault
+except ImportError as error:
+    LocalCluster, REASON = None, "Dask is not there: %s" % error
 else:
     REASON = ""
 
 EXAMPLE = Path(cases.TOP, "docs/examples/python/convert_on_dask.py")
 
 # Lines with a malformed byte, a character that windows-1252 lacks and one that it has.
-FAULTY = "é 日 🙂\n".encode() + b"\xff\n"
+LOSSY = "é 日 🙂\n".encode() + b"\xff\n"
 
 
 def whole(data: bytes, source: str, target: str) -> Tuple[bytes, List[str], int]:
@@ -69,11 +69,11 @@ class OnDask(Folder):
 
     def test_inputs(self) -> None:
         rows = [
-            (FAULTY * 50, "utf-8", "windows-1252"),
+            (LOSSY * 50, "utf-8", "windows-1252"),
             ("日本語 テスト\n".encode("cp932") * 100, "shift_jis", "utf-8"),
-            (b"\xef\xbb\xbf" + FAULTY * 50, "shift_jis", "koi8-r"),
+            (b"\xef\xbb\xbf" + LOSSY * 50, "shift_jis", "koi8-r"),
             (b"\x90\x30\x81\x30\n" * 60, "gb18030", "big5"),
-            ("é日".encode() * 500 + b"\n" + FAULTY * 9, "utf-8", "euc-jp"),
+            ("é日".encode() * 500 + b"\n" + LOSSY * 9, "utf-8", "euc-jp"),
             (b"a", "utf-8", "utf-8"),
             (b"", "utf-8", "utf-8"),
         ]
@@ -102,7 +102,7 @@ class OnDask(Folder):
 
     def test_a_worker_that_is_killed(self) -> None:
         """Once some blocks are written and others are not."""
-        data = FAULTY * 40_000
+        data = LOSSY * 40_000
         made: List[Optional[int]] = []
         folder = Path(self.at("parts"))
 

@@ -333,7 +333,7 @@ class InPlace(Folder):
             self.holds(a=GOOD)
 
     def test_a_folder_that_takes_no_file(self) -> None:
-        """The file is as it was, and the fault names the folder."""
+        """The file is as it was, and the error names the folder."""
         self.put("a", GOOD)
         opened = os.open
 

@@ -32,9 +32,9 @@ def result(call: Callable[[], Any]) -> Any:
     """What a call returns, with encodings by their names, or which error it raises."""
     try:
         return plain(call())
-    except Exception as fault:
+    except Exception as error:
         # A UnicodeError of one codec says why in other words than that of another.
-        return type(fault), fault.args if type(fault) is LookupError else None
+        return type(error), error.args if type(error) is LookupError else None
 
 
 def plain(value: Any) -> Any:

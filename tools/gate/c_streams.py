@@ -185,11 +185,11 @@ class Streams:
         self.must("latin1 of no decoder", call(self.library.struct("DecoderHandle")(), b"a", found), "CLOSED")
 
     def decoded(self, call, job, parts, to_units):
-        """A stream by a decoder of its own: its text, its faults, and whether a call told of errors."""
+        """A stream by a decoder of its own: its text, its malformed sequences, and whether a call reported some."""
         handle = self.used_decoder() if self.random.random() < 0.5 else self.library.struct("DecoderHandle")()
         new = self.library.jillapun_decoder_new(self.tables, self.numbers[job.source], MARKS[job.mark], handle)
         self.must("decoder_new", new)
-        text, faults, had_errors, before = bytearray(), [], False, 0
+        text, losses, had_errors, before = bytearray(), [], False, 0
         progress, most = self.library.struct("Progress")(), self.random.choice((4, 7, 40, 5000))
         for number, part in enumerate(parts):
             last = number == len(parts) - 1
@@ -207,14 +207,14 @@ class Streams:
                     break
                 if progress.outcome == NUMBERS["MALFORMED"]:
                     length = progress.malformed_length
-                    faults.append((before - progress.malformed_after - length, length))
+                    losses.append((before - progress.malformed_after - length, length))
                     text += "\ufffd".encode("utf-16-le" if to_units else "utf-8")
             else:
                 raise Wrong("%s does not end" % call)
         self.must("after the end", getattr(self.library, call)(handle, b"", room, True, progress), "FINISHED")
         closed = self.library.struct("DecoderHandle")()
         self.must("no decoder", getattr(self.library, call)(closed, b"", room, True, progress), "CLOSED")
-        return text.decode("utf-16-le" if to_units else "utf-8"), faults, had_errors
+        return text.decode("utf-16-le" if to_units else "utf-8"), losses, had_errors
 
     def used_decoder(self):
         """A decoder of another stream, which has read a part of a character, and may be at its end: one may be made in its
@@ -236,19 +236,19 @@ class Streams:
         """The six calls of a decoder, and the two for a whole input."""
         pieces = plain_recode.pieces(self.encodings, job, data)[1]
         text = text_of(point for _, _, points in pieces for point in ((0xFFFD,) if points is None else points))
-        faults = [(start, end - start) for start, end, points in pieces if points is None]
+        losses = [(start, end - start) for start, end, points in pieces if points is None]
         for to_units, name in ((False, "utf8"), (False, "str"), (True, "utf16")):
             call = "jillapun_decoder_decode_to_" + name
-            self.same(call, (job, data, parts), self.decoded(call, job, parts, to_units), (text, [], bool(faults)))
+            self.same(call, (job, data, parts), self.decoded(call, job, parts, to_units), (text, [], bool(losses)))
             call += "_without_replacement"
-            self.same(call, (job, data, parts), self.decoded(call, job, parts, to_units)[:2], (text, faults))
+            self.same(call, (job, data, parts), self.decoded(call, job, parts, to_units)[:2], (text, losses))
         words = self.numbers[job.source], MARKS[job.mark]
         for call in ("jillapun_decode", "jillapun_decode_to_str"):
-            self.in_one_call(call, words, data, text.encode(), bool(faults))
+            self.in_one_call(call, words, data, text.encode(), bool(losses))
         self.over_a_text(words, data, text.encode())
         self.queried(job, data, text)
-        if not faults:
-            self.queried_without_faults(job, data, text)
+        if not losses:
+            self.queried_without_losses(job, data, text)
 
     def some_calls(self, call, handle, progress, data, last, count, least):
         """What so many calls write, with room for so many bytes at least, and how much they read; fewer, if one reads all."""
@@ -348,7 +348,7 @@ class Streams:
             written = room[: progress.written] if name == "utf8" else bytes(room[0])[: 2 * progress.written]
             self.same(call, (job, data), (progress.outcome, written.decode(codec)), (NUMBERS["INPUT_EMPTY"], text))
 
-    def queried_without_faults(self, job, data, text):
+    def queried_without_losses(self, job, data, text):
         """A whole stream that has no malformed sequence, up to the first, in the room that the query for that asks for."""
         handle, progress = self.library.struct("DecoderHandle")(), self.library.struct("Progress")()
         new = self.library.jillapun_decoder_new(self.tables, self.numbers[job.source], MARKS[job.mark], handle)
@@ -516,12 +516,12 @@ class Streams:
 
     @staticmethod
     def valid_len(data):
-        """How much of some bytes Python reads as UTF-8 before the first fault."""
+        """How much of some bytes Python reads as UTF-8 before the first malformed byte."""
         try:
             data.decode()
             return len(data)
-        except UnicodeDecodeError as fault:
-            return fault.start
+        except UnicodeDecodeError as error:
+            return error.start
 
     def asked(self, call, query, job, points, of_units, plain):
         """A text without a lost character in one call, in the room that a query asks for; and what else an encoder tells."""

@@ -424,12 +424,12 @@ def flood_faults(folder):
 
 
 def long_faults(folder):
-    """20 MB with three faults: one after 9 MB, one at a cut of the reads, and half a character at the end."""
+    """20 MB with three losses: one after 9 MB, one at a cut of the reads, and half a character at the end."""
     row = b"the quick brown fox jumps over the lazy dog, " * 4 + b"\n"
     data = bytearray(row * (20_000_000 // len(row)))
-    faults = {9_000_050: b"\xff", 4096 * 3500 - 1: "日".encode()}
-    for offset, fault in faults.items():
-        data[offset : offset + len(fault)] = fault
+    losses = {9_000_050: b"\xff", 4096 * 3500 - 1: "日".encode()}
+    for offset, loss in losses.items():
+        data[offset : offset + len(loss)] = loss
     data += b"end \xf0\x9f"
     trial = Trial(folder, "long.txt", Job("utf-8", "windows-1252", "sniff", "decimal"), bytes(data))
     status, lines, error = trial.told()

@@ -17,7 +17,7 @@ pub(crate) enum FirstFault {
     Absent,
     /// A malformed sequence of `length` bytes stands at `offset`, and none stands before it.
     At { offset: usize, length: u8 },
-    /// The room was too small: text before any fault leaves fewer than 4 bytes of it.
+    /// The room was too small: text before any malformed sequence leaves fewer than 4 bytes of it.
     Unknown,
 }
 

@@ -92,8 +92,8 @@ fn run_converters(rt: HostRuntime) -> anyhow::Result<()> {
     Ok(())
 }
 
-// Inputs of two parts: without a fault; with one in the first part; with one that begins there and
-// ends in the second; with no room for what stands before it.
+// Inputs of two parts: with no malformed sequence; with one in the first part; with one that begins
+// there and ends in the second; with no room for what stands before it.
 fn run_first_faults(rt: HostRuntime) -> anyhow::Result<()> {
     let tables = Tables::new(rt.alloc());
     ensure!(UTF_8.is_ready(&tables), "an index is missing");

@@ -8,7 +8,7 @@ use encoding_tables::{IndexKind, Tables};
 use std::alloc::Global;
 use std::io::Write;
 
-/// Decodes a text. Prints it, the encoding that it was in and whether it had faults.
+/// Decodes a text. Prints it, the encoding that it was in and whether anything in it was malformed.
 pub(crate) fn decode_text(rt: HostRuntime, index: &[u8], bytes: &[u8]) -> anyhow::Result<()> {
     let alloc = rt.alloc();
     let mut tables = Tables::new(alloc);
