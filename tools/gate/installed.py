@@ -4,7 +4,8 @@
     python3 tools/gate/installed.py
 
 The commands find the installed index texts from any folder, by any way to them, and hand all words on as they are: each must
-do what the program does with the same words and the folder named. bash completes their words. What README.md shows is so.
+do what the program does with the same words and the folder named. bash completes their words. What README.md shows is so,
+also of `make try`, which compiles the program without a proof. The other targets that it shows have to be there.
 """
 
 import os
@@ -20,8 +21,9 @@ from steps import TOP, main
 
 import install
 
-# No command takes longer, in seconds.
+# No command takes longer, in seconds, and none that compiles.
 PATIENCE = 60
+COMPILES = 900
 
 JAPANESE = ["--from", "shift_jis", "--to", "utf-8"]
 WESTERN = ["--from", "utf-8", "--to", "windows-1252"]
@@ -45,8 +47,8 @@ PLAIN = [
 NAMED = [[*JAPANESE, "--indexes", "/dev/null"], ["--indexes=/dev/null", *JAPANESE], [*JAPANESE, "--indexes"]]
 
 
-def ran(words, given, folder=None, **more):
-    done = subprocess.run(words, input=given, cwd=folder, capture_output=True, timeout=PATIENCE, check=False, **more)
+def ran(words, given, folder=None, patience=PATIENCE, **more):
+    done = subprocess.run(words, input=given, cwd=folder, capture_output=True, timeout=patience, check=False, **more)
     return done.returncode, done.stdout, done.stderr
 
 
@@ -144,7 +146,10 @@ def read(name):
 
 # The lines of a session: a command, and what it prints on both streams.
 COMMAND = "    $ "
-TELLS = "\n(status=$?; printf '\\0'; exit $status)\n"
+ENDS = "\n(status=$?; printf '\\0'; exit $status)\n"
+# A call of `make` with a target, and the targets that are made here. The others would prove all.
+MAKE = re.compile(r"\bmake (\w+)")
+MADE = {"try"}
 
 
 def sessions():
@@ -160,18 +165,31 @@ def sessions():
     return [session for session in found if session]
 
 
-def readme_faults(top, folder):
-    """What README.md shows otherwise than it is. Its sessions are run one after another in one folder; in those that call
-    `make`, which would prove all, each target has to be there."""
-    there = {**os.environ, "PATH": os.path.join(top, "bin") + ":" + os.environ["PATH"], "LC_ALL": "C.UTF-8"}
-    for session in sessions():
-        targets = re.findall(r"\bmake (\w+)", " ".join(command for command, _ in session))
-        for target in targets:
+def made_faults(session):
+    """What a session that calls `make` shows otherwise than it is. Each target has to be there. A command that makes those of
+    `MADE` alone is run at the top: it has to print what is shown, and on standard error what it likes."""
+    # In a `make` of another one it would print the folder as well.
+    plain = {name: value for name, value in os.environ.items() if name not in ("MAKEFLAGS", "MAKELEVEL", "MFLAGS")}
+    for command, wanted in session:
+        targets = set(MAKE.findall(command))
+        for target in sorted(targets):
             if not re.search("^%s:" % target, read("Makefile"), re.M):
                 yield "README.md: there is no target %s" % target
-        if targets:
+        if targets and targets <= MADE:
+            words = ["bash", "-o", "pipefail", "-c", command]
+            status, output, said = ran(words, b"", TOP, COMPILES, env={**plain, "LC_ALL": "C.UTF-8"})
+            if (status, output) != (0, wanted.encode()):
+                yield "README.md: %s: status %d, %r and not %r: %s" % (command, status, output, wanted, said.decode()[-2000:])
+
+
+def readme_faults(top, folder):
+    """What README.md shows otherwise than it is. Its sessions without `make` are run one after another in one folder."""
+    there = {**os.environ, "PATH": os.path.join(top, "bin") + ":" + os.environ["PATH"], "LC_ALL": "C.UTF-8"}
+    for session in sessions():
+        if any(MAKE.search(command) for command, _ in session):
+            yield from made_faults(session)
             continue
-        script = "exec 2>&1\n" + "".join(command + TELLS for command, _ in session)
+        script = "exec 2>&1\n" + "".join(command + ENDS for command, _ in session)
         outputs = ran(["bash"], script.encode(), folder, env=there)[1].decode().split("\0")
         for (command, wanted), found in zip(session, outputs):
             if found != wanted:
