@@ -20,8 +20,8 @@
 - The crate for Rust declares the library as the header does (tools/gate/rust_crate.py).
 - The patches of docs/examples apply.
 - Each file of tools/ that a text names is there, and tools/README.md names each.
-- README.md and the documents that people read have no more words than `tools/limits.toml` says, and what they link is
-  there.
+- README.md and the documents that people read have no more words than `tools/limits.toml` says, nor does a paragraph of
+  them, and what they link is there. README.md asks for the kit that docs/STATUS.md names.
 """
 
 import collections

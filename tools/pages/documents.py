@@ -1,8 +1,9 @@
 """What `make lint` asks of the documents that people read: how long they are, and that what they link is there.
 
-They are README.md, CONTRIBUTING.md and docs/*.md, but for docs/HEADLINE.md, which a tool writes. Counted are words with a
-letter in them, outside of code and of what a tool writes between comments. Words are counted and not lines, since a limit of
-lines was once kept by paragraphs of 200 words.
+They are README.md, CONTRIBUTING.md and docs/*.md, but for docs/HEADLINE.md, which a tool writes, as it does docs/reference.
+Counted are words with a letter in them, outside of code. Of what stands between the comments of a tool the tables are left
+out and the sentences counted, since someone wrote them, and someone reads them. Words are counted and not lines, since a
+limit of lines was once kept by paragraphs of 200 words. So a paragraph has a limit, too.
 """
 
 import os
@@ -24,9 +25,14 @@ def counted():
     return ["README.md", "CONTRIBUTING.md"] + ["docs/" + name for name in here if name.endswith(".md") and name not in APART]
 
 
+def without_tables(found):
+    """What a tool writes between its two comments, without the rows of tables."""
+    return "\n".join(line for line in found[2].split("\n") if not line.startswith("|"))
+
+
 def prose(text):
-    """The lines of a text without code and without what a tool writes."""
-    text = re.sub(r"^<!-- (.+) -->\n.*?^<!-- end of \1 -->$", "", text, flags=re.S | re.M)
+    """The lines of a text without code and without the tables that a tool writes."""
+    text = re.sub(r"^<!-- (.+) -->\n(.*?)^<!-- end of \1 -->$", without_tables, text, flags=re.S | re.M)
     text = re.sub(r"^```.*?^```$", "", text, flags=re.S | re.M)
     return "\n".join(line for line in text.split("\n") if not line.startswith("    "))
 
@@ -37,8 +43,8 @@ def words(text):
 
 
 def paragraphs(text):
-    """The paragraphs of a text: a row of a table and an item of a list is one, too."""
-    return re.split(r"\n\s*\n|\n(?=- |\| |\d+\. )", prose(text))
+    """The paragraphs of a text: a row of a table and an item of a list, also of one within a list, is one, too."""
+    return re.split(r"\n\s*\n|\n(?= *(?:- |\| |\d+\. ))", prose(text))
 
 
 def anchors(text):
@@ -63,7 +69,24 @@ def linking():
     return counted() + ["docs/HEADLINE.md", "docs/reference/README.md", "tools/README.md", "bench/README.md", "bench/functions.md"]
 
 
+def longest_paragraph():
+    """How many words it has, of all documents that people read, and where it stands."""
+    found = [(words(part), path, part.strip()) for path in counted() for part in paragraphs(read(os.path.join(TOP, path)))]
+    count, path, text = max(found)
+    return count, "%s: %s.." % (path, text[:40])
+
+
+def kits():
+    """Whether README.md asks for the kit that docs/STATUS.md says was used last."""
+    asked, used = (re.search(r"logic [0-9a-f]{16}", read(os.path.join(TOP, path))) for path in ("README.md", "docs/STATUS.md"))
+    if not asked or not used or asked[0] != used[0]:
+        yield "README.md does not ask for the kit that docs/STATUS.md names first"
+
+
 def faults():
+    yield from kits()
+    count, place = longest_paragraph()
+    yield from limits.faults("longest_paragraph", count, "words of the longest paragraph of a document, " + place)
     total = sum(words(prose(read(os.path.join(TOP, path)))) for path in counted())
     if total > limits.FIXED["document_words"]:
         yield "%d words in the documents that people read; %d are allowed" % (total, limits.FIXED["document_words"])
