@@ -230,7 +230,7 @@ fn decide(jis0208: &Flat<'_>, mode: Mode, bytes: &[u8], last: bool) -> FirstPiec
     }
 }
 
-// The same if they may begin with an escape.
+// What bytes that may begin with an escape show of their first piece.
 #[inline(always)]
 fn decide_at_escape(jis0208: &Flat<'_>, mode: Mode, bytes: &[u8], last: bool) -> FirstPiece
     ensures { result ≡ decide_iso_2022_jp jis0208.now mode bytes.now last }

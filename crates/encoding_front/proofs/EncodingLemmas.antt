@@ -54,7 +54,7 @@ label_none label offset answer p is found e = (
   λ has. let at : offset ≡ Some (number_of e) = (found (number_of e)).1 has in absurd (cc),
 )
 
--- the same but for one encoding
+-- an encoding is found by these, but for one
 pub but_found : (found : Option Encoding) (d : Encoding) (P : Encoding → Type 0) → ((e : Encoding) → (found ≡ Some e) ↔ P e)
     → (answer : Option Encoding) → answer ≡ None → found ≡ Some d → (e : Encoding) → (answer ≡ Some e) ↔ (P e × ¬ (e ≡ d))
 but_found found d P each answer is at e = (

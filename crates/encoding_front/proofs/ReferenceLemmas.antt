@@ -147,7 +147,7 @@ in_prefix e (x ∷ a) b (y ∷ before) c after mapped is lost =
     let found = in_prefix e a b before c after mapped tail lost in
     (found.0, ap (λ (d : ℕ). d ∷ a) same ∙ ap (λ l. y ∷ l) found.1)
 
--- the same if the second text ends with one more
+-- if the second text ends with one more, the character stands in the first or is that last one
 in_prefix_or_last : (e : Coding) (a b : List ℕ) (d : ℕ) (before : List ℕ) (c : ℕ) (after : List ℕ) → AllMapped e b → a ++ (b ++ d ∷ []) ≡ before ++ c ∷ after → ¬ (IsMapped (e.form c))
     → ((more : List ℕ) × (a ≡ before ++ c ∷ more)) ⊎ ((after ≡ []) × (before ++ c ∷ [] ≡ a ++ (b ++ d ∷ [])))
 in_prefix_or_last e [] [] d [] c after mapped is lost =
@@ -377,7 +377,7 @@ shorter x last answer u text more x' rest end t is =
     let reads = law.reads in
     omega (arith, ap length law.split, length-append law.prefix rest, ap length reads.2, length-append reads.0 (reads.1 ∷ []))
 
--- the same encoder as at first, with another set
+-- an encoder that differs from the first in its set alone
 as_first : (x x1 : EncoderState) (last : Bool) (answer : EncoderResult) (text written : List ℕ) (x' : EncoderState) (rest : List ℕ) (room : ℕ) → x1 ≡ record x { set = x1.set }
     → Encoded x1 last answer text written x' rest room → Encoded (record x { set = x1.set }) last answer text written x' rest room
 as_first x x1 last answer text written x' rest room same call = subst (λ (y : EncoderState). Encoded y last answer text written x' rest room) same call

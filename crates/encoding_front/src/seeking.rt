@@ -109,7 +109,8 @@ impl BomSet {
         }
     }
 
-    /// The same of a mark of UTF-16, of either byte order.
+    /// Whether bytes of which these are held may turn out to begin with a mark of UTF-16, of either
+    /// byte order.
     pub(crate) fn can_be_utf16(self, held: &[u8]) -> bool
         ensures { result ≡ (can_be self held.now Utf16Be || can_be self held.now Utf16Le) }
     {

@@ -92,7 +92,7 @@ impl<'t> VariantDecoder<'t> {
         }
     }
 
-    // The same, with tables.
+    // A decoder of a new stream in `encoding`, whose indexes are in these tables.
     fn over(encoding: Encoding, tables: &'t Tables) -> Self
         requires { IsReady tables.now encoding }
         ensures { IsNewIn tables.now encoding result }

@@ -72,7 +72,7 @@ impl<'t> VariantEncoder<'t> {
         }
     }
 
-    // The same, with tables.
+    // An encoder of a new stream, the indexes of whose output encoding are in these tables.
     fn over(encoding: Encoding, tables: &'t Tables) -> Self
         requires { IsReady tables.now (output_encoding_of encoding) }
         ensures { IsFreshEncoder (⟦<VariantEncoder<'t> as RawEncoder>⟧.parts result)
@@ -97,7 +97,7 @@ impl<'t> VariantEncoder<'t> {
         }
     }
 
-    // The same, if the output encoding needs no index.
+    // An encoder of a new stream, whose output encoding needs no index.
     fn without_tables(encoding: Encoding) -> Self
         requires { needs_of (output_encoding_of encoding) ≡ [] }
         ensures { (t : IndexLists) → IsFreshEncoder

@@ -14,7 +14,7 @@ FirstIsLeast = (flat : List ℕ) (c from to : ℕ) → MatchOption (first_pointe
     ((p : ℕ) → ¬ (IsPointer flat c from to p))
     (λ p. IsPointer flat c from to p × ((q : ℕ) → IsPointer flat c from to q → p ≤ q))
 
--- the same of the greatest
+-- a last pointer that is found is the greatest such, and else there is none
 abbrev pub LastIsGreatest : Type 0
 LastIsGreatest = (flat : List ℕ) (c from to : ℕ) → MatchOption (last_pointer flat c from to)
     ((p : ℕ) → ¬ (IsPointer flat c from to p))

@@ -52,7 +52,8 @@ fn above_values(row: (u32, u32), from: u32, to: u32, least: u64) -> Option<u64>
     }
 }
 
-// The same for the valid pointers of a row, from its own to below `end`.
+// One above the values of a row at the valid pointers from its own to below `end`, or `least` if
+// there are none. None if a value is no scalar from `least`.
 fn above_row(row: (u32, u32), end: u32, least: u64) -> Option<u64>
     ensures { result ≡ above_row row end least }
 {

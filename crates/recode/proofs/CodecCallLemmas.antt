@@ -140,7 +140,7 @@ bytes_passed text prefix back n m u e f g =
     let whole : text ≡ prefix ++ back = sym (take-append-drop n text) ∙ ap (λ x. x ++ drop n text) (sym f) ∙ ap (λ x. prefix ++ x) (sym g) in
     omega (arith, e, ap (λ x. length (chars x)) whole, ap length (chars-append prefix back u), length-append (chars prefix) (chars back))
 
--- the same of units, if the rest is a slice
+-- the characters of units that were read, and of the rest, which is a slice
 pub units_passed : (units prefix : List ℕ) (n m : ℕ) → utf16_lossy_chars units ≡ prefix ++ utf16_lossy_chars (drop n units) → m ≡ length (utf16_lossy_chars (take n units))
     → m + length (utf16_lossy_chars (take (length units - n) (drop n units))) ≡ length (utf16_lossy_chars units)
 units_passed units prefix n m is e =

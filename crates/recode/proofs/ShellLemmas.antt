@@ -83,7 +83,7 @@ module _ {W L : Type 0} {contents : W → Option (List ℕ)} {logged : L → Opt
   pumps_more {w1} {w2} {c1} {c2} {y} {z} {items} {m} {l} h k spared t =
       record { items = h.items ++ items; hands = hands_then (only_under h.items h.spared) h.hands k; spared = spared_append p h.items items h.spared spared; turns = turns_more m l (omega arith) (omega arith) h.turns t }
 
-  -- the same, if nothing was found
+  -- a call of the engine that found nothing, and the bytes that were passed for it
   pub pumps_bytes : {w1 w2 : Writers W L} {c1 c2 : Standing} {y z : List ℕ} {m l : ℕ} (bytes : List ℕ) → Pumps contents logged p w0 w1 c0 c1 last x y 0 0 → HandsOnUnder {T = Unit {0}} p contents logged w1 w2 (map Byte bytes) (Ok tt)
       → TakesTurns c1 c2 last y z (map Byte bytes ++ []) m l → Pumps contents logged p w0 w2 c0 c2 last x z m l
   pumps_bytes {w1} {w2} bytes h k t =

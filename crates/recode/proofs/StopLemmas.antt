@@ -132,7 +132,7 @@ cut_open ref e s i (c ∷ t) rest =
     let more : List Item = open_items ref e (e.set s c) (i + 1) t in
     rw (append_assoc (map Byte escape) (form ++ more) rest, append_assoc form more rest, cut_bytes escape (form ++ (more ++ rest)), cut_form ref i (e.form c) (more ++ rest), cut_open ref e (e.set s c) (i + 1) t rest) refl
 
--- the same after the text of a piece, of which the rest is known
+-- up to the first loss, after the text of a piece, of which the rest is known
 cut_more : (ref : Reference) (e : Coding) (s : EscapeState) (i : ℕ) (cs t : List ℕ) (rest : List Item)
     → item_bytes (up_to_loss rest) ≡ to_loss e (last_set e s cs) t (e.escape (last_set e (last_set e s cs) t) Ascii)
     → item_bytes (up_to_loss (open_items ref e s i cs ++ rest)) ≡ to_loss e s (cs ++ t) (e.escape (last_set e s (cs ++ t)) Ascii)

@@ -41,6 +41,6 @@ text_after waiting s r = text (waiting ++ s.decoder.pieces r)
 abbrev pub characters_after : List Piece → State → List ℕ → ℕ
 characters_after waiting s r = s.counts.index + length (text_after waiting s r)
 
--- the same, if no piece waits
+-- how many characters the whole text has, if no piece waits
 abbrev pub characters_with : State → List ℕ → ℕ
 characters_with s r = characters_after [] s r

@@ -95,7 +95,7 @@ impl<W: Write + Drop> Report<W> {
         })
     }
 
-    /// The same report with the codes of a terminal for bold and red text.
+    /// This report with the codes of a terminal for bold and red text.
     pub fn coloured(self) -> Report<W> {
         let mut report = self;
         report.has_colour = true;

@@ -8,8 +8,8 @@ use encoding_mem::scalar::scalar_of;
 use encoding_mem::units_text::count_in_units;
 use encoding_mem::{Sink, Source, Utf8Sink, Utf8Source, Utf16Sink, Utf16Source, clear_behind};
 
-// The same text three times, as a text, as units and character by character, and what is left of a
-// room for 100 units.
+// Writes one text three times, as a text, as units and character by character. Returns what is left
+// of a room for 100 units.
 fn put_thrice<S: Sink>(sink: &mut S) -> Option<usize> {
     if sink.free_len() < 3 {
         return None;

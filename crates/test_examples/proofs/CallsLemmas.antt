@@ -115,7 +115,7 @@ turn_ends (Found line) ref v v' last src rest written free law ends room =
     let some : 0 < length (map Byte written ++ found_items ref (Found line)) = omega (arith, size, found) in
     record { over = ends.1; fewer = owes_fewer v v' last src rest _ law some }
 
--- the same of the bytes at the start of a room
+-- a call whose bytes stand at the start of a room ends the turn
 pub room_ends : (r : ConverterResult) (ref : Reference) (v v' : ConverterView) (last : Bool) (src rest room : List ℕ) (n : ℕ)
     → ConvertsPart v v' last src rest (map Byte (take n room) ++ found_items ref r) → ConverterEndsWith v' rest last (length room - n) r → n ≤ length room → 4 ≤ length room
     → EndsTurn v v' last src rest r

@@ -23,6 +23,6 @@ resumed_of_codec_kind t CodecKind.Replacement = resumed_replacement
 resumed_of_codec_kind t CodecKind.Iso2022Jp = resumed_iso_2022_jp (index_entries t IndexKind.Jis0208)
 resumed_of_codec_kind t kind = resumed_plain (codec_of t kind).pieces (decoded_length_of_codec_kind kind)
 
--- the same in an encoding, without mark handling
+-- how the bytes to come are read in an encoding, without mark handling, if a mode and pending bytes are resumed
 abbrev pub resumed_in : IndexLists → Encoding → ℕ → List ℕ → Reading
 resumed_in t e = resumed_of_codec_kind t (codec_kind_of e)

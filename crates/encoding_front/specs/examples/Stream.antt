@@ -68,7 +68,7 @@ utf_16_and_own = refl
 pending_and_new : room_asked (record { sought = nothing_sought; held = []; room = decoded_length_utf8; pending = 3 }) Replaced 4 ≡ Some 24
 pending_and_new = refl
 
--- the same by the values that length queries depend on: at the start, and with a byte pending that may begin two bytes
+-- room by the values that length queries depend on: at the start, and with a byte pending that may begin two bytes
 by_values_at_the_start : room_by (record { encoding = Encoding.Windows1252; may_be_utf8 = true; may_be_utf16 = true; ahead = 0; pending = 0 }) Bytes 4 ≡ Some 12
 by_values_at_the_start = refl
 

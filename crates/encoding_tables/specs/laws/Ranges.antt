@@ -138,7 +138,7 @@ below_end q row from (r ∷ rows) order before =
     let a = if_none (nat_lt r.0 from || nat_lt 1237575 r.0) row (first_out_of_order (row + 1) (r.0 + 1) rows) order in
     rw (no_row q (row + 1) (r.0 + 1) rows a.1 (omega arith), lt-ltb q r.0 before) refl
 
--- the same further to the left
+-- if a pointer has no row, a lower one has none, either
 no_row_left : (q s : ℕ) (rows : List (ℕ × ℕ)) → q < s → last_row s rows ≡ None → last_row q rows ≡ None
 no_row_left q s [] less e = refl
 no_row_left q s (r ∷ rows) less e =

@@ -168,7 +168,7 @@ ConvertEndsWith c unread last free InputEmpty = (unread ≡ []) × (c.answer ≡
 ConvertEndsWith c unread last free OutputFull = (free < 4) × CanGoOn c unread last
 ConvertEndsWith c unread last free (Found line) = IsValid line × CanGoOn c unread last
 
--- the same of a turn, after which a call may go on
+-- what a turn found, if the call ends with it, as items
 abbrev pub stop_items : Reference → Option ConverterResult → List Item
 stop_items ref None = []
 stop_items ref (Some result) = found_items ref result

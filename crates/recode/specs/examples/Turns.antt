@@ -24,7 +24,7 @@ spare_of_text = refl
 due_of_text : due_calls (Some decoded.OutputFull) ≡ 2
 due_of_text = refl
 
--- the same before a malformed sequence, whose U+FFFD is encoded by a call of its own
+-- text waits before a malformed sequence, whose U+FFFD is encoded by a call of its own
 spare_of_malformed : spare_calls (Some (decoded.Malformed 2 1)) ≡ 3
 spare_of_malformed = refl
 

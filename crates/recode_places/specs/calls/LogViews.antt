@@ -26,7 +26,7 @@ log_left_after Other x = broken
 abbrev pub match_left : {L : Type 0} → (L → Option (List ℕ)) → LogMatch L → LogLeft
 match_left remaining m = log_left_after m.next (unread remaining m.lines)
 
--- the same, if there is one
+-- what is left of a log that is matched: unknown, if there is none
 abbrev pub left_of_option : {L : Type 0} → (L → Option (List ℕ)) → Option (LogMatch L) → LogLeft
 left_of_option remaining None = unknown
 left_of_option remaining (Some m) = match_left remaining m
