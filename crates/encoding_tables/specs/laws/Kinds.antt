@@ -43,7 +43,7 @@ unfolding all_kinds
 in_order flats Ibm866 = refl
 in_order flats _ = refl
 
--- what tables hold, as the lists in the order of the slots and the rows: the prover tells values apart by this
+-- what tables hold, as the lists in the order of the slots and the rows: the prover distinguishes values by this
 abbrev pub index_lists_code : Coded IndexLists
 index_lists_code =
     code_by (List (Option (List ℕ)) × Option (List (ℕ × ℕ))) (coded× (coded_list (coded_option (coded_list coded_ℕ))) (coded_option (coded_list (coded× coded_ℕ coded_ℕ))))
