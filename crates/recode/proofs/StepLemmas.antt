@@ -310,7 +310,7 @@ module _ (before ran : Devices) (j : Job) where
       says_whether true is = (inl is, λ zero. refl, λ one h. omega (arith, is, one))
       says_whether false is = (inr is, λ zero. absurd (omega (arith, is, zero)), λ one h. cc)
 
--- a run, the flushes and what was told
+-- a run, the flushes and the message that was written
 module _ {R W L : Type 0} (before ran after : Ports R W L) (flushed : Counted L) (j : Job) (room : ℕ) (answer : Result Report Fault) (writer_failed log_failed : Bool)
     (returns : RunReturns (devices_of before) (devices_of ran) j answer) (calls : RunCalls before.reader ran.reader before.writer ran.writer before.log ran.log room answer)
     (unread : after.reader ≡ ran.reader) (writer : IsFlushed ran.writer after.writer writer_failed) (log : IsFlushed ran.log flushed log_failed) where

@@ -1,5 +1,5 @@
--- What the devices of a conversion tell after calls in a row, which call was the last, and what the clauses of a run say
--- of devices that tell.
+-- What the devices of a conversion say of their bytes after calls in a row, which call was the last, and what the clauses of
+-- a run say of devices that do.
 use Rattle.std.proofs.Common.{◌≡◌, ◌<◌, ◌≤◌, ◌+◌, ℕ, Bool, true, false, is_err, List, [], ◌∷◌, ◌++◌, Option, Some, None, Result, Ok, Err, OnOk, OnErr, IfErr, IsErrAnd, sym, ap, subst, ◌∙◌, append_assoc, append-nil, length, arith, rules}
 use Rattle.std.specs.Io.KnownBytes.{Appends, Consumes, IsAtEnd}
 use Rattle.std.specs.List.{All, concat}
@@ -26,7 +26,7 @@ use Rattle.recode.specs.TaggedByte.{log_bytes, output_bytes}
 use Rattle.recode.specs.declared.job.Job.{Job}
 use Rattle.recode.specs.declared.job.Report.{Report}
 
--- so a writer that tells holds what was taken
+-- so a writer that says what it holds, holds what was taken
 pub taken_is : (a b : List ℕ) (t u : Option (List ℕ)) (bytes : List ℕ) → TellsTaken a b t u → Grew a b bytes → Appends t u bytes
 taken_is a b t u bytes h is = subst (Appends t u) (append_cancel_left a h.bytes bytes (sym h.took ∙ is)) h.held
 
@@ -81,7 +81,7 @@ reads_are a b t u bytes h given = subst (Consumes t u) (ap concat (append_cancel
 pub reads_end : (a b : List (List ℕ)) (t u : Option (List ℕ)) (bytes : List ℕ) → TellsReads a b t u → GaveToEnd a b bytes → IsAtEnd u
 reads_end a b t u bytes h given = h.end given.0 (append_cancel_left a h.reads (given.0 ++ ([] ∷ [])) (sym h.gave ∙ given.1))
 
--- a reader that tells these bytes gives what begins them, and all of them by its end
+-- a reader that says it has these bytes gives what begins them, and all of them by its end
 pub reads_of : (x : List ℕ) (a b : List (List ℕ)) (t u : Option (List ℕ)) → t ≡ Some x → TellsReads a b t u → IsOf a b x
 reads_of x a b t u is h = record {
   front = λ bytes given. front_of u bytes (subst (λ (w : Option (List ℕ)). Consumes w u bytes) is (reads_are a b t u bytes h given));

@@ -259,7 +259,7 @@ abbrev pub holding_more : {W L : Type 0} → Writers W L → List ℕ → ℕ �
 holding_more a room n = record a { buffer = record a.buffer { now = put_mid a.held (length a.buffer.now - a.held) a.buffer.now room }; held = a.held + n }
 
 module _ {W L : Type 0} {contents : W → Option (List ℕ)} {logged : L → Option (List ℕ)} where
-  -- what the writers tell, in a row
+  -- what the writers say of their bytes, in a row
   pub told_then : (a b c : Writers W L) → TellWhatTaken contents logged a b → TellWhatTaken contents logged b c → TellWhatTaken contents logged a c
   told_then a b c h k = record { output = taken_then _ _ _ _ _ _ h.output k.output; log = taken_then _ _ _ _ _ _ h.log k.log }
 

@@ -50,7 +50,7 @@ pub record IsFlushed {W : Type 0} (before after : Counted W) (failed : Bool) : T
   pub counted : failures_of after ≡ failures_of before + failed_write (Flush failed)
 
 -- What a conversion did: a run, which left the devices as `ran` has them, then one flush of the writer and one of the log,
--- and, if no fault came, nothing more. After a fault the log was told the message of the first. Output and log have, before
+-- and, if no fault came, nothing more. After a fault the message of the first was written to the log. Output and log have, before
 -- the message, what a run leaves that ends with this fault.
 pub record IsConversion {R W L : Type 0} (before after : Ports R W L) (j : Job) (room status : ℕ) : Type 0 where
   pub ran : Ports R W L

@@ -93,7 +93,7 @@ abbrev pub AreKept : IndexLists → IndexLists → Type 0
 AreKept old new = (kind : IndexKind) → has old kind ≡ true → has new kind ≡ true
 
 -- The promise of `convert`, of a reader, a writer and a log, with room for 4096 bytes in each read: what it did, and what
--- that says by the status, and of what devices tell, if they do.
+-- that says by the status, and of what devices say of their bytes, if they do.
 pub record IsConversionOn {R W L : Type 0} (remaining : R → Option (List ℕ)) (contents : W → Option (List ℕ)) (logged : L → Option (List ℕ)) (before after : Ports R W L) (j : Job) (status : ℕ) : Type 0 where
   pub conversion : IsConversion before after j 4096 status
   pub converts : status ≢ 4 → Converts (devices_of before) (devices_of after) j status
@@ -101,7 +101,7 @@ pub record IsConversionOn {R W L : Type 0} (remaining : R → Option (List ℕ))
   pub told : TellWhatPassed (devices_of before) (devices_of after)
       (told_in remaining contents logged before.reader before.writer before.log) (told_in remaining contents logged after.reader after.writer after.log)
 
--- a message was told to a writer
+-- a message was written to a writer
 abbrev pub TellsSome : {T : Type 0} → (before after : Counted T) → Type 0
 TellsSome before after = (message : List ℕ) × TellsMessage before after message
 
@@ -131,7 +131,7 @@ pub record FailsToStart {R W L : Type 0} (before after : Ports R W L) (status : 
   pub answered : status ≡ 3
   pub alone : IsLeftAlone before after
 
--- the words ask for a text of the program's own: the status is 0, a text is told, and nothing is read or logged
+-- the words ask for a text of the program's own: the status is 0, a text is written, and nothing is read or logged
 pub record TellsText {R W L : Type 0} (before after : Ports R W L) (words : List (List ℕ)) (status : ℕ) : Type 0 where
   pub answered : status ≡ 0
   pub asked : AskForText words

@@ -1,4 +1,4 @@
--- What a run says of devices that tell their bytes: it is these bytes that a reader lost, and that a
+-- What a run says of devices that say what bytes they hold: it is these bytes that a reader lost, and that a
 -- writer and a log hold.
 use Rattle.std.specs.Prelude.{◌≡◌, ◌++◌, true}
 use Rattle.std.specs.Io.KnownBytes.{Appends, Consumes, IsAtEnd}

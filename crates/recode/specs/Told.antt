@@ -1,4 +1,4 @@
--- What devices tell of their bytes, if they do, beside what their calls passed.
+-- What devices say of their bytes, if they do, beside what their calls passed.
 use Rattle.std.specs.Prelude.{ℕ, List, Option}
 use Rattle.recode_log.specs.Counted.{inner_of}
 use Rattle.recode_log.specs.Told.{TellsReads, TellsTaken}
@@ -12,11 +12,11 @@ pub record Told : Type 0 where
   pub output : Option (List ℕ)
   pub log : Option (List ℕ)
 
--- what a reader, a writer and a log tell
+-- what a reader, a writer and a log say of their bytes
 abbrev pub told_in : {R W L : Type 0} → (R → Option (List ℕ)) → (W → Option (List ℕ)) → (L → Option (List ℕ)) → Counted R → Counted W → Counted L → Told
 told_in remaining contents logged reader writer log = record { input = remaining (inner_of reader); output = contents (inner_of writer); log = logged (inner_of log) }
 
--- what devices tell, if they do, is what their calls passed
+-- what devices say of their bytes, if they do, is what their calls passed
 pub record TellWhatPassed (before after : Devices) (told told' : Told) : Type 0 where
   pub input : TellsReads before.reads after.reads told.input told'.input
   pub output : TellsTaken before.written.output after.written.output told.output told'.output

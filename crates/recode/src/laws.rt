@@ -159,11 +159,11 @@ pub fn known_input()
         → IsOf s.reads s'.reads x → Fails s s' j Fault.TooLong → j.limit < length x }
 {}
 
-/// What devices tell of their bytes, if they do, is what their calls passed (`TellsReads`,
+/// What devices say of their bytes, if they do, is what their calls passed (`TellsReads`,
 /// `TellsTaken`). The reader lost the bytes that its calls gave, and has none left if the last of
-/// them gave none. If it told all its bytes before, what its calls gave is of these. A writer holds
-/// what it held before, and then the bytes that its calls took. Calls after one another tell what
-/// passed in all of them, if the reader told its bytes before the first.
+/// them gave none. If it said before which bytes it has, what its calls gave is of these. A writer
+/// holds what it held before, and then the bytes that its calls took. After calls in a row devices
+/// say what passed in all of them, if the reader said before the first which bytes it has.
 pub fn devices_tell()
     ensures begins { (d : Devices) (t : Told) → TellWhatPassed d d t t }
     ensures goes_on { (d e f : Devices) (t u v : Told) (x : List ℕ) → t.input ≡ Some x

@@ -64,7 +64,7 @@ pub record CountsWriterFault {W L T : Type 0} (before after : Writers W L) (resu
 abbrev pub is_end : List ℕ → Bool
 is_end chunk = nat_eq (length chunk) 0
 
--- what the output's writer and the log tell that they hold, if they do, grew by the bytes that their calls took
+-- what the output's writer and the log say that they hold, if they do, grew by the bytes that their calls took
 pub record TellWhatTaken {W L : Type 0} (contents : W → Option (List ℕ)) (logged : L → Option (List ℕ)) (before after : Writers W L) : Type 0 where
   pub output : TellsTaken (passed_of before.output.now) (passed_of after.output.now) (contents (inner_of before.output.now)) (contents (inner_of after.output.now))
   pub log : TellsTaken (passed_of before.log.now) (passed_of after.log.now) (logged (inner_of before.log.now)) (logged (inner_of after.log.now))

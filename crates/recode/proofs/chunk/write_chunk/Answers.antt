@@ -15,7 +15,7 @@ use Rattle.recode.proofs.chunk.write_chunk.Given.{Over}
 use Rattle.recode.proofs.chunk.write_chunk.Goals.{After-convert-result}
 use Rattle.recode.proofs.chunk.write_chunk.Goals as goal
 
--- what a call of the engine wrote is held, and what was told until then
+-- what a call of the engine wrote is held, with what was passed on until then
 held : (g : Over) (c : After-convert-result g) → HandsOnUnder {T = Unit {0}} c.args.policy g.W.Write.contents g.L.Write.contents c.make_room.new.self
     (holding_more c.make_room.new.self c.convert-result.new.dst c.convert-result.result.2) (map Byte (take c.convert-result.result.2 c.convert-result.new.dst)) (Ok tt)
 held g c = hands_held _ _ (hands_ready (hands_ready c.requires.writers.0 c.calls.invariant.pumps.hands) c.in_ok-make_room.ensures.hands) (search rules) c.convert-result.ensures.wrote.room

@@ -32,7 +32,7 @@ returns-then-report-clause-converts g c is = converts_of _ _ _ _ _ (returns-then
 pub returns-else-report-clause-converts : goal.returns-else-report-clause-converts
 returns-else-report-clause-converts g c is = converts_of _ _ _ _ _ (returns-else-report-clause-conversion g c) is
 
--- Of devices that tell their bytes.
+-- Of devices that say what bytes they hold.
 
 pub returns-then-report-clause-told : goal.returns-then-report-clause-told
 returns-then-report-clause-told g c = tells_more _ _ _ _ _ _ c.run-answer.ensures.told refl refl c.flush-writer_failed.ensures.told c.flush-log_failed.ensures.told

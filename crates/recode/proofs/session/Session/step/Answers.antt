@@ -48,7 +48,7 @@ returns-then-read-eq0-clause-done g c e =
     finishes _ _ _ _ _ _ _ (GaveToEnd-one _ _ _ (passed_one _ _ _ _ c.in-Ok.ensures.call) none) none
     (omega (arith, k.chunk.counted, ap length none, within)) (ap is_end none) (search rules)
 
--- What devices tell, if they do.
+-- What devices say of their bytes, if they do.
 
 reads : (g : Over) (c : After-read g) → TellsReads (passed_by (history_of c.args.reader.now)) (passed_by (history_of c.read.new.self)) (g.R.Read.remaining (inner_of c.args.reader.now)) (g.R.Read.remaining (inner_of c.read.new.self))
 reads g c = reads_one _ _ _ _ c.read.result c.read.new.buf c.read.ensures.call c.read.ensures.bytes c.read.ensures.bound (omega (arith, c.read.auto.buf, c.requires.buffers.input))
