@@ -20,7 +20,7 @@ history_of c = c.recorded.history.calls
 abbrev pub passed_of : {T : Type 0} → Counted T → List ℕ
 passed_of c = concat (passed_by (history_of c))
 
--- the first `told` bytes of a message were told: all of it and no call failed, or not all and one did
+-- the first `told` bytes of a message were written: all of it and no call failed, or not all and one did
 abbrev pub IsTold : (before after : ℕ) (message : List ℕ) (told : ℕ) → Type 0
 IsTold before after message told = ((after ≡ before) × (take told message ≡ message)) ⊎ ((after ≡ before + 1) × (told < length message))
 
@@ -36,7 +36,7 @@ pub record OffersAll {T : Type 0} (before after : Counted T) (size : ℕ) : Type
   pub writes : CountsWrites before after
   pub all : OffersAllLeft size writes.calls
 
--- A message was told: all of it and no call failed, or not all, and the last call failed, and no other. Each call was a
+-- A message was written: all of it and no call failed, or not all, and the last call failed, and no other. Each call was a
 -- write of all that was left of it.
 pub record TellsMessage {T : Type 0} (before after : Counted T) (message : List ℕ) : Type 0 where
   pub told : ℕ

@@ -1,9 +1,9 @@
--- What a device tells of its bytes, if it does, beside what its calls passed.
+-- What a device says of its bytes, if it does, beside what its calls passed.
 use Rattle.std.specs.Prelude.{◌≡◌, ℕ, List, [], ◌∷◌, ◌++◌, Option}
 use Rattle.std.specs.Io.KnownBytes.{Appends, Consumes, IsAtEnd}
 use Rattle.std.specs.List.{concat}
 
--- If the reader tells what it has still to give, it lost the bytes that its calls gave, and if the last of them gave none,
+-- If the reader says what it has still to give, it lost the bytes that its calls gave, and if the last of them gave none,
 -- nothing is left.
 pub record TellsReads (before after : List (List ℕ)) (told told' : Option (List ℕ)) : Type 0 where
   pub reads : List (List ℕ)
@@ -11,7 +11,7 @@ pub record TellsReads (before after : List (List ℕ)) (told told' : Option (Lis
   pub consumed : Consumes told told' (concat reads)
   pub end : (front : List (List ℕ)) → reads ≡ front ++ ([] ∷ []) → IsAtEnd told'
 
--- if a writer tells what it holds, that grew by the bytes that its calls took
+-- if a writer says what it holds, that grew by the bytes that its calls took
 pub record TellsTaken (before after : List ℕ) (told told' : Option (List ℕ)) : Type 0 where
   pub bytes : List ℕ
   pub took : after ≡ before ++ bytes

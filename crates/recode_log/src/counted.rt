@@ -16,8 +16,8 @@ use std::{fmt, io};
 /// that takes none. A read that gives no bytes is the end, and no failure.
 ///
 /// Its clauses also speak of its history (`history_of`): each call that was made of the reader or
-/// the writer, in their order, with what it passed, whether or not the reader or the writer tells
-/// its bytes. The history takes no memory.
+/// the writer, in their order, with what it passed, whether or not the reader or the writer says
+/// which bytes it holds. The history takes no memory.
 #[derive(Drop)]
 pub struct Counted<T> {
     recorded: Recorded<T>,

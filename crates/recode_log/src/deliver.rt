@@ -45,8 +45,8 @@ pub fn deliver<W: Write, F: Drop>(writer: &mut Counted<W>, bytes: &[u8], fault: 
 }
 
 /// Writes a message for a person to read, as `deliver` does. If a call fails, the rest of the
-/// message is dropped: there is no one else to tell. The condition, that fewer than 2^64 - 1 calls
-/// of the writer have failed, is tested by `Counted::failures`.
+/// message is dropped: there is nowhere else to write it. The condition, that fewer than 2^64 - 1
+/// calls of the writer have failed, is tested by `Counted::failures`.
 pub fn tell<W: Write>(writer: &mut Counted<W>, message: &[u8])
     requires { failures_of writer.old < 2 ^ 64 - 1 }
     ensures tells { TellsMessage writer.old writer.new message.now }

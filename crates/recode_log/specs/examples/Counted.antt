@@ -9,7 +9,7 @@ use Rattle.recode_log.specs.declared.counted.Counted.{Counted}
 abbrev counted : List Call → ℕ → Counted ℕ
 counted calls failures = record { recorded = record { inner = 0; history = record { calls = calls } }; failures = failures }
 
--- a message of three bytes: all were told, and no call failed
+-- a message of three bytes: all were written, and no call failed
 is_told-all : IsTold 4 4 (1 ∷ 2 ∷ 3 ∷ []) 3
 is_told-all = inl (refl, refl)
 
@@ -26,7 +26,7 @@ counts_writes-two = record {
   counted = refl;
 }
 
--- of a message of two bytes one was told so: each call offered all that was left
+-- of a message of two bytes one was written so: each call offered all that was left
 tells_message-one_of_two : TellsMessage (counted (Flush false ∷ []) 4) (counted (Flush false ∷ Passed 2 (7 ∷ []) ∷ Failed 1 ∷ []) 5) (7 ∷ 8 ∷ [])
 tells_message-one_of_two = record {
   told = 1;

@@ -6,7 +6,7 @@ use Rattle.recode_log.specs.Told.{TellsReads, TellsTaken}
 tells_taken-grown : TellsTaken (1 ∷ []) (1 ∷ 2 ∷ []) (Some (9 ∷ 1 ∷ [])) (Some (9 ∷ 1 ∷ 2 ∷ []))
 tells_taken-grown = record { bytes = 2 ∷ []; took = refl; held = refl }
 
--- one that does not tell what it holds
+-- one that does not say what it holds
 tells_taken-silent : TellsTaken (1 ∷ []) (1 ∷ 2 ∷ []) None None
 tells_taken-silent = record { bytes = 2 ∷ []; took = refl; held = tt }
 

@@ -1,4 +1,4 @@
--- What devices that tell their bytes tell after calls in a row.
+-- What devices that say which bytes they hold say after calls in a row.
 use Rattle.std.proofs.Common.{◌≡◌, ◌⊎◌, ◌+◌, ◌<◌, ℕ, List, [], ◌∷◌, ◌++◌, Option, Some, None, Result, Ok, Err, true, false, OnOk, OnErr, inl, inr, refl, sym, ap, subst, ◌∙◌, append_assoc, append-nil, length, length-append, take, arith}
 use Rattle.std.specs.Io.{ReadsAtMost}
 use Rattle.std.specs.Io.KnownBytes.{Appends, Consumes, IsAtEnd, Keeps, ReadConsumes}
@@ -83,7 +83,7 @@ reads_both a b c t u v h k still = record {
 pub reads_then : (a b c : List (List ℕ)) (t u v : Option (List ℕ)) → NoneYet a b → TellsReads a b t u → TellsReads b c u v → TellsReads a c t v
 reads_then a b c t u v yet h k = reads_both a b c t u v h k (λ front none e. absurd (yet front (h.gave ∙ ap (λ l. a ++ l) e)))
 
--- if the reader told its bytes at first, no more need be known
+-- if the reader said at first which bytes it has, no more need be known
 ends_kept : (t u v : Option (List ℕ)) (x read : List ℕ) → t ≡ Some x → Consumes t u read → Consumes u v [] → IsAtEnd u → IsAtEnd v
 ends_kept t None None x read is h k e = tt
 ends_kept t None (Some z) x read is h k e = absurd (rw is at h)
