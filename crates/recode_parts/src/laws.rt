@@ -26,7 +26,7 @@ pub fn parts_follow_one_another()
     parts_are_the_whole();
 }
 
-/// What is told of two parts, added, is told of the whole.
+/// The summaries of two parts, added, are that of the whole.
 pub fn summaries_add_up()
     ensures { (j : Job) (x y : List ℕ) (p q s : Summary) → IsValidJob j → CanBeCut j x
         → IsSummary j x p → IsSummary (later j x) y q → AddsParts p q s

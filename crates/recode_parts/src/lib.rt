@@ -1,5 +1,6 @@
-//! Joins what conversions of the parts of an input wrote and told: the log of a part becomes lines
-//! of the log of the whole (`join_log`), and what is told of two parts is added (`Summary::and`).
+//! Joins what conversions of the parts of an input wrote and reported: the log of a part becomes
+//! lines of the log of the whole (`join_log`), and what is reported of two parts is added
+//! (`Summary::and`).
 //! The outputs are joined as they are. `recode::Job::can_be_cut` says where an input may be cut,
 //! and `recode::Job::later` what the job of later parts is.
 //!

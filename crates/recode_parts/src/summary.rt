@@ -1,11 +1,11 @@
-//! What is told of a part of an input, and of several in a row.
+//! What is reported of a part of an input, and of several in a row.
 
 ghost use Rattle.std.specs.Prelude.{◌≡◌, ◌≤◌, ◌+◌, ◌^◌, ◌⊎◌, IfNone, IfSome};
 
 use crate::before::Before;
 use recode::Report;
 
-/// What is told of a part of an input that was converted, or of several parts in a row.
+/// What is reported of a part of an input that was converted, or of several parts in a row.
 #[derive(Clone, Copy, PartialEq, Eq, Debug)]
 pub struct Summary {
     /// The report on the part, or on the parts as a whole. Its `calls` are those of all parts.
