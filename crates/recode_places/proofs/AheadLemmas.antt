@@ -1,4 +1,4 @@
--- What a walk has still to pass: what is left of a log fits it, and what is found in it is still to be told.
+-- What a walk has still to pass: what is left of a log fits it, and what is found in it is still to be reported.
 use Rattle.std.proofs.Common.{◌≡◌, ℕ, ◌+◌, ◌-◌, ◌<◌, ◌≤◌, Bool, true, Option, Some, None, Result, Ok, Err, IfErr, IsErrAnd, IsOk, List, [], ◌∷◌, ◌++◌, refl, sym, ◌∙◌, ap, subst, arith, append-nil, append_assoc, length, drop}
 use Rattle.encoding_mem.specs.Piece.{Piece, well_formed, malformed, sizes, scalars, text, AreWellFormed, ArePieces}
 use Rattle.encoding_mem.specs.laws.Piece.{sizes-append}

@@ -1,4 +1,4 @@
--- What was told stays true of more pieces and of more text, and tellings add up.
+-- What was reported stays true of more pieces and of more text, and reports add up.
 use Rattle.std.proofs.Common.{◌≡◌, ℕ, List, [], ◌∷◌, ◌++◌, Option, Some, None, sym, ◌∙◌, ap, subst, append_assoc, append-nil}
 use Rattle.encoding_mem.specs.Piece.{Piece, malformed}
 use Rattle.recode_places.specs.Entries.{AreTrue, HasOneMore, IsFoundAt, TellsTrue}

@@ -280,7 +280,7 @@ module _ (v v' : DecoderView) (src : List ℕ) (read : ℕ) (old new : List ℕ)
   read_if_not OutputFull k room n = read_to_full v.state v'.state src read old new written k.law room k.ends
   read_if_not (Malformed a b) k room n = read_to_malformed v.state v'.state src read old new written a b k.law
 
--- ---- what is found where nothing is told
+-- ---- what is found where nothing is reported
 
 pub named_fold : (index c : ℕ) (folds : Bool) (becomes : Option ℕ) (f : Option Finding) → f ≡ cond folds (Some (found.Folded c becomes)) None → NamesFound index f []
 named_fold index c true becomes f e = subst (λ g. NamesFound index g []) (sym e) refl

@@ -1,4 +1,4 @@
--- What was told is as fates say, telling by telling.
+-- What was reported is as fates say, report by report.
 use Rattle.std.proofs.Common.{◌≡◌, ℕ, Bool, true, false, cond, List, [], ◌∷◌, ◌++◌, Option, Some, None, Result, Ok, Err, OnOk, inl, inr, refl, sym, ◌∙◌, ap, subst, append_assoc, append-nil}
 use Rattle.std.proofs.lemmas.Option.{none-some, same_Some}
 use Rattle.recode_places.specs.Entries.{HasOneMore}

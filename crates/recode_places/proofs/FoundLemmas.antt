@@ -1,4 +1,4 @@
--- All that was found is told, telling by telling.
+-- All that was found is reported, report by report.
 use Rattle.std.proofs.Common.{◌≡◌, ℕ, ◌+◌, false, List, [], ◌∷◌, ◌++◌, length, map, Option, Some, None, inl, inr, refl, sym, ◌∙◌, ap, subst, arith, append_assoc, append-nil}
 use Rattle.std.proofs.lemmas.Bool.{false≢true}
 use Rattle.std.proofs.lemmas.List.{length-append, map-append}
@@ -59,7 +59,7 @@ kept_found a i (c ∷ t) h =
     let first = first_kept a.target c t h in
     ap (λ f. if_any i (told_by_fate a c f) (found_in_text a (i + 1) t)) first.0 ∙ kept_found a (i + 1) t first.1
 
--- ---- tellings
+-- ---- reports
 
 pub found_none : (a : Asked) (fs gs : List Found) (t : Option (List Entry)) → fs ≡ gs → TellsFound a fs gs t t
 found_none a fs gs None e none = tt
@@ -69,7 +69,7 @@ pub found_entry : (a : Asked) (t u : Option (List Entry)) (e : Entry) → HasOne
 found_entry a None u e one none = tt
 found_entry a (Some es) u e one none = (e ∷ [], one, refl)
 
--- what is told of a character, without a log
+-- what is reported of a character, without a log
 by_fate : (a : Asked) (i c : ℕ) (told : Option Finding) → IsToldOf a c told → a.has_log ≡ false → if_any i told [] ≡ found_in_text a i (c ∷ [])
 by_fate a i c told (inl e) none = ap (λ f. if_any i f []) e
 by_fate a i c told (inr named) none = absurd (false≢true (sym none ∙ named.0))

@@ -23,14 +23,14 @@ use Rattle.recode_places.proofs.EntryLemmas.{tells_nothing, tells_then, tells_wi
 pub tells_in_wider : (ps qs : List Piece) (a b : Option (List Entry)) → TellsTrueIn ps a b → TellsTrueIn (ps ++ qs) a b
 tells_in_wider ps qs a b h = subst (λ t. TellsTrue (ps ++ qs) t a b) (sym (text-append ps qs)) (tells_wider ps qs (text ps) (text qs) a b h)
 
--- what a text told is true of the pieces whose text it is
+-- what was reported of a text is true of the pieces whose text it is
 tells_pieces : (ps qs : List Piece) (cs : List ℕ) (a b : Option (List Entry)) → cs ≡ text qs → TellsTrue (ps ++ qs) (text ps ++ cs) a b → TellsTrueIn (ps ++ qs) a b
 tells_pieces ps qs cs a b e h = subst (λ t. TellsTrue (ps ++ qs) t a b) (ap (λ t. text ps ++ t) e ∙ sym (text-append ps qs)) h
 
 place_pieces : (p : Place) (ps qs : List Piece) (cs : List ℕ) → cs ≡ text qs → IsPlaceAfter p (text ps ++ cs) → IsPlaceAfter p (text (ps ++ qs))
 place_pieces p ps qs cs e h = subst (IsPlaceAfter p) (ap (λ t. text ps ++ t) e ∙ sym (text-append ps qs)) h
 
--- ---- a call, whose text was told and passed
+-- ---- a call, whose text was reported and passed
 
 module _ (told told' : Option (List Entry)) (v : WalkState) (p : Place) (d : DecoderState) (src : List ℕ) (last : Bool) (n : ℕ) (W : List ℕ → Type 0) (o : DecoderResult)
     (k : StateLaw v.decoder d src last n W o) (cs : List ℕ) (is : cs ≡ scalars k.taken)
@@ -44,7 +44,7 @@ module _ (told told' : Option (List Entry)) (v : WalkState) (p : Place) (d : Dec
   before_told : (ps : List Piece) → HasPassed v ps → TellsTrueIn (ps ++ cut.before) told told'
   before_told ps h = tells_pieces ps cut.before cs told told' (is ∙ cut.same) (tells (ps ++ cut.before) (text ps) h.place)
 
-  -- the telling of the text ended early
+  -- the report of the text ended early
   pub text_stops : TellsPrefix told told' v src last
   text_stops = record { passed = cut.before; rest = λ r end. (reported o ++ d.pieces (drop n src ++ r), whole r end); tells = before_told }
 
@@ -72,7 +72,7 @@ module _ (told told' : Option (List Entry)) (v : WalkState) (p : Place) (d : Dec
         few : length (text cut.before) ≤ sizes k.taken
         few = subst (λ x. length (text x) ≤ sizes k.taken) taken (few_taken v.decoder src k.taken _ (k.rest [] (λ end. refl)))
 
--- ---- a call that reported a malformed sequence, which is told after the text
+-- ---- a decoder's call that ended at a malformed sequence, which is reported after the text
 
 module _ (told told1 told2 : Option (List Entry)) (v : WalkState) (p : Place) (d : DecoderState) (src : List ℕ) (last : Bool) (n : ℕ) (W : List ℕ → Type 0) (o : DecoderResult) (a b : ℕ)
     (o_is : o ≡ Malformed a b) (k : StateLaw v.decoder d src last n W o) (cs : List ℕ) (is : cs ≡ scalars k.taken)
@@ -104,11 +104,11 @@ module _ (told told1 told2 : Option (List Entry)) (v : WalkState) (p : Place) (d
       (malf qs passed (offset_of ps h)) in
       subst (λ x. TellsTrueIn x told told2) (append_assoc ps first.before (malformed a ∷ []) ∙ ap (λ x. ps ++ x) (sym ends_malformed)) all
 
-  -- the telling of the malformed sequence ended early
+  -- the report of the malformed sequence ended early
   pub malformed_stops : TellsPrefix told told2 v src last
   malformed_stops = record { passed = k.taken; rest = λ r end. (d.pieces (drop n src ++ r), k.rest r end); tells = malformed_told }
 
-  -- it was told, and passed
+  -- it was reported, and passed
   pub walks_malformed : (w : WalkState) → w.decoder ≡ d → w.read ≡ v.read + n → ((t : List ℕ) → IsPlaceAfter p t → IsPlaceAfter w.place (t ++ (0xFFFD ∷ []))) → w.place.index ≡ p.index + 1
       → WalksOn told told2 v w src (drop n src) last
   walks_malformed w same read pass one = record {

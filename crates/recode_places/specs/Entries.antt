@@ -26,15 +26,15 @@ abbrev pub AreTrue : List Piece → List ℕ → List Entry → Type 0
 AreTrue ps t [] = Unit {0}
 AreTrue ps t (e ∷ es) = IsFoundAt ps t e.place e.finding × AreTrue ps t es
 
--- a visitor that says what it was told was told one entry more
+-- a visitor that says which entries it was handed was handed one more
 abbrev pub HasOneMore : (told told' : Option (List Entry)) → Entry → Type 0
 HasOneMore told told' e = IfSome told (λ es. told' ≡ Some (es ++ (e ∷ [])))
 
--- a visitor that says what it was told was told some entries more, which are true of these pieces and this text
+-- a visitor that says which entries it was handed was handed some more, which are true of these pieces and this text
 abbrev pub TellsTrue : List Piece → List ℕ → (told told' : Option (List Entry)) → Type 0
 TellsTrue ps t told told' = IfSome told (λ es. (more : List Entry) × (told' ≡ Some (es ++ more)) × AreTrue ps t more)
 
--- a visitor was told entries that are true of an input of these pieces
+-- a visitor was handed entries that are true of an input of these pieces
 abbrev pub TellsTrueIn : List Piece → (told told' : Option (List Entry)) → Type 0
 TellsTrueIn ps told told' = TellsTrue ps (text ps) told told'
 

@@ -1,4 +1,4 @@
--- All that is told of an input of which no log says what is lost: each of its malformed sequences, and its characters by
+-- All that is reported of an input of which no log says what is lost: each of its malformed sequences, and its characters by
 -- their fates.
 use Rattle.std.specs.Prelude.{◌≡◌, ℕ, ◌+◌, Bool, false, if◌then◌else◌, List, [], ◌∷◌, ◌++◌, length, Option, Some, None, IfSome, map}
 use Rattle.encoding_mem.specs.Piece.{Piece, well_formed, malformed}
@@ -9,7 +9,7 @@ use Rattle.recode_places.specs.declared.entry.Finding.TheVariants as found
 use Rattle.recode_places.specs.declared.fates.Fate.{Fate}
 use Rattle.recode_places.specs.declared.fates.Fate.TheVariants.{Folded, Kept, Lost}
 
--- What a choice asks: whether it goes by a log, the target, if one is asked, and whether folds are told.
+-- What a choice asks: whether it goes by a log, the target, if one is asked, and whether folds are reported.
 pub record Asked : Type 0 where
   pub has_log : Bool
   pub target : Option Target
@@ -28,7 +28,7 @@ abbrev pub fate_asked : Option Target → ℕ → Fate
 fate_asked None c = Kept
 fate_asked (Some t) c = fate_of t c
 
--- what is told of a character by its fate: that it is lost, if no log is asked, and that it is folded, if folds are
+-- what is reported of a character by its fate: that it is lost, if no log is asked, and that it is folded, if folds are
 abbrev pub told_by_fate : Asked → ℕ → Fate → Option Finding
 told_by_fate a c Kept = None
 told_by_fate a c Lost = if a.has_log then None else Some (found.Lost c)
@@ -39,19 +39,19 @@ abbrev pub if_any : (index : ℕ) → Option Finding → List Found → List Fou
 if_any index None fs = fs
 if_any index (Some f) fs = (index, f) ∷ fs
 
--- what is told of the characters of a text, the first of which has this index, by their fates, in their order
+-- what is reported of the characters of a text, the first of which has this index, by their fates, in their order
 abbrev pub found_in_text : Asked → (index : ℕ) → List ℕ → List Found
 found_in_text a index [] = []
 found_in_text a index (c ∷ t) = if_any index (told_by_fate a c (fate_asked a.target c)) (found_in_text a (index + 1) t)
 
--- What is told of pieces of an input, the first of which stands at this offset and has text from this index on: each
--- malformed sequence, at the index of its U+FFFD, and what is told of the characters of the others, in their order.
+-- What is reported of pieces of an input, the first of which stands at this offset and has text from this index on: each
+-- malformed sequence, at the index of its U+FFFD, and what is reported of the characters of the others, in their order.
 abbrev pub found_in : Asked → (index offset : ℕ) → List Piece → List Found
 found_in a index offset [] = []
 found_in a index offset (well_formed n cs ∷ ps) = found_in_text a index cs ++ found_in a (index + length cs) (offset + n) ps
 found_in a index offset (malformed n ∷ ps) = (index, found.Malformed offset n) ∷ found_in a (index + 1) (offset + n) ps
 
--- If no log is asked, a visitor that says what it was told was told some entries more, and what they found, each at its
+-- If no log is asked, a visitor that says which entries it was handed was handed some more, and what they found, each at its
 -- index, is a list of findings, in its order, up to this rest of it.
 abbrev pub TellsFound : Asked → (all rest : List Found) (told told' : Option (List Entry)) → Type 0
 TellsFound a all rest told told' =

@@ -1,4 +1,4 @@
--- How the lines of a log name what is told.
+-- How the lines of a log name what is reported.
 use Rattle.std.specs.Prelude.{◌≡◌, ℕ, ◌<◌, ◌⊎◌, length, List, [], ◌∷◌, ◌++◌, Option, Some, IfSome, codes}
 use Rattle.recode_log.specs.Line.{HasScalar, IsValid, line_bytes}
 use Rattle.recode_log.specs.declared.line.LogLine.{LogLine}
@@ -76,7 +76,7 @@ TakesLines broken (bytes x) bs = ⊥
 TakesLines broken ended bs = ⊥
 TakesLines broken unknown bs = ⊥
 
--- a visitor that says what it was told was told entries more, and what was read of a log are their lines
+-- a visitor that says which entries it was handed was handed more, and what was read of a log are their lines
 abbrev pub TellsLines : (left left' : LogLeft) (told told' : Option (List Entry)) → Type 0
 TellsLines left left' told told' =
     IfSome told (λ es. (more : List Entry) × (told' ≡ Some (es ++ more)) × ((bs : List ℕ) × TakesLines left left' bs × NameAll more bs))

@@ -1,4 +1,4 @@
-//! Which characters and malformed sequences are told.
+//! Which characters and malformed sequences are reported.
 
 ghost use Rattle.std.specs.Prelude.{◌≡◌, ℕ, ◌+◌, ◌<◌, ◌≤◌, List, [], ◌∷◌, length};
 ghost use Rattle.std.specs.Prelude.{IfOk, IfSome, IsOk, IsTrue, None, OnOk, Some, false, true};
@@ -19,9 +19,9 @@ use crate::fates::{Fate, Fates};
 use crate::log_match::LogMatch;
 use std::io::Read;
 
-/// Which characters and malformed sequences of an input are told: those that a log names, or, if no
-/// log is read, each malformed sequence and each character that a target encoding has no bytes
-/// for. If folds are asked for, so is each character that the target writes as another.
+/// Which characters and malformed sequences of an input are reported: those that a log names, or,
+/// if no log is read, each malformed sequence and each character that a target encoding has no
+/// bytes for. If folds are asked for, so is each character that the target writes as another.
 #[derive(Drop)]
 pub struct Choice<'t, L> {
     log: Option<LogMatch<L>>,
@@ -78,7 +78,7 @@ impl<'t, L: Read> Choice<'t, L> {
         }
     }
 
-    /// Whether nothing is told of the characters of a text, the first of which has this index.
+    /// Whether nothing is reported of the characters of a text, the first of which has this index.
     pub fn passes_over(&self, index: u64, text: &str) -> bool
         ensures kept { IsTrue result → AreKeptIfAsked (asked_by self.now).target (chars text.now) }
         ensures fits { (offset : ℕ) (t : List ℕ) (ps : List Piece) → IsTrue result
@@ -112,8 +112,8 @@ impl<'t, L: Read> Choice<'t, L> {
         }
     }
 
-    /// What is told of this character, which has this index, if anything is. The error is that of
-    /// the log.
+    /// What is reported of this character, which has this index, if anything is. The error is that
+    /// of the log.
     pub fn character(&mut self, index: u64, c: char) -> Result<Option<Finding>, Stop>
         ensures of { IfOk result (λ found. IfSome found (IsOfCharacter c)) }
         ensures told { IfOk result (IsToldOf (asked_by self.old) c) }
@@ -162,8 +162,8 @@ impl<'t, L: Read> Choice<'t, L> {
         self.folds.then_some(Finding::Folded { scalar: c, becomes })
     }
 
-    /// Whether this malformed sequence is told, for which the U+FFFD with this index stands: each
-    /// is, if there is no log. The error is that of the log.
+    /// Whether this malformed sequence is reported, for which the U+FFFD with this index stands:
+    /// each is, if there is no log. The error is that of the log.
     pub fn malformed(&mut self, index: u64, offset: u64, length: u8) -> Result<bool, Stop>
         ensures told { IfOk result (λ is_told. (asked_by self.old).has_log ≡ false
             → is_told ≡ true) }

@@ -1,4 +1,4 @@
-//! What is told of a place, and why telling may end early.
+//! What is reported of a place, and why a walk may end early.
 
 use crate::place::Place;
 use thiserror::Error;
@@ -26,7 +26,7 @@ pub struct Entry {
     pub finding: Finding,
 }
 
-/// Why telling ended before the end of the input.
+/// Why a walk ended before the end of the input.
 #[derive(Clone, Copy, PartialEq, Eq, Debug, Error)]
 pub enum Stop {
     /// A read of the input failed.
@@ -42,7 +42,7 @@ pub enum Stop {
     /// encodings, or stands out of order.
     #[error("line {line} of the log is not of this input")]
     Unfit { line: u64 },
-    /// What was told could not be written.
+    /// What was reported could not be written.
     #[error("write fault")]
     Write,
     /// Memory was refused.
@@ -53,7 +53,7 @@ pub enum Stop {
 /// Why a visitor takes no more.
 #[derive(Clone, Copy, PartialEq, Eq, Debug, Error)]
 pub enum Refusal {
-    /// What it was told could not be written.
+    /// What it was handed could not be written.
     #[error("write fault")]
     Write,
     /// Memory was refused.

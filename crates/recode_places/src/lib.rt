@@ -1,7 +1,7 @@
 //! Where in an input the malformed sequences and the characters stand that a log of `recode` names:
 //! line, column and index of each (`Place`).
 //!
-//! `tell_places` reads the input once more, and tells a `Visitor` the text, the malformed bytes,
+//! `tell_places` reads the input once more, and hands a `Visitor` the text, the malformed bytes,
 //! and an `Entry` for each thing that a `Choice` picks: what the lines of a log name (`LogMatch`),
 //! or what a target encoding would lose or write as another character (`Fates`).
 //!

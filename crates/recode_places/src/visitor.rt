@@ -1,4 +1,4 @@
-//! Who is told of the places.
+//! Who is handed the places.
 
 ghost use Rattle.std.specs.Prelude.{◌≡◌, List, Option, OnErr, OnOk, Some};
 ghost use Rattle.recode_places.specs.Entries.{HasOneMore};
@@ -7,10 +7,10 @@ ghost use Rattle.recode_places.specs.declared.entry.Entry.{Entry};
 use crate::entry::{Entry, Refusal};
 use encoding_front::Encoding;
 
-/// Who is told an input: its text and its malformed bytes, in their order, and each entry directly
-/// before the character or the malformed bytes that it is of. An error ends the telling.
+/// Who is handed an input: its text and its malformed bytes, in their order, and each entry
+/// directly before the character or the malformed bytes that it is of. An error ends the walk.
 pub trait Visitor {
-    /// The entries that it was told so far, if it says so.
+    /// The entries that it was handed so far, if it says which.
     ghost told: { Self → Option (List Entry) };
 
     /// The next characters of the text.

@@ -1,4 +1,4 @@
-//! A walk over an input, which tells what is chosen with its place.
+//! A walk over an input, which reports what is chosen with its place.
 
 ghost use Rattle.std.specs.Prelude.{◌≡◌, ◌^◌, ◌<◌, ◌≤◌, ◌+◌, ◌++◌, ◌∷◌, [], ℕ, List};
 ghost use Rattle.std.specs.Prelude.{IfErr, IfOk, IfSome, MatchResult, OnErr, OnOk, Some, drop};
@@ -56,8 +56,8 @@ struct Walk<'t> {
     tail: Tail,
 }
 
-// What a call of the decoder did: whether it read all bytes and told all of their text, and how
-// many bytes it read.
+// What a call of the decoder did: whether it read all bytes and handed over all of their text, and
+// how many bytes it read.
 #[derive(Clone, Copy)]
 struct Part {
     is_done: bool,
@@ -196,7 +196,7 @@ fn tell_malformed<L: Read, V: Visitor>(
 }
 
 impl<'t> Walk<'t> {
-    // One call of the decoder, and what it gives is told.
+    // One call of the decoder. What it gives is handed to the visitor.
     fn part<L: Read, V: Visitor>(
         &mut self,
         chunk: &[u8],
@@ -295,16 +295,16 @@ impl<'t> Walk<'t> {
     }
 }
 
-/// Reads an input to its end, and tells the visitor its text, its malformed bytes, and an entry
-/// for each thing that is chosen, with its place. An entry that is told is true, also if an error
-/// ends the telling: it names a malformed sequence, or a character of the text, of the whole input
-/// as `source` reads it, and its place. On success, if the choice goes by a log, the log has the
-/// lines of the entries, in their order, and then its end: none was passed over. A character that
-/// is told then is folded in the target that the choice asks, where folds are asked for, or lost
-/// there; or it is lost by its line in the log. On success, if the choice goes by no log, nothing
-/// is left out: each malformed sequence is told once, and so is each character that its target
-/// loses, or folds, if folds are asked for, each with its place, in the order of the input. The
-/// U+FFFD of a malformed sequence is told by that alone.
+/// Reads an input to its end, and hands the visitor its text, its malformed bytes, and an entry for
+/// each thing that is chosen, with its place. An entry is true, also if the call ends with an
+/// error: it names a malformed sequence, or a character of the text, of the whole input as `source`
+/// reads it, and its place. On success, if the choice goes by a log, the log has the lines of the
+/// entries, in their order, and then its end: none was passed over. A character that is reported
+/// then is folded in the target that the choice asks, where folds are asked for, or lost there; or
+/// it is lost by its line in the log. On success, if the choice goes by no log, nothing is left
+/// out: each malformed sequence is reported once, and so is each character that its target loses,
+/// or folds, if folds are asked for, each with its place, in the order of the input. The U+FFFD of
+/// a malformed sequence is not reported by itself.
 ///
 /// The error is what the choice or the visitor ended with (`Unfit`, `Log`, `Write`, `Memory`),
 /// `Input` if a read fails, or `TooLong` if the input has more than 2^48 bytes. It is not `Unfit`

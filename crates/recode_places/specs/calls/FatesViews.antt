@@ -31,7 +31,7 @@ abbrev pub AreKeptIfAsked : Option Target → List ℕ → Type 0
 AreKeptIfAsked None cs = Unit {0}
 AreKeptIfAsked (Some t) cs = AreAllKept t cs
 
--- this is told of a character: what its fate says, or that it is lost, if a log names it
+-- this is reported of a character: what its fate says, or that it is lost, if a log names it
 abbrev pub IsToldOf : Asked → ℕ → Option Finding → Type 0
 IsToldOf a c told = (told ≡ told_by_fate a c (fate_asked a.target c)) ⊎ ((a.has_log ≡ true) × (told ≡ Some (found.Lost c)))
 
@@ -47,6 +47,6 @@ abbrev pub AreAsFated : Asked → List Entry → Type 0
 AreAsFated a [] = Unit {0}
 AreAsFated a (e ∷ es) = IsAsFated a e.finding × AreAsFated a es
 
--- a visitor that says what it was told was told entries more that are as their fates say, and as much is asked as before
+-- a visitor that says which entries it was handed was handed more that are as their fates say, and as much is asked as before
 abbrev pub TellsFates : (asked asked' : Asked) → (told told' : Option (List Entry)) → Type 0
 TellsFates a a' told told' = (a' ≡ a) × IfSome told (λ es. (more : List Entry) × (told' ≡ Some (es ++ more)) × AreAsFated a more)

@@ -1,4 +1,4 @@
--- What a walk over an input does: calls of its decoder, and what they give is told.
+-- What a walk over an input does: calls of its decoder, and reports of what they give.
 use Rattle.std.specs.Prelude.{◌≡◌, ℕ, ◌+◌, ◌-◌, ◌<◌, ◌≤◌, nat_eq, Bool, true, false, Option, Some, None, List, [], ◌++◌, drop, length}
 use Rattle.encoding_mem.specs.Piece.{Piece, sizes, text}
 use Rattle.encoding_mem.specs.calls.Decoding.{DecoderState}
@@ -35,7 +35,7 @@ pub record HasPassed (w : WalkState) (ps : List Piece) : Type 0 where
   pub read : w.read ≡ sizes ps + w.decoder.pending
 
 -- A walk passed the next pieces of an input that goes on with these bytes, whatever follows them (nothing, if they are
--- the last), and told entries that are true of what was passed.
+-- the last), and handed over entries that are true of what was passed.
 pub record WalksOn (told told' : Option (List Entry)) (v w : WalkState) (bytes left : List ℕ) (last : Bool) : Type 0 where
   pub passed : List Piece
   pub rest : (r : List ℕ) → (last ≡ true → r ≡ []) → v.decoder.pieces (bytes ++ r) ≡ passed ++ w.decoder.pieces (left ++ r)
@@ -44,7 +44,7 @@ pub record WalksOn (told told' : Option (List Entry)) (v w : WalkState) (bytes l
   pub passes : (ps : List Piece) → HasPassed v ps → HasPassed w (ps ++ passed)
   pub tells : (ps : List Piece) → HasPassed v ps → TellsTrueIn (ps ++ passed) told told'
 
--- one call of the decoder, and what it gives is told
+-- one call of the decoder, and what it gives is reported
 pub record WalksPart (told told' : Option (List Entry)) (v w : WalkState) (chunk : List ℕ) (last : Bool) (read : ℕ) (is_done : Bool) : Type 0 where
   pub within : read ≤ length chunk
   pub walks : WalksOn told told' v w chunk (drop read chunk) last
@@ -61,7 +61,7 @@ pub record WalksChunk (told told' : Option (List Entry)) (v w : WalkState) (chun
   pub more : last ≡ false → w.finished ≡ false
   pub end : last ≡ true → w.decoder.pieces [] ≡ []
 
--- A walk told entries that are true of the input, whatever follows these bytes (nothing, if they are the last): of some
+-- A walk handed over entries that are true of the input, whatever follows these bytes (nothing, if they are the last): of some
 -- of its first pieces.
 pub record TellsPrefix (told told' : Option (List Entry)) (v : WalkState) (bytes : List ℕ) (last : Bool) : Type 0 where
   pub passed : List Piece
@@ -82,6 +82,6 @@ FitsAhead w left x = IsLeftOfLog (Fits w.place.index (w.read - w.decoder.pending
 abbrev pub found_ahead : Asked → WalkState → List ℕ → List Found
 found_ahead a w x = found_in a w.place.index (w.read - w.decoder.pending) (w.decoder.pieces x)
 
--- if no log is asked, a walk that had these bytes to pass, and now has those left, told what it found in between
+-- if no log is asked, a walk that had these bytes to pass, and now has those left, reported what it found in between
 abbrev pub TellsPassed : Asked → (v w : WalkState) (bytes left : List ℕ) (told told' : Option (List Entry)) → Type 0
 TellsPassed a v w bytes left told told' = TellsFound a (found_ahead a v bytes) (found_ahead a w left) told told'
