@@ -1,4 +1,4 @@
-//! The command line as clap is told of it, with the text of the help.
+//! The command line as clap is given it, with the text of the help.
 
 use clap::{Arg, ArgAction, Command};
 use recode_words::VERSION;

@@ -1,4 +1,4 @@
-//! Why nothing more is told.
+//! Why nothing more is printed.
 
 ghost use Rattle.std.specs.Prelude.{◌≤◌};
 
@@ -7,7 +7,7 @@ use recode_places::{Refusal, Stop};
 use std::alloc::AllocError;
 use thiserror::Error;
 
-// Why nothing more is told: what is said after the program's name.
+// Why nothing more is printed: what is said after the program's name.
 #[derive(Debug, Drop, Error)]
 pub(crate) enum Fault {
     #[error("a word is not UTF-8")]

@@ -16,7 +16,7 @@ use std::fs;
 use std::io::{BufWriter, Read, Write};
 use std::rt::Files;
 
-// The standard streams: the log on standard input, what is told on standard output.
+// The standard streams: the log on standard input, what is printed on standard output.
 #[derive(Drop)]
 pub(crate) struct Streams<L, W, M> {
     pub(crate) log: L,
@@ -26,7 +26,7 @@ pub(crate) struct Streams<L, W, M> {
     pub(crate) has_colour: bool,
 }
 
-// What is told, of which input, and where to.
+// What is printed, of which input, and where to.
 #[derive(Drop)]
 struct Job<'a, R, W: Write + Drop> {
     alloc: Global,
@@ -50,7 +50,7 @@ impl<'a, R: Read + Drop, W: Write + Drop> Job<'a, R, W> {
         }
     }
 
-    // Shows the places, and tells whether there are any.
+    // Shows the places, and returns whether there are any.
     fn show<L: Read>(self, tables: &Tables, choice: &mut Choice<'_, L>) -> Result<bool, Fault>
         requires { IsReady tables.now self.from }
     {
@@ -79,7 +79,7 @@ impl<'a, R: Read + Drop, W: Write + Drop> Job<'a, R, W> {
         Ok(report.count() > 0)
     }
 
-    // Shows what is lost and how often, and tells whether anything is.
+    // Shows what is lost and how often, and returns whether anything is.
     fn count<L: Read>(self, tables: &Tables, choice: &mut Choice<'_, L>) -> Result<bool, Fault>
         requires { IsReady tables.now self.from }
     {
@@ -116,7 +116,7 @@ fn encoding_of(alloc: Global, label: &str) -> Result<Encoding, Fault> {
     }
 }
 
-// Tells what the words ask for, and returns whether there was anything to tell.
+// Prints what the words ask for, and returns whether there was anything to print.
 fn run<F: Files, L: Read + Drop, W: Write + Drop>(
     alloc: Global,
     words: Words<'_>,
@@ -171,13 +171,13 @@ fn run<F: Files, L: Read + Drop, W: Write + Drop>(
     job.tell(&tables, &mut choice)
 }
 
-// Writes a text for a person. What can't be written is dropped: there is nobody else to tell.
+// Writes a text for a person. What can't be written is dropped: there is nowhere else to write it.
 fn say<W: Write>(writer: &mut W, text: &str) {
     let _ = writer.write_all(text.as_bytes());
     let _ = writer.flush();
 }
 
-// Tells why nothing more is told, and returns the exit status.
+// Prints why nothing more is printed, and returns the exit status.
 fn fail<M: Write>(messages: &mut M, fault: &Fault) -> u8
     ensures { result ≤ 4 }
 {

@@ -6,7 +6,7 @@ use clap::{ArgMatches, Command};
 use encoding_front::Mark;
 use std::alloc::{AllocError, Global};
 
-// What is to be told of which input.
+// What is to be printed of which input.
 #[derive(Clone, Copy, Debug)]
 pub(crate) struct Words<'a> {
     pub(crate) input: &'a str,

@@ -16,7 +16,7 @@ pub struct Counts {
     alloc: Global,
     table: BTreeMap<Loss, u64>,
     target: &'static str,
-    // Whether the malformed sequence whose bytes come next is told.
+    // Whether the malformed sequence whose bytes come next is reported.
     is_told: bool,
 }
 

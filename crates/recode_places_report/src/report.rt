@@ -1,4 +1,4 @@
-//! What is lost in an input, place by place, as a compiler tells errors.
+//! What is lost in an input, place by place, as a compiler reports errors.
 
 ghost use Rattle.std.specs.Prelude.{◌≤◌, None};
 ghost use Rattle.std.specs.VecDeque.{deque_len};
@@ -49,7 +49,7 @@ pub struct Report<W> {
     most: u64,
     has_colour: bool,
     count: u64,
-    // The place of the malformed sequence whose bytes come next, if it is told.
+    // The place of the malformed sequence whose bytes come next, if it is reported.
     place: Option<Place>,
     ring: Ring,
     waiting: VecDeque<Note>,
@@ -102,7 +102,7 @@ impl<W: Write + Drop> Report<W> {
         report
     }
 
-    /// How many places were told.
+    /// How many places were reported.
     pub fn count(&self) -> u64 {
         self.count
     }
@@ -196,7 +196,8 @@ impl<W: Write + Drop> Report<W> {
         self.show_waiting(true)
     }
 
-    /// Ends a report that an error has cut short: what was told is shown, and the writer flushed.
+    /// Ends a report that an error has cut short: the places so far are shown, and the writer
+    /// flushed.
     pub fn cut_short(&mut self) -> Result<(), Refusal> {
         self.end_text()?;
         flush(&mut self.writer)
