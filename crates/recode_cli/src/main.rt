@@ -1,5 +1,5 @@
-//! Recodes standard input to standard output, as the words of the command line ask, and tells on standard
-//! error what was lost.
+//! Recodes standard input to standard output, as the words of the command line ask, and reports on
+//! standard error what was lost.
 #![tactic(auto)]
 
 use recode_log::counted::Counted;
