@@ -35,11 +35,11 @@ use Rattle.test_examples.specs.declared.session_steps.SingleBytes.{SingleBytes}
 abbrev pub devices_before : Devices
 devices_before = record { reads = []; written = record { output = []; log = [] }; failures = record { reader = 0; writer = 0; log = 0 } }
 
--- a reader of these bytes, a writer and a log that hold none, by what they tell
+-- a reader of these bytes, a writer and a log that hold none, by what they say
 abbrev pub told_before : List ℕ → Told
 told_before x = record { input = Some x; output = Some []; log = Some [] }
 
--- a reader, a writer and a log, by what they tell
+-- a reader, a writer and a log, by what they say of their bytes
 abbrev pub told_of_steps : Counted SingleBytes → (writer log : Counted Keeper) → Told
 told_of_steps reader writer log = record { input = Some (inner_of reader).rest.now; output = Some (inner_of writer).bytes.items; log = Some (inner_of log).bytes.items }
 
@@ -101,7 +101,7 @@ one_more t t1 t2 j new v v' n answer is so_far stepped counted on goes_on next =
       };
     }
 
--- what devices that began with nothing tell
+-- what devices that began with nothing say
 module _ (j : Job) (x rest output log : List ℕ) (t' : Devices) (tells : TellWhatPassed devices_before t' (told_before x) (record { input = Some rest; output = Some output; log = Some log })) where
   is_output : output ≡ t'.written.output
   is_output = tells.output.held ∙ sym tells.output.took
@@ -139,7 +139,7 @@ module _ (j : Job) (x rest output log : List ℕ) (t' : Devices) (tells : TellWh
   pub gave_all : (p : Report) (characters : ℕ) → IsConverted devices_before.written t'.written j x p → characters ≡ length (input_text j x) → GaveAll j x output log characters p.faithful
   gave_all p characters converted counted = record { within = converted.whole.within; unstopped = converted.whole.unstopped; written = is_output ∙ converted.whole.output; logged = is_log ∙ converted.whole.logged; counted = counted; verdict = converted.report.faithful }
 
--- what a fault that ended them tells is true
+-- what a fault that ended them says is true
 pub told_fault : (j : Job) (x : List ℕ) (t' : Devices) (f : Fault) → Fails devices_before t' j f
     → (Fails devices_before t' j TooLong → j.limit < length x)
     → ((g : Fault) → Fails devices_before t' j g → WrotePrefix devices_before.written t'.written j.policy g (trace j x))

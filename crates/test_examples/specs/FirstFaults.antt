@@ -1,4 +1,4 @@
--- Where an input is first malformed, as a caller of a decoder tells it.
+-- Where an input is first malformed, as a caller of a decoder reports it.
 use Rattle.std.specs.Prelude.{◌≡◌, ℕ, ◌+◌, ◌<◌, List, ◌∷◌, ◌++◌, encode_utf8_all, length}
 use Rattle.encoding_mem.specs.Piece.{AreWellFormed, Piece, malformed, sizes, text}
 use Rattle.test_examples.specs.declared.first_faults.FirstFault.{FirstFault}
@@ -20,7 +20,7 @@ pub record IsCrowded (room : ℕ) (pieces : List Piece) : Type 0 where
   pub full : room < length (encode_utf8_all (text before)) + 4
   pub split : pieces ≡ before ++ after
 
--- what was told of the first malformed sequence, by a caller with so much room, is true of these pieces
+-- what was reported of the first malformed sequence, by a caller with so much room, is true of these pieces
 abbrev pub TellsFirstFault : (room : ℕ) → FirstFault → List Piece → Type 0
 TellsFirstFault room Absent pieces = AreWellFormed pieces
 TellsFirstFault room (At offset size) pieces = IsFirstMalformed offset size pieces

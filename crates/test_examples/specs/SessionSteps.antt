@@ -30,8 +30,8 @@ pub record GaveDecided (j : Job) (x : List ℕ) (steps : ℕ) (output log : List
   pub counted : characters ≡ length (text pieces)
   pub decided : WroteDecided (record { output = []; log = [] }) (record { output = output; log = log }) j read pieces
 
--- What a fault tells of an input is true: it is longer than the limit, or the policy stops, and this is its first lost
--- character. A failed call of a device tells nothing of it.
+-- What a fault says of an input is true: it is longer than the limit, or the policy stops, and this is its first lost
+-- character. A failed call of a device says nothing of it.
 abbrev pub TellsFault : Job → List ℕ → Fault → Type 0
 TellsFault j x Read = Unit {0}
 TellsFault j x Write = Unit {0}

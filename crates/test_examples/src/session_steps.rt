@@ -72,7 +72,7 @@ pub(crate) struct Gained {
 /// there were steps, and output and log have all that these bytes decide, however the input goes
 /// on, and the characters are those of that. So more steps than the input has bytes read all of it.
 ///
-/// A fault is one of a device, or tells of the input: that it is longer than the limit, or, if the
+/// A fault is one of a device, or says of the input that it is longer than the limit, or, if the
 /// policy stops, which is its first character without bytes.
 ///
 /// The conditions are tested by `Job::is_valid` and `Buffers::is_enough`.

@@ -189,8 +189,8 @@ fn ended_of(inserted: Result<(), TableFault>) -> anyhow::Result<Ended> {
     }
 }
 
-// Returns how a load ended. Memory that is refused to the tables is told apart from memory that is
-// refused to the reader of the text.
+// Returns how a load ended. Memory that is refused to the tables is distinguished from memory that
+// is refused to the reader of the text.
 fn ended_of_load(loaded: Result<(), LoadFault>) -> anyhow::Result<Ended> {
     match loaded {
         Ok(()) => Ok(Ended::Well),
