@@ -6,7 +6,7 @@
     >>> jillapun.convert("a¥b".encode(), "utf-8", "shift_jis")
     Converted(output=b'a\\\\b', losses=[], faithful=False)
 
-The second is what no count of losses tells: the yen sign is written as a byte that reads back as a backslash. The work
+The second is what no count of losses shows: the yen sign is written as a byte that reads back as a backslash. The work
 is done by a library that is proved, `libjillapun.so`; this package needs nothing else but the standard library.
 
 - `decode`, `encode`, `convert`: whole texts and inputs in memory.
@@ -15,8 +15,8 @@ is done by a library that is proved, `libjillapun.so`; this package needs nothin
 - `register`: codecs for Python's own `open`, `bytes.decode` and all else that is handed a name of an encoding.
 - `which`: how each encoding reads an input, without a guess.
 - `Indexes`: the indexes of encodings, from another folder than that of the installation. `name`, `output_name`: labels.
-- `part_encoding`: whether an input can be converted in parts, and as what. `join_losses`, `join_reports`: what is told
-  of the parts, as what is told of the whole.
+- `part_encoding`: whether an input can be converted in parts, and as what. `join_losses`, `join_reports`: losses and
+  reports of the parts, as those of the whole.
 
 A label that no encoding has raises `UnknownLabel`, which is a `LookupError`. Calls from several threads at once are
 made at once: Python's lock is let go while the library works, unless it decodes or encodes at most 1 KiB.

@@ -152,7 +152,7 @@ def main(arguments: Optional[List[str]] = None) -> int:
 
 def convert(arguments: List[str]) -> int:
     """The highest status of a file; 2 if a label is unknown or files would replace one another, 3 if the indexes are
-    not there, and 4 if nothing can be told or written."""
+    not there, and 4 if nothing can be printed or written."""
     words = words_of(arguments)
     try:
         jillapun.name(words.source), jillapun.name(words.target)

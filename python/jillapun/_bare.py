@@ -35,7 +35,7 @@ decode_short, encode_short = _export(_locked, "jillapun_decode"), _export(_locke
 convert_all = _export(c.library, "jillapun_convert")
 
 # The characters that an encoding writes as bytes that read back as another, by the standard's indexes. `encode_short` does
-# not tell of them, but `convert_all` does.
+# not report them, but `convert_all` does.
 FOLDED = {
     "Shift_JIS": "\xa5\u203e\u2212",
     "EUC-JP": "\xa5\u203e\u2212",
@@ -61,8 +61,8 @@ def decoding(encoding: str, mark: str, indexes: Optional[Indexes]) -> Tuple[Any,
 
 @lru_cache(maxsize=1 << 8)
 def encoding_to(encoding: str, unmappable: str, indexes: Optional[Indexes]) -> Tuple[Any, ...]:
-    """The first arguments of `encode_short`, and what finds a character that it does not tell of, if there is one. By other
-    indexes than the standard's each text may have one."""
+    """The first arguments of `encode_short`, and what finds a character that it does not report, if there is one. By
+    other indexes than the standard's each text may have one."""
     number, _ = number_of(encoding), c.POLICIES[unmappable]
     folded = FOLDED.get(name_of(number))
     if folded is not None:

@@ -49,7 +49,7 @@ def _cut(line: str) -> str:
 
 
 def _by_readings(found: Which, most: int, lines: int) -> Iterable[str]:
-    """The lines that tell of a file, but for the first."""
+    """The lines on a file, but for the first."""
     yield "malformed  encodings"
     for reading in found.readings:
         yield "%9d  %s" % (reading.bad, ", ".join(reading.encodings))

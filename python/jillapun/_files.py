@@ -176,7 +176,7 @@ class _Place:
 def _put_all(
     conversion: Conversion, losses: Losses, given: BinaryIO, made: BinaryIO, progress: Optional[Callable[[int], object]]
 ) -> Report:
-    """Converts a file to its end, and returns what is told of it."""
+    """Converts a file to its end, and returns the report on it."""
     read = 0
     while not conversion.report:
         data = chunk_of(given)
@@ -265,9 +265,9 @@ def convert_file(
     What is lost is counted, and handed to `on_loss` as it comes, a `Bad` or a `Lost`, in the order of the text; the
     first `keep_losses` of them are kept. `progress` is called after each chunk, with how many bytes have been read.
 
-    `processes` is how many processors may work at once: so many threads each convert a part of 2 MiB or more. The
-    output, what is told of losses, and the result are those of one. An input is one part if it is no regular file, if
-    it is in UTF-16, ISO-2022-JP or replacement, or if the output is in ISO-2022-JP.
+    `processes` is how many processors may work at once: so many threads each convert a part of 2 MiB or more. Output,
+    losses and result are those of one. An input is one part if it is no regular file, if it is in UTF-16, ISO-2022-JP
+    or replacement, or if the output is in ISO-2022-JP.
 
     Raises what `convert` does, `OSError`, and what `on_loss` or `progress` raise. After an exception the target is as
     it was; a `Stopped` has no output."""

@@ -52,7 +52,7 @@ def part_encoding(head: bytes, source: str, target: str, *, mark: str = "sniff")
     """The name of the encoding that each part of an input but the first is converted from, with `mark="keep"`, or `None`
     if the input can't be cut. It is cut behind bytes below 30, hexadecimal, as a line feed is. `head` is how it begins:
     three bytes or more, or all that it has. The first part is converted as the whole would be. `join_losses` and
-    `join_reports` join what is told of the parts."""
+    `join_reports` join losses and reports of the parts."""
     words = number_of(source), number_of(target), c.MARKS[mark], head, len(head)
     number: int = c.streams().jillapun_part_encoding(*words)
     return None if number == c.NO_ENCODING else name_of(number)

@@ -1,5 +1,5 @@
-"""What is told of the parts of an input, joined to what is told of the whole. The library adds, and its sums are proved;
-that they are of the whole is the law of parts (docs/PROOFS.md, *Parts are the whole*)."""
+"""Losses and reports of the parts of an input, joined to those of the whole. The library adds, and its sums are proved;
+by the law of parts they are of the whole (docs/PROOFS.md, *Parts are the whole*)."""
 
 import ctypes
 from typing import Iterable, List
@@ -10,7 +10,7 @@ from ._results import Bad, Loss, Lost, Report
 
 def join_losses(before: Report, losses: Iterable[Loss]) -> List[Loss]:
     """The losses of a part, which count from its start, as losses of the whole input: the bytes of what stands before the
-    part are added to the offset of a `Bad`, its characters to the index of a `Lost`. `before` is what is told of all
+    part are added to the offset of a `Bad`, its characters to the index of a `Lost`. `before` is the report on all
     parts before it (`join_reports`); before the first it is `Report()`.
 
     Raises `OverflowError` if a number is below 0, or a sum 2^64 or more, which is so of no conversion."""
@@ -25,7 +25,7 @@ def join_losses(before: Report, losses: Iterable[Loss]) -> List[Loss]:
 
 
 def join_reports(before: Report, part: Report) -> Report:
-    """What is told of a part, added to what is told of all parts before it, which is `Report()` before the first.
+    """The report on a part, added to that on all parts before it, which is `Report()` before the first.
     `faithful` is true if it is true of both.
 
     Raises `OverflowError` if a number is below 0, or a sum 2^64 or more, which is so of no conversion."""

@@ -80,11 +80,11 @@ class _Block(Losses):
 
 
 class _Parts:
-    """The parts of a file: how it is cut, and what is told of those that were joined so far."""
+    """The parts of a file: how it is cut, and the report on those that were joined so far."""
 
     def __init__(self, first: Job, later: Job, given: io.BufferedReader):
         self._first, self._later, self._given = first, later, given
-        # What is told of the parts that were joined to their ends.
+        # The report on the parts that were joined to their ends.
         self.report = Report()
 
     def blocks(self) -> Iterator[_Block]:
@@ -143,7 +143,7 @@ def put_parts(
     processes: int,
     progress: Optional[Callable[[int], object]],
 ) -> Report:
-    """Converts a file to its end, so many parts at a time, and returns what is told of it. The jobs are those of the
+    """Converts a file to its end, so many parts at a time, and returns the report on it. The jobs are those of the
     first part and of the others."""
     pool, read = ThreadPoolExecutor(processes), 0
     parts = _Parts(*jobs, given)

@@ -75,7 +75,7 @@ class ConvertedPart(NamedTuple):
 
 
 class Report(NamedTuple):
-    """What is told of a stream that was converted to its end. `Report()` tells of no bytes."""
+    """What is reported of a stream that was converted to its end. `Report()` is that of no bytes."""
 
     read: int = 0
     """How many bytes were read."""
@@ -99,7 +99,7 @@ class Report(NamedTuple):
 
 
 class ConvertedFile(NamedTuple):
-    """What is told of a file that was converted: the members of its `Report`, and what was kept of its losses."""
+    """What is reported of a file that was converted: the members of its `Report`, and what was kept of its losses."""
 
     read: int
     bad: int
@@ -152,7 +152,7 @@ class NotReplaced(JillapunError):
         remedy = "lossy=True replaces it all the same, and backup=SUFFIX keeps the original"
         super().__init__("left as it was (%s): %s" % (done.summary, remedy))
         self.done = done
-        """What is told of the conversion."""
+        """What is reported of the conversion."""
 
 
 def losses_in(records: bytes, offset: int = 0, index: int = 0) -> Iterator[Loss]:
@@ -182,7 +182,7 @@ class Losses:
                 self._on_loss(loss)
 
     def end(self, done: ConvertedFile) -> None:
-        """Is told of a file that was converted, before its output is put in its place."""
+        """Is called once a file is converted, before its output is put in its place."""
 
     def up_to(self, last: Lost) -> List[Loss]:
         """What was kept, and the last loss, if it was not."""

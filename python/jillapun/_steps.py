@@ -32,7 +32,7 @@ class Conversion:
         with self._lock:
             if self.is_over:
                 raise ValueError("the stream has ended")
-            # A callback may call again, and is told that the stream has ended.
+            # A callback may call again: the error is then that the stream has ended.
             self.is_over = True
             status, output = self._steps(data, last, losses)
             self._end(status, output, losses)
@@ -56,7 +56,7 @@ class Conversion:
         return status, b"".join(parts)
 
     def _end(self, status: int, output: bytes, losses: Losses) -> None:
-        """Keeps what is told at the end of the input, or raises what the status says if the conversion ended before."""
+        """Keeps the report at the end of the input, or raises what the status says if the conversion ended before."""
         told = self._told
         if status in (c.OK, c.LOSSY):
             self.report = Report(told.read, told.bad, told.lost, status == c.OK, told.characters)

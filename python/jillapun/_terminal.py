@@ -1,4 +1,4 @@
-"""What the command line tells: lines of standard output, complaints, and how far it is."""
+"""What the command line prints: lines of standard output, complaints, and how far it is."""
 
 import argparse
 import contextlib
@@ -10,7 +10,7 @@ from ._names import shown
 
 
 class Unsaid(Exception):
-    """Standard output takes no more: what is lost can't be told."""
+    """Standard output takes no more: what is lost can't be printed."""
 
 
 def complain(words: str) -> None:
@@ -28,8 +28,8 @@ class Parser(argparse.ArgumentParser):
 
 
 class Terminal:
-    """What is told as files are read: lines on standard output, and, in the last line of a terminal, which file is read,
-    and how far."""
+    """What is printed as files are read: lines on standard output, and, in the last line of a terminal, which file is
+    read, and how far."""
 
     def __init__(self, count: int):
         self.count, self.done, self.line = count, 0, ""
@@ -53,7 +53,7 @@ class Terminal:
         self.line = line
 
     def tell(self, lines: str) -> None:
-        """Writes lines to standard output at once, so that what is lost is told before a file is replaced."""
+        """Writes lines to standard output at once, so that what is lost is printed before a file is replaced."""
         self.clear()
         try:
             sys.stdout.write(lines)

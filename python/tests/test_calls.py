@@ -147,7 +147,7 @@ class Files(unittest.TestCase):
         self.assertRaises(ValueError, file.write, "日")
 
     def test_what_could_not_be_made_says_no_more(self) -> None:
-        """Python closes it, and would tell of what that raises."""
+        """Python closes it, and would print what that raises."""
         files = "import io, jillapun\nfor kind in (jillapun.Reader, jillapun.Writer):\n"
         files += "    try: kind(io.BytesIO(), 'none')\n    except LookupError: print('unknown')\n"
         environment = {**os.environ, "PYTHONPATH": os.path.join(cases.TOP, "python")}
@@ -355,8 +355,8 @@ class Short(unittest.TestCase):
     ENCODINGS = sorted({jillapun.name(label) for label in LABELS})
 
     def test_verdict(self) -> None:
-        """Where all that has bytes is told to read back, it does: each character of the standard's indexes by itself, and
-        all, by parts, with what comes before."""
+        """Where all that has bytes is said to read back, it does: each character of the standard's indexes by itself,
+        and all, by parts, with what comes before."""
         for name in self.ENCODINGS:
             folded = jillapun._bare.encoding_to(name, "decimal", None)[3]
             text = "".join(character for character in self.characters(name) if not (folded and folded(character)))

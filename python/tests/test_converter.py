@@ -169,7 +169,7 @@ class Calls(unittest.TestCase):
         self.assertEqual(converter.report, (5, 2, 3, False, 4))
 
     def test_the_end(self) -> None:
-        """The verdict can be that something is lost where nothing was told; and after the end there is no more."""
+        """The verdict can be that something is lost where no loss was reported; and after the end there is no more."""
         rows = ("a", True, "nothing was lost"), ("¥", False, "some characters do not read back")
         for text, is_faithful, words in rows:
             converter = jillapun.Converter("utf-8", "shift_jis")
@@ -199,7 +199,7 @@ class Calls(unittest.TestCase):
         self.assertEqual(converter.report, (7, 0, 0, True, 7))
 
     def test_threads(self) -> None:
-        """Each loss is told to one of the calls, and each byte is written by one."""
+        """Each loss is returned by one of the calls, and each byte is written by one."""
         converter, made = jillapun.Converter("utf-8", "windows-1252"), []
 
         def work() -> None:

@@ -71,7 +71,7 @@ class InPlace(Folder):
         self.holds(a=GOOD_MADE)
 
     def test_something_would_be_lost(self) -> None:
-        """The file stays, and what is lost was told."""
+        """The file stays, and what is lost was reported."""
         self.put("a", BAD + GOOD)
         told = []
         with self.assertRaisesRegex(jillapun.NotReplaced, "malformed sequences: 1, characters without bytes: 1") as it:
@@ -81,7 +81,7 @@ class InPlace(Folder):
         self.holds(a=BAD + GOOD)
 
     def test_characters_that_do_not_read_back(self) -> None:
-        """No loss is told of them, and still the file stays."""
+        """No loss is reported of them, and still the file stays."""
         self.put("a", "1¥".encode())
         with self.assertRaisesRegex(jillapun.NotReplaced, "some characters do not read back"):
             jillapun.convert_file(self.path, self.path, "utf-8", "shift_jis")

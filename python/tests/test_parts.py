@@ -69,7 +69,7 @@ def input_of(chance: random.Random, source: str) -> bytes:
 
 class Parts(Folder):
     def found(self, *words: str, processes: int = 1, part: int = 1, **options: Any) -> Tuple[Any, ...]:
-        """The result or the exception of a conversion of the file `a`, the losses that were told, and the output."""
+        """The result or the exception of a conversion of the file `a`, the losses as they came, and the output."""
         told: List[jillapun._results.Loss] = []
         read: List[int] = []
         try:
@@ -230,7 +230,7 @@ class Parts(Folder):
         self.holds(a=BAD * 1000)
 
     def test_reading_that_fails(self) -> None:
-        """After two parts, of 26 bytes: what they lose is told, and then what failed."""
+        """After two parts, of 26 bytes: what they lose is handed over, and then what failed is raised."""
         self.put("a", BAD * 100)
         all_told = self.found("utf-8", "windows-1252")[1]
         found = _parts._FIND_CUT(BAD)

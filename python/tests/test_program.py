@@ -255,7 +255,7 @@ class Streams(Programs):
     """Standard output and standard error, as the system hands them to a process."""
 
     def test_standard_output_fails(self) -> None:
-        """What cannot be told is not lost."""
+        """What cannot be printed is not lost."""
         self.put("a", BAD), self.put("b", GOOD)
         command = [*COMMAND, "--lossy", self.path, self.at("b")]
         with open("/dev/full", "wb") as full:
@@ -276,7 +276,7 @@ class Streams(Programs):
         self.holds(a=BAD, b=GOOD)
 
     def test_standard_output_fails_at_the_end(self) -> None:
-        """What no line of a loss tells is told before the file is replaced, too."""
+        """What no line of a loss says is printed before the file is replaced, too."""
         self.put("a", "¥".encode())
         with open("/dev/full", "wb") as full:
             command = [*COMMAND, "--to", "shift_jis", "--lossy", self.path]
@@ -315,7 +315,7 @@ class Streams(Programs):
         self.assertEqual((ran.returncode, ran.stderr), (4, b"/dev/stdin: Not a regular file\n"))
 
     def in_the_middle(self, number: int) -> Tuple[int, bytes]:
-        """The status of the program that a signal meets while it waits to tell more, and what it leaves to standard
+        """The status of the program that a signal meets while it waits to print more, and what it leaves to standard
         error."""
 
         def heed() -> None:

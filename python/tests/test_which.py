@@ -109,7 +109,7 @@ class Facts(Folder):
             self.assertEqual(self.lines(data, name)[1][-1][-2:], "日本")
 
     def test_long_lines(self) -> None:
-        """A part of a line, from a little before the first byte that tells."""
+        """A part of a line, from a little before the first byte that decides."""
         data = b"x" * 100000 + "é".encode() + b"y" * 100000
         line, (text,) = self.lines(data, "UTF-8")
         self.assertEqual((line, text[:257]), (1, "x" * 256 + "é"))
