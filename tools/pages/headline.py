@@ -67,12 +67,12 @@ CHAIN = """
 """
 
 TRUSTED = """
-- The prover, its standard library and its two compilers; the system, and that the installed program is what they made of these sources. That a call of a stream passes what it says, and no more than it has room for: so std's contracts of `Read` and `Write` promise. What becomes of bytes after the call and the flush that passed them, as at the closing of a file.
+- The prover, its standard library and its two compilers; the system, and that the installed program is what they made of these sources. A call of a stream passes what it says, and no more than it has room for: so std's contracts of `Read` and `Write` promise. What becomes of bytes after the call and the flush that passed them, as at the closing of a file.
 - `Recorded` of `recode_log`: that each of its three methods calls the device once and puts into the history what the device answered. Its lines are few ([recorded.rt](../crates/recode_log/src/recorded.rt)); tests with devices that count their calls try them. `run` has no other way to a device, of which it knows no more than that it is a reader or a writer. The prover's own proofs cannot choose another history; a proof by hand could, and `make lint` keeps the list of those that there are: none is of a function that holds a device.
 - `main` of `recode_cli`, a few lines with no contract.
-- That these definitions say what the Encoding Standard says, and, of what it does not speak (sizes and offsets of malformed sequences, the log, the verdict), what is meant. They are executed: `make definitions` compares them with a plain program that follows the steps of the standard, the pieces of every input of up to two bytes in each of the 40 encodings, longer ones at random, what is written for every scalar value, whole jobs with output, log and verdict, and `Completes` itself on outcomes that are right and on outcomes that are wrong in one place. A whole run compared 46,409,625 values, of which none differs (on 6a2601b0; the definitions are the same); the gate does a sample. Rows worked by hand stand in `specs/examples` of each crate. `Fails`, `CountsFault` and `RunCalls` are not executed; tests in which each call fails in turn (`test_recode_cases`) have runs with values by hand.
-- That the indexes are those of the standard: they were accepted (`IsValidJob`), and are what their files say.
-- That this page is what the prover has proved: `tools/pages/headline.py` copies the clauses and the definitions from the sources, but for what it only lists, with places: the catalogue, and the words beside `work` and the laws. What stands in sentences, as in the table below, is written by hand. `make lint` compares it.
+- These definitions: they say what the Encoding Standard says, and, of what it does not speak (sizes and offsets of malformed sequences, the log, the verdict), what is meant. They are also run: `make definitions` compares them with a plain program that follows the steps of the standard, the pieces of every input of up to two bytes in each of the 40 encodings, longer ones at random, what is written for every scalar value, whole jobs with output, log and verdict, and `Completes` itself on outcomes that are right and on outcomes that are wrong in one place. A whole run compared 46,409,625 values, of which none differs (on 6a2601b0; the definitions are the same); the gate does a sample. Rows worked by hand stand in `specs/examples` of each crate. `Fails`, `CountsFault` and `RunCalls` are not executed; tests in which each call fails in turn (`test_recode_cases`) have runs with values by hand.
+- The indexes: they are those of the standard. They were accepted (`IsValidJob`), and are what their files say.
+- This page: it says what the prover has proved. `tools/pages/headline.py` copies the clauses and the definitions from the sources, but for what it only lists, with places: the catalogue, and the words beside `work` and the laws. What stands in sentences, as in the table below, is written by hand. `make lint` compares it.
 """
 
 HOW_TO_READ = """
@@ -96,7 +96,7 @@ HOW_TO_READ = """
 - Of the program they leave open: which texts help, version and list are, and those of messages of a refusal or a failed start (a clause says that one was written, whole or up to a failed write); whether the start fails: status 3 may come for any words, since memory may be refused; which of its two flushes `convert` makes first, and in how many writes a message goes out; words that are not text; signals, as SIGPIPE. `IsConversion`, `Converts` and `AnswersProgram`, and the clauses of `Converter`, steps, codecs, labels and the loader of tables, are not on this page: see [CODECS.md](CODECS.md), [PROOFS.md](PROOFS.md), and [LIMITS.md](LIMITS.md) for what they leave open.
 """
 
-WORK = ", on the work: the number of calls of decoders and encoders that a report has is bounded from below and from above. That this number is the number of calls is read off the code, in which each call counts itself"
+WORK = ", on the work: the number of calls of decoders and encoders that a report has is bounded from below and from above. A reading of the code, in which each call counts itself, shows that this number is the number of calls"
 
 
 def clause(crate, function, name, kind="ensures"):
@@ -208,7 +208,7 @@ def page():
     lines = ["# The headline", "", "<!-- Written by tools/pages/headline.py from the sources; do not edit. -->", "", "## The theorem", THEOREM.rstrip("\n"), ""]
     lines += ["## In the prover's words", "", "Of `recode::run` ([%s](../%s)), if these conditions hold:" % (place, place.replace(":", "#L")), ""]
     lines += ["    " + line for line in premises] + ["", "it promises these (and, not shown here, the bound on the work, which stands below, that each buffer keeps its size and the pivots their form, and what devices say of their bytes):", ""] + ["    " + line for line in clauses] + [""]
-    lines += ["This stands on %d definitions, %d lines, in %d files; with what the conditions stand on, on %d definitions, %d lines, in %d files; and on %d words of the standard library. That it returns is the prover's check of each function." % (count(seen) + count(all_seen) + (len(library),)), ""]
+    lines += ["This stands on %d definitions, %d lines, in %d files; with what the conditions stand on, on %d definitions, %d lines, in %d files; and on %d words of the standard library. The prover checks of each function that it returns." % (count(seen) + count(all_seen) + (len(library),)), ""]
     lines += ["## How to read it", HOW_TO_READ.rstrip("\n"), "", "## What is trusted", TRUSTED.rstrip("\n"), ""]
     lines += ["## From the theorem to the program", CHAIN.rstrip("\n"), ""]
     lines += ["## The definitions, down to pieces and coding", ""] + list(source(all_seen))
