@@ -4,6 +4,7 @@ pub mod DestinationLemmas
 pub mod Utf8PieceLemmas
 pub mod AsciiLemmas
 pub mod EncoderCallLemmas
+pub mod CharacterLemmas
 pub mod UnitsTextLemmas
 pub mod Utf16Lemmas
 pub mod UnitRunLemmas

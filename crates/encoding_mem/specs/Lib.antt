@@ -5,6 +5,7 @@ pub mod Decided
 pub mod Parts
 pub mod Coding
 pub mod Items
+pub mod Characters
 pub mod Utf8
 pub mod MaximalSubparts
 pub mod Stateless

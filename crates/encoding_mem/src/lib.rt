@@ -79,8 +79,8 @@ pub use mem::utf8_conversions::{
 pub use mem::utf16_conversions::{convert_utf16_to_utf8, convert_utf16_to_utf8_partial};
 pub use mem::validity::{ensure_utf16_validity, utf8_valid_up_to, utf16_valid_up_to};
 pub use mem::{
-    ascii, ascii_copies, ascii_text, bidi, first, latin1, latin1_conversions, latin1_texts,
-    text_destinations, units_text, utf8_conversions, utf16_conversions, validity,
+    ascii, ascii_copies, ascii_text, bidi, character_counts, first, latin1, latin1_conversions,
+    latin1_texts, text_destinations, utf8_conversions, utf16_conversions, validity,
 };
 pub use utf8::decoder::Utf8Decoder;
 pub use utf8::encoder as utf8_encoder;

@@ -1,6 +1,5 @@
 -- What calls and layers promise one another: a reader of the theorems need not read it.
 pub mod Buffers
-pub mod Character
 pub mod Chunk
 pub mod CodecCalls
 pub mod Held

@@ -2,7 +2,7 @@
 
 ghost use Rattle.std.specs.Prelude.{◌≤◌, ◌≡◌, ◌↔◌, ℕ, ◌++◌, ◌+◌, ◌-◌, IsTrue, List};
 ghost use Rattle.std.specs.Prelude.{MatchOption, [], ◌∷◌};
-ghost use Rattle.std.specs.Prelude.{count_by, drop, encode_utf8_all, false, length, take, true};
+ghost use Rattle.std.specs.Prelude.{drop, encode_utf8_all, false, length, take, true};
 ghost use Rattle.std.specs.Str.{all_scalars, chars};
 ghost use Rattle.encoding_mem.specs.calls.Decoding.{StateLaw};
 ghost use Rattle.encoding_mem.specs.calls.EncoderRule.{EncoderCall, WritesBytes};
@@ -10,7 +10,6 @@ ghost use Rattle.encoding_mem.specs.calls.Writing.{Adds, encode_utf16_all};
 ghost use Rattle.encoding_front.specs.calls.DecoderCall.{DecoderCall, free_bytes, free_units};
 ghost use Rattle.encoding_front.specs.calls.Stream.{finishes};
 ghost use Rattle.recode.specs.calls.Buffers.{HoldsAnyCharacter, KeepsRoom, is_wide};
-ghost use Rattle.recode.specs.calls.Character.{begins_character};
 ghost use Rattle.recode.specs.calls.CodecCalls.{DecodeCallEndsWith};
 ghost use Rattle.recode.specs.Work.{IsCounted};
 ghost use Rattle.recode.specs.calls.EngineView.{HoldsBetween, chars_between};
@@ -20,12 +19,11 @@ ghost use Rattle.recode.specs.calls.PivotText.{IsLeftBehind, IsWholeText, is_in_
 
 use crate::job::Pivot;
 use encoding_front::StreamDecoder;
+use encoding_mem::character_counts::{count_characters, count_in_units};
 use encoding_mem::sink::Sink;
-use encoding_mem::units_text::count_in_units;
 use encoding_mem::utf8_sink::Utf8Sink;
 use encoding_mem::utf16_sink::Utf16Sink;
 use encoding_mem::{DecoderResult, EncoderResult, RawEncoder};
-use std::simd::prelude::*;
 
 // The form is chosen when the program runs. An enum keeps it in this file, so that all above speaks
 // of text and is proved once. With a trait in its place the engine would be generic over the form.
@@ -299,47 +297,4 @@ pub fn encode_from_pivot<'p, E: RawEncoder>(
             }
         }
     }
-}
-
-/// How many characters a text has.
-pub fn count_characters(text: &str) -> usize
-    ensures { result ≡ length (chars text.now) }
-{
-    count_beginnings(text.as_bytes())
-}
-
-// How many bytes are looked at together.
-const LANES: usize = 64;
-
-// How many bytes of a vector begin a character: all of them if it is ASCII.
-#[inline(always)]
-fn beginnings_in(block: u8x64) -> usize
-    ensures { result ≡ count_by begins_character block }
-{
-    let others = block.simd_ge(u8x64::splat(0x80)).to_bitmask();
-    if others == 0 {
-        return LANES;
-    }
-    let leads = block.simd_ge(u8x64::splat(0xC0)).to_bitmask();
-    LANES - others.count_ones() as usize + leads.count_ones() as usize
-}
-
-// How many bytes begin a character, one by one.
-fn count_singly(bytes: &[u8]) -> usize
-    ensures { result ≡ count_by begins_character bytes.now }
-{
-    bytes.iter().filter(|b| **b < 0x80 || **b >= 0xC0).count()
-}
-
-// How many bytes begin a character, by vectors and then one by one.
-fn count_beginnings(bytes: &[u8]) -> usize
-    ensures { result ≡ count_by begins_character bytes.now }
-{
-    let mut at = 0;
-    let mut count = 0;
-    'vectors: while bytes.len() - at >= LANES {
-        count += beginnings_in(u8x64::from_slice(&bytes[at..]));
-        at += LANES;
-    }
-    count + count_singly(&bytes[at..])
 }

@@ -160,8 +160,8 @@ pub fn put_all(dst: &mut [u8], at: usize, bytes: &[u8]) -> usize
     end
 }
 
-// The same for the few bytes of an escape or of a character: if the compiler knows how many there
-// are, it makes one store of them.
+// Copies the few bytes of an escape or of a character to the offset `at`, and returns the offset
+// after them. If the compiler knows how many there are, it makes one store of them.
 #[inline(always)]
 fn put(dst: &mut [u8], at: usize, bytes: &[u8]) -> usize
     requires { at + length bytes.now ≤ length dst.old }

@@ -40,8 +40,8 @@ pub fn is_char_bidi(c: char) -> bool
     }
 }
 
-// The same of a character below U+10000. Most are below the first of them, or between the controls
-// and the presentation forms: two tests are enough for these.
+// Whether a character below U+10000 may be written from right to left. Most are below U+0590, or
+// between the controls and the presentation forms: two tests are enough for these.
 #[inline(always)]
 fn is_code_bidi(code: u32) -> bool
     ensures { result ≡ is_bidi_bmp code }
@@ -172,7 +172,8 @@ fn any_bidi_in(units: &[u16]) -> bool
     any
 }
 
-// The same, for units that may be all below the Hebrew block: that is tested first.
+// Whether a unit may be of a character that is written from right to left, for units that may be all
+// below the Hebrew block: whether they are is tested first.
 #[inline(always)]
 fn any_bidi_in_rest(units: &[u16]) -> bool
     ensures { result ≡ list_any is_bidi_unit units.now }

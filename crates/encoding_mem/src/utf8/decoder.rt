@@ -87,7 +87,7 @@ fn text_at_start(bytes: &[u8]) -> &str
 {
     let few = text_window(bytes, FEW);
     let text = valid_prefix(few);
-    if text.len() < few.len() {
+    if text.len() < few.len() || bytes.len() <= FEW {
         text
     } else {
         valid_prefix(text_window(bytes, MANY))

@@ -5,8 +5,8 @@ use mir.Syntax.{w8}
 use Rattle.std.proofs.lemmas.List.Sums.{count_by-le-length}
 use Rattle.std.proofs.lemmas.Simd.{ones-mask_l}
 use Rattle.encoding_mem.proofs.AsciiLemmas.{bitmask_splat_left}
-use Rattle.recode.proofs.CodecCallLemmas.{counted_by_leads, leads_are_others}
-use Rattle.recode.proofs.codec_calls.beginnings_in.Goals as goal
+use Rattle.encoding_mem.proofs.CharacterLemmas.{counted_by_leads, leads_are_others}
+use Rattle.encoding_mem.proofs.mem.character_counts.beginnings_in.Goals as goal
 
 pub returns-then-others-eq0 : goal.returns-then-others-eq0
 unfolding count_ones

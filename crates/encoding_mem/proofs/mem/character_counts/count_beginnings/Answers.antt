@@ -1,6 +1,6 @@
 use Rattle.std.proofs.Common.{rules, ◌+◌, sym, ◌∙◌, arith}
-use Rattle.recode.proofs.CodecCallLemmas.{all_counted, counted_few, more_counted}
-use Rattle.recode.proofs.codec_calls.count_beginnings.Goals as goal
+use Rattle.encoding_mem.proofs.CharacterLemmas.{all_counted, counted_few, more_counted}
+use Rattle.encoding_mem.proofs.mem.character_counts.count_beginnings.Goals as goal
 
 pub overflow_add-count : goal.overflow_add-count
 overflow_add-count c =

@@ -1,7 +1,7 @@
 use Rattle.std.proofs.Common.{◌+◌, length, arith, ap}
 use Rattle.std.proofs.lemmas.List.{take_rest, length-drop}
 use Rattle.encoding_mem.proofs.UnitsTextLemmas.{counted, some_units}
-use Rattle.encoding_mem.proofs.mem.units_text.count_in_units.Goals as goal
+use Rattle.encoding_mem.proofs.mem.character_counts.count_in_units.Goals as goal
 
 pub characters-preserved : goal.characters-preserved
 characters-preserved c =

@@ -1,7 +1,7 @@
 use Rattle.std.proofs.Common.{◌≡◌, ◌≤◌, ◌-◌, length, take}
 use Rattle.std.specs.List.{count_by}
-use Rattle.recode.specs.calls.Character.{begins_character}
-use Rattle.recode.proofs.codec_calls.count_beginnings.Given as goal
+use Rattle.encoding_mem.specs.Characters.{begins_character}
+use Rattle.encoding_mem.proofs.mem.character_counts.count_beginnings.Given as goal
 
 abbrev pub invariant-vectors : goal.invariant-vectors
 invariant-vectors l = record {
