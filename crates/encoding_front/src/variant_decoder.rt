@@ -128,7 +128,7 @@ impl<'t> VariantDecoder<'t> {
         }
     }
 
-    // The call `decode_into`. The rule stays as it is.
+    // Decodes the source: the call `decode_into`, with a clause more, that the rule stays as it is.
     fn decode_on<S: Sink>(&mut self, src: &[u8], sink: &mut S, last: bool) -> (DecoderResult, usize)
         ensures call { StateCall (state_of self.old) (state_of self.new) src.now last result.1
             (λ text. S.writes sink.old text sink.new)
@@ -170,7 +170,8 @@ impl<'t> VariantDecoder<'t> {
         }
     }
 
-    /// The call `resume`. The rule stays as it is.
+    /// Goes on from what was saved: the call `resume`, with a clause more, that the rule stays as it
+    /// is.
     pub(crate) fn resume_on(&mut self, saved: SavedPieces)
         requires { HoldsFew (resumed_of self.old saved.mode (saved_pending saved)) }
         ensures same { reading_of (state_of self.new)

@@ -4,7 +4,7 @@
 
 // Written by tools/generate_encodings.py from tools/encodings.toml; do not edit.
 
-ghost use Rattle.std.specs.Prelude.{◌≡◌, ℕ};
+ghost use Rattle.std.specs.Prelude.{◌≡◌};
 ghost use Rattle.encoding_labels.specs.laws.ByLength.{entries, labels_of_length};
 
 use crate::places::{

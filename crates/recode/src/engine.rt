@@ -1,9 +1,7 @@
 //! The engine of a conversion: bytes of one encoding to bytes of another, by a decoder and an
 //! encoder, over a pivot that is lent. It calls no device.
 
-use crate::codec_calls::{
-    PivotText, decode_to_pivot, encode_from_pivot, text_between, write_replacement,
-};
+use crate::codec_calls::{decode_to_pivot, encode_from_pivot, text_between, write_replacement};
 use crate::converter::ConverterResult;
 use crate::counts::Counts;
 use crate::job::{Job, Pivot, Report};

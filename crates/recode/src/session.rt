@@ -20,7 +20,7 @@ ghost use Rattle.recode.specs.Work.{ReportsFewCalls};
 
 use crate::chunk::write_chunk;
 use crate::engine::Engine;
-use crate::job::{Buffers, Fault, Job, Pivot, Progress, Report};
+use crate::job::{Buffers, Fault, Job, Progress, Report};
 use crate::writers::Writers;
 use encoding_front::{Decoder, StreamDecoder, VariantEncoder};
 use encoding_mem::RawEncoder;

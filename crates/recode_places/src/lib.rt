@@ -8,18 +8,18 @@
 //! # Use
 //!
 //!     let tables = Tables::new(alloc);
-//!     let source = Source {
+//!     let reading = Reading {
 //!         from: Encoding::Utf8,
 //!         mark: Mark::Sniff,
 //!         tables: &tables,
 //!     };
-//!     if !source.from.is_ready(&tables) {
+//!     if !reading.from.is_ready(&tables) {
 //!         return Ok(false);
 //!     }
 //!     let mut input = b"one\nt\xFFo".as_slice();
 //!     let mut choice = Choice::of_log(LogMatch::new(b"bad 5 1\n".as_slice())?);
 //!     let mut entries: Vec<Entry> = Vec::new(alloc);
-//!     tell_places(&mut input, source, &mut choice, &mut entries)?;
+//!     tell_places(&mut input, reading, &mut choice, &mut entries)?;
 //!
 //! `entries` has one entry: the byte FF at offset 5, in line 2, column 2.
 #![tactic(auto)]
@@ -40,4 +40,4 @@ pub use fates::{Fate, Fates};
 pub use log_match::LogMatch;
 pub use place::Place;
 pub use visitor::Visitor;
-pub use walk::{Source, tell_places};
+pub use walk::{Reading, tell_places};

@@ -36,7 +36,7 @@ const TEXT: usize = 8192;
 
 /// How an input is read.
 #[derive(Clone, Copy)]
-pub struct Source<'t> {
+pub struct Reading<'t> {
     /// The encoding of the input, unless a byte order mark says another.
     pub from: Encoding,
     /// What is done with a byte order mark at the start of the input.
@@ -297,14 +297,14 @@ impl<'t> Walk<'t> {
 
 /// Reads an input to its end, and hands the visitor its text, its malformed bytes, and an entry for
 /// each thing that is chosen, with its place. An entry is true, also if the call ends with an
-/// error: it names a malformed sequence, or a character of the text, of the whole input as `source`
-/// reads it, and its place. On success, if the choice goes by a log, the log has the lines of the
-/// entries, in their order, and then its end: none was passed over. A character that is reported
-/// then is folded in the target that the choice asks, where folds are asked for, or lost there; or
-/// it is lost by its line in the log. On success, if the choice goes by no log, nothing is left
-/// out: each malformed sequence is reported once, and so is each character that its target loses,
-/// or folds, if folds are asked for, each with its place, in the order of the input. The U+FFFD of
-/// a malformed sequence is not reported by itself.
+/// error: it names a malformed sequence, or a character of the text, of the whole input, read as
+/// `reading` says, and its place. On success, if the choice goes by a log, the log has the lines of
+/// the entries, in their order, and then its end: none was passed over. A character that is
+/// reported then is folded in the target that the choice asks, where folds are asked for, or lost
+/// there; or it is lost by its line in the log. On success, if the choice goes by no log, nothing
+/// is left out: each malformed sequence is reported once, and so is each character that its target
+/// loses, or folds, if folds are asked for, each with its place, in the order of the input. The
+/// U+FFFD of a malformed sequence is not reported by itself.
 ///
 /// The error is what the choice or the visitor ended with (`Unfit`, `Log`, `Write`, `Memory`),
 /// `Input` if a read fails, or `TooLong` if the input has more than 2^48 bytes. It is not `Unfit`
@@ -312,13 +312,13 @@ impl<'t> Walk<'t> {
 /// condition, that the indexes of the encoding are there, is tested by `Encoding::is_ready`.
 pub fn tell_places<R: Read, L: Read, V: Visitor>(
     reader: &mut R,
-    source: Source<'_>,
+    reading: Reading<'_>,
     choice: &mut Choice<'_, L>,
     visitor: &mut V,
 ) -> Result<(), Stop>
-    requires { IsReady source.tables.now source.from }
+    requires { IsReady reading.tables.now reading.from }
     ensures told { IfSome (R.remaining reader.old) (λ x. TellsTrueIn
-        (marked_pieces source.entry.tables.now source.entry.mark source.entry.from x)
+        (marked_pieces reading.entry.tables.now reading.entry.mark reading.entry.from x)
         (V.told visitor.old) (V.told visitor.new)) }
     ensures lines { OnOk result (TellsLines (choice_left L.remaining choice.old) ended
         (V.told visitor.old) (V.told visitor.new)) }
@@ -326,15 +326,15 @@ pub fn tell_places<R: Read, L: Read, V: Visitor>(
         (V.told visitor.old) (V.told visitor.new)) }
     ensures finds { (x : List ℕ) → R.remaining reader.old ≡ Some x
         → OnOk result (TellsFound (asked_by choice.old) (found_in (asked_by choice.old) 0 0
-        (marked_pieces source.entry.tables.now source.entry.mark source.entry.from x)) []
+        (marked_pieces reading.entry.tables.now reading.entry.mark reading.entry.from x)) []
         (V.told visitor.old) (V.told visitor.new)) }
     ensures fits { (x : List ℕ) → R.remaining reader.old ≡ Some x
         → IsLeftOfLog (Fits 0 0
-        (marked_pieces source.entry.tables.now source.entry.mark source.entry.from x))
+        (marked_pieces reading.entry.tables.now reading.entry.mark reading.entry.from x))
         (choice_left L.remaining choice.old) → IfErr result IsNotUnfit }
 {
     let mut walk = Walk {
-        decoder: Decoder::new(source.from, source.mark, Some(source.tables)),
+        decoder: Decoder::new(reading.from, reading.mark, Some(reading.tables)),
         place: Place::first(),
         read: 0,
         tail: Tail { bytes: [0; 8] },

@@ -8,7 +8,7 @@ use crate::words::{Request, Words, parse};
 use encoding_front::Encoding;
 use encoding_tables::Tables;
 use recode::load_indexes;
-use recode_places::{Choice, Fates, LogMatch, Source, Stop, tell_places};
+use recode_places::{Choice, Fates, LogMatch, Reading, Stop, tell_places};
 use recode_places_report::{Counts, Report, shown};
 use recode_system::{CommandLine, SystemFiles, Wordless};
 use std::alloc::{AllocError, Global};
@@ -39,11 +39,11 @@ struct Job<'a, R, W: Write + Drop> {
 }
 
 impl<'a, R: Read + Drop, W: Write + Drop> Job<'a, R, W> {
-    fn source<'t>(&self, tables: &'t Tables) -> Source<'t>
+    fn reading<'t>(&self, tables: &'t Tables) -> Reading<'t>
         ensures from { result.from ≡ self.now.from }
         ensures tables { result.tables ≡ tables.entry }
     {
-        Source {
+        Reading {
             from: self.from,
             mark: self.words.mark,
             tables,
@@ -54,7 +54,7 @@ impl<'a, R: Read + Drop, W: Write + Drop> Job<'a, R, W> {
     fn show<L: Read>(self, tables: &Tables, choice: &mut Choice<'_, L>) -> Result<bool, Fault>
         requires { IsReady tables.now self.from }
     {
-        let source = self.source(tables);
+        let reading = self.reading(tables);
         let Job {
             alloc,
             words,
@@ -68,7 +68,7 @@ impl<'a, R: Read + Drop, W: Write + Drop> Job<'a, R, W> {
         if has_colour {
             report = report.coloured();
         }
-        let told = tell_places(&mut input, source, choice, &mut report);
+        let told = tell_places(&mut input, reading, choice, &mut report);
         match told {
             Ok(()) => report.finish()?,
             // After a place that could not be shown, none is: a later one would stand alone.
@@ -83,7 +83,7 @@ impl<'a, R: Read + Drop, W: Write + Drop> Job<'a, R, W> {
     fn count<L: Read>(self, tables: &Tables, choice: &mut Choice<'_, L>) -> Result<bool, Fault>
         requires { IsReady tables.now self.from }
     {
-        let source = self.source(tables);
+        let reading = self.reading(tables);
         let Job {
             alloc,
             to,
@@ -92,7 +92,7 @@ impl<'a, R: Read + Drop, W: Write + Drop> Job<'a, R, W> {
             ..
         } = self;
         let mut counts = Counts::new(alloc, to);
-        tell_places(&mut input, source, choice, &mut counts)?;
+        tell_places(&mut input, reading, choice, &mut counts)?;
         counts.write(&mut output)?;
         Ok(!counts.is_empty())
     }

@@ -1,6 +1,6 @@
 //! What the words of a command line ask for, or why they are refused.
 
-ghost use Rattle.std.specs.Prelude.{◌≡◌, ◌<◌, IfErr, IfOk, codes, length, map, string_bytes};
+ghost use Rattle.std.specs.Prelude.{◌≡◌, ◌<◌, IfErr, IfOk, length, map, string_bytes};
 ghost use Rattle.recode_words.specs.Given.{IsEndOf};
 ghost use Rattle.recode_words.specs.Request.{AsksFor, HasGoodLimit, IsFaultOf, IsLine, asks_list};
 

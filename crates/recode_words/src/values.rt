@@ -1,6 +1,6 @@
 //! The values that clap's parse gives, and what they stand for.
 
-ghost use Rattle.std.specs.Prelude.{◌≡◌, IfOk, IfErr, Some, codes, map, true, is_some};
+ghost use Rattle.std.specs.Prelude.{◌≡◌, IfOk, IfErr, Some, map, true, is_some};
 ghost use Rattle.clap.specs.Words.{app_of, first_value, found_of};
 ghost use Rattle.recode_words.specs.Command.{recode_app};
 ghost use Rattle.recode_words.specs.Given.{HasValues, HasWrongValue, IsEndOf, IsMatch, IsReading};

@@ -1,8 +1,6 @@
 //! The two decoders and the two encoders that each encoding is tested by: its own codec, and the
 //! one that `encoding_front` chooses.
 
-ghost use Rattle.encoding_front.specs.Encodings.{IsReady};
-
 use crate::answer::Neutral;
 use encoding_codecs::{
     Big5Decoder, Big5Encoder, EucJpDecoder, EucJpEncoder, EucKrDecoder, EucKrEncoder,

@@ -1,8 +1,6 @@
 //! Lines that say something of an encoding, a label, a byte order mark or a reference, and lines of
 //! whole texts that are encoded.
 
-ghost use Rattle.encoding_front.specs.Encodings.{IsReady};
-
 use anyhow::{Context, ensure};
 use encoding_front::{Encoding, Reference, write_reference};
 use encoding_tables::{SingleByteDecoder, Tables};

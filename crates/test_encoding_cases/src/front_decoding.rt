@@ -1,8 +1,6 @@
 //! Calls of a `Decoder` that replace malformed sequences, and calls that do not, and the exact
 //! result of each.
 
-ghost use Rattle.encoding_front.specs.Encodings.{IsReady};
-
 use crate::calls::{Calls, check_answer, in_form, narrowed_bytes};
 use encoding_front::{Decoder, Mark};
 use encoding_tables::Tables;

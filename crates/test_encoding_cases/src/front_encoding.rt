@@ -1,8 +1,6 @@
 //! Calls of an `Encoder` that write references, and calls that do not, and the exact result of
 //! each.
 
-ghost use Rattle.encoding_front.specs.Encodings.{IsReady};
-
 use crate::calls::{Calls, TextOfCall, check_answer, check_state, given_room};
 use encoding_front::Encoder;
 use encoding_tables::Tables;

@@ -1,8 +1,6 @@
 //! Decodes streams of bytes that may begin with a byte order mark, by each kind of call of a
 //! `Decoder`, and by the calls for whole inputs.
 
-ghost use Rattle.encoding_front.specs.Encodings.{IsReady};
-
 use anyhow::Context;
 use encoding_front::{Decoder, Encoding, Mark};
 use encoding_tables::Tables;

@@ -2,10 +2,10 @@
 //! are made of.
 
 use encoding_mem::ascii::ascii_prefix;
+use encoding_mem::character_counts::count_in_units;
 use encoding_mem::encode::put_all;
 use encoding_mem::first_piece::{FirstPiece, cut_short};
 use encoding_mem::scalar::scalar_of;
-use encoding_mem::character_counts::count_in_units;
 use encoding_mem::{Sink, Source, Utf8Sink, Utf8Source, Utf16Sink, Utf16Source, clear_behind};
 
 // Writes one text three times, as a text, as units and character by character. Returns what is left

@@ -3,7 +3,6 @@
 
 ghost use Rattle.std.specs.Prelude.{◌++◌, IfOk};
 ghost use Rattle.recode.specs.Job.{IsValidJob};
-ghost use Rattle.recode.specs.calls.Buffers.{AreEnough};
 ghost use Rattle.test_examples.specs.SessionSteps.{GaveAll};
 
 use crate::session_steps::{Keeper, SingleBytes, convert_steps};

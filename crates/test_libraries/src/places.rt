@@ -3,7 +3,7 @@
 use encoding_front::{Encoding, Mark};
 use encoding_tables::{IndexKind, Tables};
 use recode_places::{
-    Choice, Entry, Fate, Fates, Finding, LogMatch, Place, Source, Stop, tell_places,
+    Choice, Entry, Fate, Fates, Finding, LogMatch, Place, Reading, Stop, tell_places,
 };
 use std::alloc::Global;
 use std::io;
@@ -16,18 +16,18 @@ const INPUT: &[u8] = b"one\nt\xFFo\xCE\xA9";
 // Returns the entries for an input in UTF-8 that a log names.
 fn told_by_log(alloc: Global, input: &[u8], log: &[u8]) -> Result<Vec<Entry>, Stop> {
     let tables = Tables::new(alloc);
-    let source = Source {
+    let reading = Reading {
         from: Encoding::Utf8,
         mark: Mark::Sniff,
         tables: &tables,
     };
     let mut reader = input;
     let mut entries = Vec::new(alloc);
-    if !source.from.is_ready(&tables) {
+    if !reading.from.is_ready(&tables) {
         return Err(Stop::Input);
     }
     let mut choice = Choice::of_log(LogMatch::new(log)?);
-    tell_places(&mut reader, source, &mut choice, &mut entries)?;
+    tell_places(&mut reader, reading, &mut choice, &mut entries)?;
     Ok(entries)
 }
 
@@ -138,13 +138,13 @@ fn places_go_on_over_reads(rt: HostRuntime) -> Result<(), Fail> {
 #[test]
 fn without_a_log_what_a_target_loses_is_told(rt: HostRuntime) -> Result<(), Fail> {
     let tables = Tables::new(rt.alloc());
-    let source = Source {
+    let reading = Reading {
         from: Encoding::Utf8,
         mark: Mark::Sniff,
         tables: &tables,
     };
     let to = Encoding::XUserDefined;
-    assert!(rt; source.from.is_ready(&tables));
+    assert!(rt; reading.from.is_ready(&tables));
     assert!(rt; to.output_encoding().is_ready(&tables));
     let mut fates = Fates::new(to, &tables);
     assert_eq!(rt; fates.of('a'), Fate::Kept);
@@ -155,7 +155,7 @@ fn without_a_log_what_a_target_loses_is_told(rt: HostRuntime) -> Result<(), Fail
     let mut choice: Choice<'_, &[u8]> = Choice::of_target(fates, true);
     let mut reader = INPUT;
     let mut entries = Vec::new(rt.alloc());
-    tell_places(&mut reader, source, &mut choice, &mut entries)?;
+    tell_places(&mut reader, reading, &mut choice, &mut entries)?;
     assert_eq!(rt; entries.len(), 2);
     assert_eq!(rt; is_at(&entries[0], 5, 2, 2), true);
     assert_eq!(rt; is_at(&entries[1], 7, 2, 4), true);
@@ -169,17 +169,17 @@ fn told_of_three(
     tables: &Tables,
     mut choice: Choice<'_, &[u8]>,
 ) -> Result<Vec<Entry>, Stop> {
-    let source = Source {
+    let reading = Reading {
         from: Encoding::Utf8,
         mark: Mark::Sniff,
         tables,
     };
     let mut reader = "a\u{A5}\u{65E5}".as_bytes();
     let mut entries = Vec::new(alloc);
-    if !source.from.is_ready(tables) {
+    if !reading.from.is_ready(tables) {
         return Err(Stop::Input);
     }
-    tell_places(&mut reader, source, &mut choice, &mut entries)?;
+    tell_places(&mut reader, reading, &mut choice, &mut entries)?;
     Ok(entries)
 }
 
@@ -231,16 +231,16 @@ impl Read for Failing {
 #[test]
 fn a_read_that_fails_is_told(rt: HostRuntime) -> Result<(), Fail> {
     let tables = Tables::new(rt.alloc());
-    let source = Source {
+    let reading = Reading {
         from: Encoding::Utf8,
         mark: Mark::Sniff,
         tables: &tables,
     };
-    assert!(rt; source.from.is_ready(&tables));
+    assert!(rt; reading.from.is_ready(&tables));
     let mut entries: Vec<Entry> = Vec::new(rt.alloc());
     let mut choice = Choice::of_log(LogMatch::new(b"".as_slice())?);
     assert_eq!(rt;
-        tell_places(&mut Failing, source, &mut choice, &mut entries),
+        tell_places(&mut Failing, reading, &mut choice, &mut entries),
         Err(Stop::Input)
     );
     let Err(stop) = LogMatch::new(Failing) else {

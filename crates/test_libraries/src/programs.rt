@@ -1,6 +1,6 @@
 //! Calls of the program with a file whose content a ghost field states, and the list of all labels.
 
-ghost use Rattle.std.specs.Prelude.{◌≡◌, ◌&&◌, None, Some, if◌then◌else◌, nat_eq};
+ghost use Rattle.std.specs.Prelude.{◌&&◌, None, Some, if◌then◌else◌, nat_eq};
 ghost use Rattle.std.specs.Cmp.Lexicographic.{pointwise};
 
 use encoding_front::Encoding;

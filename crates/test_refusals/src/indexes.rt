@@ -4,7 +4,6 @@ use crate::Ended;
 use anyhow::bail;
 use encoding_index::{IndexFault, IndexFaultKind, LoadFault, load, read_index, read_ranges};
 use encoding_tables::{IndexKind, TableFault, Tables};
-use std::alloc::Global;
 
 type Rows = &'static [(u32, u32)];
 

@@ -5,6 +5,7 @@ use Rattle.encoding_mem.specs.Pieces.{pieces_in}
 use Rattle.encoding_mem.specs.declared.codec.room.OutputUnit.TheVariants.{Units, Bytes}
 use Rattle.encoding_front.specs.calls.Seeking.{find_mark, mark_needs, can_be, nothing_sought, sought_by, sought_encoding, sought_pieces}
 use Rattle.encoding_front.specs.calls.RoomRules.{saved_rule}
+use Rattle.encoding_front.specs.calls.SavedDecoders.{HasReadNothing}
 use Rattle.encoding_front.specs.declared.decoder.saved_decoder.SavedDecoder.{SavedDecoder}
 use Rattle.encoding_front.specs.declared.encoding.Encoding.{Encoding}
 use Rattle.encoding_front.specs.declared.mark.Mark.TheVariants.{Sniff, Remove, Keep}
@@ -65,3 +66,13 @@ after_ef = record { encoding = Encoding.Windows1252; sought = all_marks; held = 
 
 rule_after_ef : saved_rule after_ef ≡ record { encoding = Encoding.Windows1252; may_be_utf8 = true; may_be_utf16 = false; ahead = 2; pending = 0 }
 rule_after_ef = refl
+
+-- before the first byte all three marks are looked for, and no byte is held or pending; after EF one is held
+abbrev before_any : SavedDecoder
+before_any = record { encoding = Encoding.Windows1252; sought = all_marks; held = record { len = 0; bytes = 0xEF ∷ 0 ∷ [] }; is_finished = false; pieces = record { mode = 0; pending = record { len = 0; bytes = 0 ∷ [] } } }
+
+nothing_was_read : HasReadNothing Sniff Encoding.Windows1252 before_any
+nothing_was_read = record { in_force = refl; sought = refl; held = refl; open_ = refl; mode = refl; pending = refl }
+
+ef_was_read : HasReadNothing Sniff Encoding.Windows1252 after_ef → ⊥
+ef_was_read h = let none : 0xEF ∷ [] ≡ [] = h.held in cc
