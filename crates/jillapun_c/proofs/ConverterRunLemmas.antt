@@ -334,7 +334,7 @@ over_or_not : (b : Bool) → (b ≡ true) ⊎ (b ≡ false)
 over_or_not true = inl refl
 over_or_not false = inr refl
 
--- what is told of a conversion that was handed out, by its stage
+-- what is reported of a conversion that was handed out, by its stage
 stage_told : FirstLaw → (s : Stage) (j : Job) (last : Bool) (x rest y : List ℕ) (records : List Loss) (v : ConverterView) (items : List Item) (report : Report) (status : ℕ)
     → ConvertedSoFar j last x rest items v → WritesUnder j.policy items y (log_of_losses records) → IsAtStage s j v x items
     → (v.over ≡ true → IsOverWith v last rest) → TellsStage s v report status → ConvertsInMemory j x y records report status

@@ -71,7 +71,7 @@ pub record IsToldReport (p : RunReport) (characters : ℕ) (report : Report) (st
   pub no_character : (report.index ≡ 0) × (report.scalar ≡ 0)
   pub no_sizes : HasNoSizes report
 
--- what is told of a conversion that the policy stopped: the character
+-- what is reported of a conversion that the policy stopped: the character
 pub record IsToldStop (index scalar : ℕ) (report : Report) (status : ℕ) : Type 0 where
   pub stopped : status ≡ STOPPED
   pub index_ : report.index ≡ index

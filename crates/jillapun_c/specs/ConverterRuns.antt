@@ -75,7 +75,7 @@ pub record IsFirstPartOf (j : Job) (last : Bool) (input output : List ℕ) (loss
   pub first_records : (r : List ℕ) → (last ≡ true → r ≡ []) → IsPrefix (log_of_losses losses) (log_of j (input ++ r))
 
 -- a handle holds a converter whose calls were handed this input and handed out this output and these records; these are
--- the first part of what the job makes of it; and a report and a status tell of them what those of a conversion in
+-- the first part of what the job makes of it; and a report and a status say of them what those of a conversion in
 -- memory do
 pub record HoldsConversion (j : Job) (last : Bool) (input rest output : List ℕ) (losses : List Loss) (held : Option Converter) (report : Report) (status : ℕ) : Type 0 where
   pub converter : Converter
@@ -85,7 +85,7 @@ pub record HoldsConversion (j : Job) (last : Bool) (input rest output : List ℕ
   pub told : ConvertsInMemory j input output losses report status
 
 -- A call of a converter goes on with what the calls before it left and handed out: it is handed first what they have not
--- read, and nothing else if they were handed the end. What it hands out is joined to that, and what it tells is true of all.
+-- read, and nothing else if they were handed the end. What it hands out is joined to that, and what it reports is true of all.
 abbrev pub JoinsToCalls : Converter → (held : Option Converter) (src : List ℕ) (last : Bool) (dst : List ℕ) → List Loss → ConverterProgress → Report → (status : ℕ) → Type 0
 JoinsToCalls c held src last dst losses p report status = (j : Job) (last_before : Bool) (input rest more output : List ℕ) (records : List Loss)
     → HasConverted j last_before input rest output records c → src ≡ rest ++ more → (last_before ≡ true → (last ≡ true) × (more ≡ []))

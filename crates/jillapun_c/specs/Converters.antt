@@ -50,23 +50,23 @@ pub record HandsOut (c c' : Converter) (dst dst' : List ℕ) (losses losses' : L
   pub read : p'.read ≡ p.read
   pub wants_room : IsFalse p'.wants_room ↔ HoldsNothing c'
 
--- a report and a status tell of a conversion that it goes on
+-- a report and a status say of a conversion that it goes on
 abbrev pub TellsNoEnd : Report → (status : ℕ) → Type 0
 TellsNoEnd report status = (report ≡ NONE) × (status ≡ GOES_ON)
 
--- what they tell of one that nothing ended before its time: the counts and the verdict, if all was converted, and else
+-- what they say of one that nothing ended before its time: the counts and the verdict, if all was converted, and else
 -- that it goes on
 pub record TellsVerdict (v : ConverterView) (report : Report) (status : ℕ) : Type 0 where
   pub done : v.over ≡ true → (p : RunReport) × ReportsOn v.state p × IsToldReport p v.state.counts.index report status
   pub open_ : v.over ≡ false → TellsNoEnd report status
 
--- what they tell of one at this stage
+-- what they say of one at this stage
 abbrev pub TellsStage : Stage → ConverterView → Report → (status : ℕ) → Type 0
 TellsStage Open v report status = TellsVerdict v report status
 TellsStage (Stopped index scalar) v report status = IsToldStop index scalar report status
 TellsStage TooLong v report status = (report ≡ NONE) × (status ≡ TOO_LONG)
 
--- what they tell of a converter: its end, once all that it made was handed out
+-- what they say of a converter: its end, once all that it made was handed out
 pub record TellsStatus (c : Converter) (report : Report) (status : ℕ) : Type 0 where
   pub empty : HoldsNothing c → TellsStage c.stage (view_in c) report status
   pub held : ¬ (HoldsNothing c) → TellsNoEnd report status
@@ -79,7 +79,7 @@ pub record ConvertsAll (c : Converter) (last : Bool) (unread dst : List ℕ) (lo
   pub lost : (held_losses c ≡ []) ⊎ (p.losses ≡ length losses)
   pub all : HoldsNothing c → c.stage ≡ Open → (view_in c).over ≡ false → (last ≡ false) × AllIsConverted (view_in c) unread false
 
--- What a call does: it fills the start of both rooms, converts all that it can, and tells the status. If that is an end,
+-- What a call does: it fills the start of both rooms, converts all that it can, and returns the status. If that is an end,
 -- it was the last call.
 pub record ConvertsByStep (after : Option Converter) (src : List ℕ) (last : Bool) (dst dst' : List ℕ) (losses losses' : List Loss) (p : ConverterProgress) (report : Report) (status : ℕ) : Type 0 where
   pub converter : Converter
@@ -91,7 +91,7 @@ pub record ConvertsByStep (after : Option Converter) (src : List ℕ) (last : Bo
   pub tells : TellsStatus converter report status
   pub finished : IsTrue converter.is_finished ↔ (status ≢ GOES_ON)
 
--- there is nothing to convert: a handle holds no converter, or one whose end was told
+-- there is nothing to convert: a handle holds no converter, or one whose end was reported
 abbrev pub IsIdle : Option Converter → Type 0
 IsIdle None = Unit {0}
 IsIdle (Some c) = c.is_finished ≡ true

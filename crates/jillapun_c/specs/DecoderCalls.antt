@@ -42,7 +42,7 @@ abbrev pub text_outcome : CoderResult → ℕ
 text_outcome text_.InputEmpty = INPUT_EMPTY
 text_outcome text_.OutputFull = OUTPUT_FULL
 
--- an outcome as it is told: its number, and of a malformed sequence its length and how many bytes were read after it
+-- an outcome as it is reported: its number, and of a malformed sequence its length and how many bytes were read after it
 abbrev pub IsOutcome : DecoderResult → (number length after : ℕ) → Type 0
 IsOutcome raw_.InputEmpty number length after = (number ≡ INPUT_EMPTY) × (length ≡ 0) × (after ≡ 0)
 IsOutcome raw_.OutputFull number length after = (number ≡ OUTPUT_FULL) × (length ≡ 0) × (after ≡ 0)
@@ -76,7 +76,7 @@ pub record AnswersDecoder (h : DecoderHandle) (status : ℕ) (Then : DecoderView
   pub finished : (v : DecoderView) → HoldsOne h v → v.finished ≡ true → status ≡ FINISHED
   pub done : (v : DecoderView) → HoldsOne h v → v.finished ≡ false → (status ≡ OK) × Then v
 
--- the room that is asked for the text of so many bytes is told; SIZE_MAX if it is more than a length can say
+-- the room that is asked for the text of so many bytes is reported; SIZE_MAX if it is more than a length can say
 abbrev pub AsksRoom : OutputUnit → DecoderHandle → (size length status : ℕ) → Type 0
 AsksRoom asked_in h size length status = AnswersDecoder h status (λ v. length ≡ unwrap_or (room_asked v.opening asked_in size) REFUSED)
 

@@ -21,7 +21,7 @@ abbrev pub MakesEncoder : (tables : Option IndexLists) (number : ℕ) (new : Opt
 MakesEncoder tables number new status = MatchOption (encoding_at number) (status ≡ UNKNOWN)
     (λ e. IfReady (held_lists tables) (output_encoding_of e) ((status ≡ OK) × (new ≡ Some (new_state (held_lists tables) e))) status)
 
--- an outcome as it is told: its number, and the character that has no bytes
+-- an outcome as it is reported: its number, and the character that has no bytes
 abbrev pub IsEncoderOutcome : EncoderResult → (number scalar : ℕ) → Type 0
 IsEncoderOutcome raw_.InputEmpty number scalar = (number ≡ INPUT_EMPTY) × (scalar ≡ 0)
 IsEncoderOutcome raw_.OutputFull number scalar = (number ≡ OUTPUT_FULL) × (scalar ≡ 0)
@@ -50,7 +50,7 @@ pub record EncodesUpToLost (is_units : Bool) (before : EncoderState) (after : Op
   pub call : Encoded before last outcome text (take progress.written new) encoder rest (length new - progress.written)
   pub enough : room_without_reference before.encoding is_units size ≤ length old → outcome ≢ raw_.OutputFull
 
--- What the status of a query says: there is no encoder, or its number is told, which is SIZE_MAX if no length can say it.
+-- What the status of a query says: there is no encoder, or its number is reported, which is SIZE_MAX if no length can say it.
 abbrev pub TellsNumber : Option EncoderState → (EncoderState → Option ℕ) → (length status : ℕ) → Type 0
 TellsNumber None room length status = status ≡ CLOSED
 TellsNumber (Some e) room length status = (status ≡ OK) × (length ≡ unwrap_or (room e) REFUSED)

@@ -31,7 +31,7 @@ WritesIfAny word old new returned = MatchOption word (IsUnwritten old new return
 abbrev pub needed_file : ℕ → ℕ → Option (List ℕ)
 needed_file encoding place = option_map file_name_of (option_and_then (λ e. slice_get (needs_of e) place) (encoding_at encoding))
 
--- a status tells whether tables, if there are any, have each index that the encoding with that number needs
+-- a status says whether tables, if there are any, have each index that the encoding with that number needs
 abbrev pub IsReadyStatus : Option IndexLists → (encoding status : ℕ) → Type 0
 IsReadyStatus None encoding status = status ≡ CLOSED
 IsReadyStatus (Some tables) encoding status = MatchOption (encoding_at encoding) (status ≡ UNKNOWN)

@@ -81,7 +81,7 @@ second_file_of_euc_jp = refl
 pub no_third_file_of_euc_jp : needed_file 1 2 ≡ None
 no_third_file_of_euc_jp = refl
 
--- what is told of faults: a line, no line alone, refused memory
+-- what is reported of faults: a line, no line alone, refused memory
 pub line_is_told : told_of (Text (record { line = 3; kind = fault.Row })) ≡ told.Text 3
 line_is_told = refl
 
@@ -94,7 +94,7 @@ refused_text_is_told = refl
 pub refused_table_is_told : told_of (Table table.Memory) ≡ told.Memory
 refused_table_is_told = refl
 
--- what calls tell that refuse: zeros
+-- what calls report that refuse: zeros
 pub nothing_is_decoded : decoder_.NONE ≡ record { read = 0; written = 0; outcome = 0; malformed_length = 0; malformed_after = 0; had_errors = false }
 nothing_is_decoded = refl
 
@@ -138,7 +138,7 @@ pub all_is_looked_at : IsLookedAt 2 (codes "abc") 3
 unfolding encode
 all_is_looked_at = record { within = omega arith; enough = inl refl; few = omega arith }
 
--- how outcomes are told of a whole text, and of a part
+-- how outcomes are reported of a whole text, and of a part
 pub whole_is_read : told_outcome true INPUT_EMPTY ≡ INPUT_EMPTY
 whole_is_read = refl
 

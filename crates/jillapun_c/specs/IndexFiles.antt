@@ -39,13 +39,13 @@ pub record AddsIndex (old new : IndexLists) (file : IndexFile) : Type 0 where
   pub loads : Loads new kind file.text.now
   pub keeps : KeepsOtherKinds old new kind
 
--- what is told of a fault of a load: that memory was refused, or the line, which is 0 if the fault is of no line alone
+-- what is reported of a fault of a load: that memory was refused, or the line, which is 0 if the fault is of no line alone
 abbrev pub told_of : LoadFault → FileFault
 told_of (Text fault) = if fault.line == 0 then told.Memory else told.Text fault.line
 told_of (Table Memory) = told.Memory
 told_of (Table _) = told.Text 0
 
--- loading the file as the index of its name ends in a fault of which that is told
+-- loading the file as the index of its name ends in a fault of which that is reported
 pub record IsFaulty (tables : IndexLists) (file : IndexFile) (line : ℕ) : Type 0 where
   pub kind : IndexKind
   pub named : IsFileOf kind file
@@ -53,7 +53,7 @@ pub record IsFaulty (tables : IndexLists) (file : IndexFile) (line : ℕ) : Type
   pub is : load_fault tables kind file.text.now ≡ Some fault
   pub told : told_of fault ≡ told.Text line
 
--- the fault is the file's, as tables tell it that are to take it; memory may always be refused
+-- the fault is the file's, as tables report it that are to take it; memory may always be refused
 abbrev pub IsFileFault : IndexLists → IndexFile → FileFault → Type 0
 IsFileFault tables file told.Unknown = IsOfNoKind file
 IsFileFault tables file (told.Text line) = IsFaulty tables file line
@@ -67,13 +67,13 @@ pub record IsRefusedAt (files : List IndexFile) (number : ℕ) (fault : FileFaul
   pub there : slice_get files number ≡ Some file
   pub is : IsFileFault tables file fault
 
--- the status and the line that tell a fault
+-- the status and the line that report a fault
 abbrev pub IsFaultTold : FileFault → (status line : ℕ) → Type 0
 IsFaultTold told.Unknown status line = (status ≡ UNKNOWN) × (line ≡ 0)
 IsFaultTold (told.Text n) status line = (status ≡ BAD_INDEX) × (line ≡ n)
 IsFaultTold told.Memory status line = (status ≡ NO_MEMORY) × (line ≡ 0)
 
--- a status, the number of a file and a line tell why the file was not loaded; or memory was refused after all
+-- a status, the number of a file and a line say why the file was not loaded; or memory was refused after all
 abbrev pub IsToldAt : List IndexFile → (number line status : ℕ) → Type 0
 IsToldAt files number line status =
     ((fault : FileFault) × IsRefusedAt files number fault × IsFaultTold fault status line) ⊎ ((status ≡ NO_MEMORY) × (number ≡ length files))

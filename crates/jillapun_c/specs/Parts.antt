@@ -47,7 +47,7 @@ parts-unknown = refl
 abbrev pub loss_in_whole : (before : Report) → Loss → Loss
 loss_in_whole before loss = record loss { place = loss.place + (if loss.kind == BAD then before.read else before.characters) }
 
--- The report on a whole adds what two tell of its parts; of a stop it says what the first does.
+-- The report on a whole adds what two say of its parts; of a stop it says what the first does.
 pub record AddsReports (p q whole : Report) : Type 0 where
   pub read : whole.read ≡ p.read + q.read
   pub bad : whole.bad ≡ p.bad + q.bad
@@ -58,7 +58,7 @@ pub record AddsReports (p q whole : Report) : Type 0 where
   pub index : whole.index ≡ p.index
   pub scalar : whole.scalar ≡ p.scalar
 
--- a sum of what two reports tell is 2^64 or more
+-- a sum of what two reports say is 2^64 or more
 abbrev pub PassesCount : Report → Report → Type 0
 PassesCount p q =
     (2 ^ 64 ≤ p.read + q.read) ⊎ ((2 ^ 64 ≤ p.bad + q.bad) ⊎ ((2 ^ 64 ≤ p.lost + q.lost)

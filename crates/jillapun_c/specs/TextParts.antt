@@ -1,4 +1,4 @@
--- What a call of an encoder looks at of a text in UTF-8, and how it tells that more follows.
+-- What a call of an encoder looks at of a text in UTF-8, and how it says that more follows.
 use Rattle.std.specs.Prelude.{◌≡◌, ◌≢◌, ℕ, ◌+◌, ◌*◌, ◌≤◌, ◌==◌, ◌⊎◌, Bool, true, false, if◌then◌else◌, List, [], length, take}
 use Rattle.encoding_mem.specs.Conversions.{text_prefix}
 use Rattle.encoding_front.specs.Encodings.{output_encoding_of}
@@ -36,11 +36,11 @@ pub record IsFirstPart (most : ℕ) (text part : List ℕ) (is_whole : Bool) : T
   pub is : part ≡ text_prefix (take looked text)
   pub whole : is_whole ≡ (length part == length text)
 
--- the number of the outcome of a call as it is told: not that nothing is left to do, if more of the text follows
+-- the number of the outcome of a call as it is reported: not that nothing is left to do, if more of the text follows
 abbrev pub told_outcome : (is_whole : Bool) → ℕ → ℕ
 told_outcome true outcome = outcome
 told_outcome false outcome = if outcome == INPUT_EMPTY then OUTPUT_FULL else outcome
 
--- what a call did is told, with its outcome as it is told of the whole of a text, or of what more follows
+-- what a call did is reported, with its outcome as it is reported of the whole of a text, or of what more follows
 abbrev pub IsToldOfPart : (is_whole : Bool) → EncoderProgress → (EncoderProgress → Type 0) → Type 0
 IsToldOfPart is_whole progress Did = (outcome : ℕ) × Did (record progress { outcome = outcome }) × (progress.outcome ≡ told_outcome is_whole outcome)

@@ -46,7 +46,7 @@ pub struct Converter {
     pub loss: Option<Loss>,
     /// What the conversion has come to.
     pub stage: Stage,
-    /// Whether the end was told.
+    /// Whether the end was reported.
     pub is_finished: bool,
 }
 

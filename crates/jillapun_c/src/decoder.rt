@@ -64,9 +64,9 @@ impl DecoderHandle {
         self.words = DecoderWords::of(decoder.saved());
     }
 
-    // Tells the room that is enough for the text of `n` more bytes, or `REFUSED` if it passes a
-    // `usize`. Returns `OK`. Else it tells 0: `CLOSED`, it holds no decoder; `FINISHED`, the stream
-    // has ended.
+    // Reports the room that is enough for the text of `n` more bytes, or `REFUSED` if it passes a
+    // `usize`. Returns `OK`. Else it reports 0: `CLOSED`, it holds no decoder; `FINISHED`, the
+    // stream has ended.
     fn room(&self, count: OutputUnit, n: usize, length: &mut usize) -> u8
         ensures tells { AsksRoom count self.now n length.new result }
         ensures nothing { result ≢ OK → length.new ≡ 0 }

@@ -1,4 +1,4 @@
-//! What a call of an encoder tells beside its status.
+//! What a call of an encoder reports beside its status.
 
 ghost use Rattle.std.specs.Prelude.{◌≡◌};
 ghost use Rattle.jillapun_c.specs.EncoderCalls.{IsEncoderOutcome};
@@ -46,7 +46,7 @@ pub(crate) fn encoder_outcome_of(outcome: EncoderResult) -> (u8, u32)
     }
 }
 
-/// The number of an outcome as it is told of a whole text, or of a part of one: after a part
+/// The number of an outcome as it is reported of a whole text, or of a part of one: after a part
 /// something is left to do.
 pub(crate) fn told_outcome(is_whole: bool, outcome: u8) -> u8
     ensures { result ≡ told_outcome is_whole outcome }

@@ -1,4 +1,4 @@
-//! The exports on encodings: found by a label or a mark, and what is told of each. An encoding
+//! The exports on encodings: found by a label or a mark, and what is reported of each. An encoding
 //! crosses as its number, from 0 to 39, in the order of the names.
 
 ghost use Rattle.std.specs.Prelude.{◌≡◌, ◌↔◌, false, IsTrue, MatchOption};

@@ -45,7 +45,7 @@ fn kind_of(name: &[u8]) -> Option<IndexKind>
     None
 }
 
-// What is told of a fault.
+// What is reported of a fault.
 fn told_of(fault: LoadFault) -> FileFault
     ensures { result ≡ told_of fault }
 {

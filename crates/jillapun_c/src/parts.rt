@@ -27,7 +27,7 @@ use encoding_front::{Encoding, Mark};
 /// if a number stands for nothing.
 ///
 /// The outputs of all parts, in a row, are the output for the whole. So are their records of
-/// losses, once `jillapun_join_loss` has moved them, and what is told of the parts, once
+/// losses, once `jillapun_join_loss` has moved them, and what is reported of the parts, once
 /// `jillapun_join_reports` has added it. Nothing was lost of the whole if nothing was lost of any
 /// part. A part that the policy stops is the last, and is not added: the stop of the whole has its
 /// `scalar`, and its `index` with the `characters` of the parts before.
@@ -70,7 +70,7 @@ fn input_encoding(from: Encoding, mark: Mark, first: &[u8]) -> Encoding
     }
 }
 
-/// Makes a record of what the next part loses one of the whole. `before` is what is told of the
+/// Makes a record of what the next part loses one of the whole. `before` is what is reported of the
 /// parts before it: its `read` is added to the place of a record of kind `BAD`, and its
 /// `characters` to that of one of kind `LOST`.
 ///
@@ -98,9 +98,9 @@ pub extern "C" fn jillapun_join_loss(before: &Report, loss: &mut Loss) -> bool
     true
 }
 
-/// Adds what is told of the next part to what is told of those before it: `read`, `bad`, `lost`,
-/// `characters`, `written` and `losses`; `index` and `scalar` stay. The status of both is `LOSSY`
-/// if that of one is.
+/// Adds what is reported of the next part to what is reported of those before it: `read`, `bad`,
+/// `lost`, `characters`, `written` and `losses`; `index` and `scalar` stay. The status of both is
+/// `LOSSY` if that of one is.
 ///
 /// Returns whether that was done. Else nothing is changed, since a sum would be 2^64 or more: never
 /// of parts of an input that is within a limit.

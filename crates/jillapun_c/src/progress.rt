@@ -1,4 +1,4 @@
-//! What a call of a decoder or an encoder tells beside its status.
+//! What a call of a decoder or an encoder reports beside its status.
 
 ghost use Rattle.std.specs.Prelude.{◌≡◌};
 ghost use Rattle.jillapun_c.specs.DecoderCalls.{IsOutcome, text_outcome};

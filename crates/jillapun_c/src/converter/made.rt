@@ -46,7 +46,7 @@ impl Converter {
         }
     }
 
-    /// Hands out what was made, as far as there is room, after what was handed out before. Tells
+    /// Hands out what was made, as far as there is room, after what was handed out before. Reports
     /// whether something is left.
     pub(crate) fn hand_out(
         &mut self,

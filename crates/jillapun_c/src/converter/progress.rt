@@ -1,4 +1,4 @@
-//! What a call of a converter tells beside its status.
+//! What a call of a converter reports beside its status.
 
 /// What a call of a converter did.
 #[repr(C)]

@@ -33,7 +33,7 @@ impl Converter {
         }
     }
 
-    /// What is told after what could be handed out was: how the conversion ended, if nothing is
+    /// What is reported after what could be handed out was: how the conversion ended, if nothing is
     /// left of what it made, and else that it goes on.
     pub(crate) fn tell(&self) -> (u8, Report)
         ensures { TellsStatus self.now result.1 result.0 }
@@ -53,10 +53,10 @@ impl Converter {
 }
 
 /// Converts the next bytes of an input. It reads from the start of `src`, writes what that gives at
-/// the start of `dst`, and a record of each loss at the start of `losses`, and tells in `progress`
+/// the start of `dst`, and a record of each loss at the start of `losses`, and says in `progress`
 /// how much of each. `last` says that nothing follows `src` in the input: give it again, with what
-/// of `src` was not read, until the end is told. What finds no room is kept, at most 1 KiB of text,
-/// 32 bytes of output and one record, and comes first in the next call.
+/// of `src` was not read, until the end is reported. What finds no room is kept, at most 1 KiB of
+/// text, 32 bytes of output and one record, and comes first in the next call.
 ///
 /// - `GOES_ON`: call again. If `progress` says that room is wanted (`wants_room`), with room, and
 ///   with what of `src` was not read; what follows may stand behind it. Else all of `src` is read,

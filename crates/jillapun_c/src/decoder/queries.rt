@@ -1,4 +1,4 @@
-//! What a decoder tells of itself.
+//! What a decoder reports of itself.
 
 ghost use Rattle.std.specs.Prelude.{◌≡◌, ◌≢◌, [], None};
 ghost use Rattle.encoding_mem.specs.declared.codec.room.OutputUnit.TheVariants.{Units, Bytes};
@@ -28,7 +28,7 @@ pub extern "C" fn jillapun_decoder_encoding(decoder: &DecoderHandle) -> u8
     }
 }
 
-/// Tells in `length` how many bytes of UTF-8 are room enough for the text of `n` more bytes, with
+/// Reports in `length` how many bytes of UTF-8 are room enough for the text of `n` more bytes, with
 /// U+FFFD for each malformed sequence; `SIZE_MAX` if the number passes a `size_t`. What is pending
 /// counts too.
 ///
@@ -46,7 +46,7 @@ pub extern "C" fn jillapun_decoder_max_utf8_length(
     decoder.room(OutputUnit::Replaced, n, length)
 }
 
-/// Tells in `length` how many bytes of UTF-8 are room enough for the text of `n` more bytes up to
+/// Reports in `length` how many bytes of UTF-8 are room enough for the text of `n` more bytes up to
 /// the first malformed sequence, and for one U+FFFD there; `SIZE_MAX` if the number passes a
 /// `size_t`. What is pending counts too. What is returned is as of
 /// `jillapun_decoder_max_utf8_length`.
@@ -62,9 +62,9 @@ pub extern "C" fn jillapun_decoder_max_utf8_length_without_replacement(
     decoder.room(OutputUnit::Bytes, n, length)
 }
 
-/// Tells in `length` how many units of UTF-16 are room enough for the text of `n` more bytes, with
-/// U+FFFD for each malformed sequence; `SIZE_MAX` if the number passes a `size_t`. What is pending
-/// counts too. What is returned is as of `jillapun_decoder_max_utf8_length`.
+/// Reports in `length` how many units of UTF-16 are room enough for the text of `n` more bytes,
+/// with U+FFFD for each malformed sequence; `SIZE_MAX` if the number passes a `size_t`. What is
+/// pending counts too. What is returned is as of `jillapun_decoder_max_utf8_length`.
 #[unsafe(no_mangle)]
 pub extern "C" fn jillapun_decoder_max_utf16_length(
     decoder: &DecoderHandle,
@@ -77,12 +77,12 @@ pub extern "C" fn jillapun_decoder_max_utf16_length(
     decoder.room(OutputUnit::Units, n, length)
 }
 
-/// Tells in `length` how many of `bytes`, if they come next, stand for the characters of their own
-/// numbers, as in Latin1: a caller may copy these, and hand in the rest. In a single-byte encoding
-/// the index decides, and the number is the most that is true. In the others it ends before the
-/// first byte that is not ASCII, in ISO-2022-JP also before the first 0E, 0F or 1B. It is
-/// `SIZE_MAX` if it is not known: a byte order mark may still come, bytes are pending, ISO-2022-JP
-/// is in another mode than ASCII, or the encoding is UTF-16BE, UTF-16LE or replacement.
+/// Reports in `length` how many of `bytes`, if they come next, stand for the characters of their
+/// own numbers, as in Latin1: a caller may copy these, and hand in the rest. In a single-byte
+/// encoding the index decides, and the number is the most that is true. In the others it ends
+/// before the first byte that is not ASCII, in ISO-2022-JP also before the first 0E, 0F or 1B. It
+/// is `SIZE_MAX` if it is not known: a byte order mark may still come, bytes are pending,
+/// ISO-2022-JP is in another mode than ASCII, or the encoding is UTF-16BE, UTF-16LE or replacement.
 ///
 /// Returns `OK`. Else `length` is 0: `CLOSED`, the handle holds no decoder; `FINISHED`, the stream
 /// has ended.

@@ -15,11 +15,11 @@ use crate::status::OK;
 /// Decodes the next bytes of a stream to UTF-16, with U+FFFD for each malformed sequence. `last`
 /// says that the stream ends with them.
 ///
-/// Returns `OK`, and `progress` tells what was done. At `INPUT_EMPTY` all of `src` is read: hand in
+/// Returns `OK`, and `progress` says what was done. At `INPUT_EMPTY` all of `src` is read: hand in
 /// what follows; with `last` the stream has ended. At `OUTPUT_FULL` fewer than 2 units are free:
 /// make room, and hand in the rest again, with `last` as it was, even if nothing is left. A
 /// surrogate pair is never split, and nothing after what is written changes. `OUTPUT_FULL` does not
-/// come if `dst` is as long as `jillapun_decoder_max_utf16_length` tells.
+/// come if `dst` is as long as `jillapun_decoder_max_utf16_length` reports.
 ///
 /// Else nothing is done, and all of `progress` is 0: `CLOSED`, the handle holds no decoder;
 /// `FINISHED`, the stream has ended.
@@ -60,11 +60,11 @@ pub extern "C" fn jillapun_decoder_decode_to_utf16(
 /// Decodes the next bytes of a stream to UTF-16, up to the first malformed sequence. `last` says
 /// that the stream ends with them.
 ///
-/// Returns `OK`, and `progress` tells what was done. At `INPUT_EMPTY` all of `src` is read: hand in
+/// Returns `OK`, and `progress` says what was done. At `INPUT_EMPTY` all of `src` is read: hand in
 /// what follows; with `last` the stream has ended. At `OUTPUT_FULL` fewer than 2 units are free:
 /// make room, and hand in the rest again, with `last` as it was, even if nothing is left. A
 /// surrogate pair is never split, and nothing after what is written changes. `OUTPUT_FULL` does not
-/// come if `dst` is as long as `jillapun_decoder_max_utf16_length` tells.
+/// come if `dst` is as long as `jillapun_decoder_max_utf16_length` reports.
 ///
 /// At `MALFORMED` a sequence of `malformed_length` bytes ends `malformed_after` bytes before the
 /// end of what was read, and a unit is free: write U+FFFD or not, and go on as at `OUTPUT_FULL`.

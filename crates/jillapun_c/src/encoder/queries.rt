@@ -1,4 +1,4 @@
-//! What an encoder tells of itself.
+//! What an encoder reports of itself.
 
 ghost use Rattle.std.specs.Prelude.{◌≡◌, ◌≢◌, ◌↔◌, true, false, IsTrue, MatchOption};
 ghost use Rattle.encoding_mem.specs.declared.codec.form.EscapeState.TheVariants.{Ascii};
@@ -39,8 +39,8 @@ pub extern "C" fn jillapun_encoder_has_pending_state(encoder: &EncoderHandle) ->
     }
 }
 
-/// Tells in `length` how many bytes are room enough for what `n` bytes of UTF-8 are encoded to with
-/// references, if each character has bytes; `SIZE_MAX` if the number passes a `size_t`.
+/// Reports in `length` how many bytes are room enough for what `n` bytes of UTF-8 are encoded to
+/// with references, if each character has bytes; `SIZE_MAX` if the number passes a `size_t`.
 ///
 /// Returns `OK`; or `CLOSED`, and `length` is 0: the handle holds no encoder.
 #[unsafe(no_mangle)]
@@ -64,7 +64,7 @@ pub extern "C" fn jillapun_encoder_max_length_from_utf8_if_no_unmappables(
     OK
 }
 
-/// Tells in `length` how many bytes are room enough for what `n` bytes of UTF-8 are encoded to
+/// Reports in `length` how many bytes are room enough for what `n` bytes of UTF-8 are encoded to
 /// without replacement, and for the last escape; `SIZE_MAX` if the number passes a `size_t`. What
 /// is returned is as of `jillapun_encoder_max_length_from_utf8_if_no_unmappables`.
 #[unsafe(no_mangle)]
@@ -88,7 +88,7 @@ pub extern "C" fn jillapun_encoder_max_length_from_utf8_without_replacement(
     OK
 }
 
-/// Tells in `length` how many bytes are room enough for what `n` units of UTF-16 are encoded to
+/// Reports in `length` how many bytes are room enough for what `n` units of UTF-16 are encoded to
 /// with references, if each character has bytes; `SIZE_MAX` if the number passes a `size_t`. What
 /// is returned is as of `jillapun_encoder_max_length_from_utf8_if_no_unmappables`.
 #[unsafe(no_mangle)]
@@ -112,7 +112,7 @@ pub extern "C" fn jillapun_encoder_max_length_from_utf16_if_no_unmappables(
     OK
 }
 
-/// Tells in `length` how many bytes are room enough for what `n` units of UTF-16 are encoded to
+/// Reports in `length` how many bytes are room enough for what `n` units of UTF-16 are encoded to
 /// without replacement, and for the last escape; `SIZE_MAX` if the number passes a `size_t`. What
 /// is returned is as of `jillapun_encoder_max_length_from_utf8_if_no_unmappables`.
 #[unsafe(no_mangle)]

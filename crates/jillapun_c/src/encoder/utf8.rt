@@ -20,7 +20,7 @@ use crate::status::{CLOSED, NOT_UTF8, OK};
 /// character that has no bytes. `last` says that the text ends with it: then the last escape is
 /// written too, and the encoder is as a new one.
 ///
-/// Returns `OK`, and `progress` tells what was done. At `INPUT_EMPTY` all is read. At `OUTPUT_FULL`
+/// Returns `OK`, and `progress` says what was done. At `INPUT_EMPTY` all is read. At `OUTPUT_FULL`
 /// something is left to do: make room, and hand in the rest again, with `last` as it was, even if
 /// nothing is left; 14 bytes are always enough to go on. Unless the encoding is UTF-8, the last ten
 /// bytes of `dst` are kept for a reference. Nothing after what is written changes.
@@ -80,7 +80,7 @@ pub extern "C" fn jillapun_encoder_encode_from_utf8(
 /// says that the text ends with it: then the last escape is written too, and the encoder is as a
 /// new one.
 ///
-/// Returns `OK`, and `progress` tells what was done. At `INPUT_EMPTY` all is read. At `OUTPUT_FULL`
+/// Returns `OK`, and `progress` says what was done. At `INPUT_EMPTY` all is read. At `OUTPUT_FULL`
 /// something is left to do: make room, and hand in the rest again, with `last` as it was, even if
 /// nothing is left; 4 bytes are always enough to go on. At `UNMAPPABLE` the character that was read
 /// last has no bytes: write its reference, or something else in printable ASCII other than

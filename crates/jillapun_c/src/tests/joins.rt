@@ -1,4 +1,4 @@
-//! What is told of the parts of an input, joined.
+//! What is reported of the parts of an input, joined.
 
 use crate::losses::Loss;
 use crate::parts::{jillapun_join_loss, jillapun_join_reports};
