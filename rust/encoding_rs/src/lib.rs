@@ -36,10 +36,9 @@
 //!
 //! - The library is code for x86-64 with SSE4.2 on Linux with glibc, and the crate wants `std`.
 //! - The first call that decodes or encodes in an encoding loads the indexes that the encoding needs, in a few
-//!   milliseconds, and keeps them as long as the process. If memory is refused, the call panics.
+//!   milliseconds, and keeps them as long as the process. If the library is refused memory, the call panics.
 //! - The features `alloc` and `std`, and those for speed, change nothing. `serde` is as in encoding_rs.
-//! - The build script gives the library's functions for memory names of the crate's own, so that a program may have
-//!   the crate encoding_c_mem, too, which has functions of the names that they have in C.
+//! - All names of the library begin with `jillapun_`, so a program may have the crates encoding_c and encoding_c_mem, too.
 
 #![deny(missing_docs, unsafe_code)]
 
