@@ -216,11 +216,13 @@ pub fn convert_latin1_to_str(src: &[u8], dst: &mut str) -> usize {
 ///
 /// # Panics
 ///
-/// If `dst` is shorter than `src`; and, with debug assertions, if the source is not one that it is for.
+/// If `dst` is shorter than `src`; and, with debug assertions and without `cfg(fuzzing)`, if the source is not one that
+/// it is for.
+#[allow(unknown_lints, unexpected_cfgs)] // Cargo does not know the setting of fuzzers.
 pub fn convert_utf8_to_latin1_lossy(src: &[u8], dst: &mut [u8]) -> usize {
     assert!(dst.len() >= src.len(), "{SHORT}");
     sys::convert_utf8_to_latin1_lossy(src, dst).unwrap_or_else(|| {
-        debug_assert!(false, "the source is not Latin1 in UTF-8");
+        debug_assert!(cfg!(fuzzing), "the source is not Latin1 in UTF-8");
         let start = &src[..utf8_latin1_up_to(src)];
         sys::convert_utf8_to_latin1_lossy(start, dst).expect(SHORT)
     })
@@ -238,7 +240,7 @@ pub fn convert_utf16_to_latin1_lossy(src: &[u16], dst: &mut [u8]) {
 
 /// The text of some bytes in Latin1: borrowed if all are ASCII, else a text of its own.
 ///
-/// Proved: `jillapun_mem_is_ascii`, `jillapun_mem_convert_latin1_to_utf8`.
+/// Proved: `jillapun_ascii_valid_up_to`, `jillapun_mem_convert_latin1_to_utf8`.
 pub fn decode_latin1(bytes: &[u8]) -> Cow<'_, str> {
     match sys::split_ascii(bytes) {
         (text, []) => Cow::Borrowed(text),
@@ -252,7 +254,7 @@ pub fn decode_latin1(bytes: &[u8]) -> Cow<'_, str> {
 ///
 /// # Panics
 ///
-/// With debug assertions, if the text is not one that it is for.
+/// With debug assertions and without `cfg(fuzzing)`, if the text is not one that it is for.
 ///
 /// Proved: `jillapun_mem_is_ascii`, `jillapun_mem_convert_utf8_to_latin1_lossy`.
 pub fn encode_latin1_lossy(string: &str) -> Cow<'_, [u8]> {
