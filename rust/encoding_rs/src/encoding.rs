@@ -149,7 +149,8 @@ impl Encoding {
     ///
     /// # Panics
     ///
-    /// If the room that the text may need passes a `usize`, or memory is refused.
+    /// If the room that the text may need passes a `usize`, or the library is refused memory. Memory that is refused for
+    /// the text itself aborts, as of each `String`.
     ///
     /// Proved: `jillapun_for_bom`, `jillapun_decode`, `jillapun_decoder_decode_to_utf8`, `jillapun_utf8_valid_up_to` and
     /// its kin.
@@ -165,6 +166,8 @@ impl Encoding {
     /// The mark of another encoding is read as text. What is returned, what is borrowed and what panics is as of
     /// [`decode`](Self::decode). Of a part of an input, use
     /// [`new_decoder_with_bom_removal`](Self::new_decoder_with_bom_removal).
+    ///
+    /// Proved: as [`decode`](Self::decode).
     pub fn decode_with_bom_removal<'a>(&'static self, bytes: &'a [u8]) -> (Cow<'a, str>, bool) {
         let length = match Encoding::for_bom(bytes) {
             Some((encoding, length)) if encoding == self => length,
@@ -178,6 +181,8 @@ impl Encoding {
     ///
     /// What is returned, what is borrowed and what panics is as of [`decode`](Self::decode). Of a part of an input,
     /// use [`new_decoder_without_bom_handling`](Self::new_decoder_without_bom_handling).
+    ///
+    /// Proved: `jillapun_decode`, `jillapun_decoder_decode_to_utf8`, `jillapun_utf8_valid_up_to` and its kin.
     pub fn decode_without_bom_handling<'a>(&'static self, bytes: &'a [u8]) -> (Cow<'a, str>, bool) {
         let (start, rest) = match self.borrowed(bytes) {
             Ok(text) => return (Cow::Borrowed(text), false),
@@ -253,7 +258,8 @@ impl Encoding {
     ///
     /// # Panics
     ///
-    /// If the room that the bytes may need passes a `usize`, or memory is refused.
+    /// If the room that the bytes may need passes a `usize`, or the library is refused memory. Memory that is refused for
+    /// the bytes themselves aborts, as of each `Vec`.
     ///
     /// Proved: `jillapun_encode`, `jillapun_encoder_encode_from_utf8`, `jillapun_ascii_valid_up_to` and its kin.
     pub fn encode<'a>(&'static self, string: &'a str) -> (Cow<'a, [u8]>, &'static Encoding, bool) {
@@ -320,6 +326,8 @@ impl Encoding {
     /// # Panics
     ///
     /// As [`new_decoder`](Self::new_decoder).
+    ///
+    /// Proved: `jillapun_decoder_new`.
     pub fn new_decoder_with_bom_removal(&'static self) -> Decoder {
         Decoder::new(self, Mark::Remove)
     }
@@ -332,6 +340,8 @@ impl Encoding {
     /// # Panics
     ///
     /// As [`new_decoder`](Self::new_decoder).
+    ///
+    /// Proved: `jillapun_decoder_new`.
     pub fn new_decoder_without_bom_handling(&'static self) -> Decoder {
         Decoder::new(self, Mark::Keep)
     }

@@ -103,7 +103,8 @@ impl Decoder {
         &mut self, src: &[u8], dst: &mut String, last: bool, at_error: OnMalformed,
     ) -> Decoded {
         // SAFETY: the spare capacity is what the two say, and need not be initialised. What was written are
-        // characters of UTF-8, which then belong to the text; nothing panics between.
+        // characters of UTF-8, which then belong to the text. If `decode` panics, the text is as it was, since no
+        // more than its spare capacity was lent.
         unsafe {
             let bytes = dst.as_mut_vec();
             let spare = bytes.spare_capacity_mut();
