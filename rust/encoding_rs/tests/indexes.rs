@@ -30,6 +30,10 @@ fn bytes(encoding: &'static Encoding, index: &str, pointer: usize) -> Option<Vec
     let double = |add: usize| vec![(pointer / 94 + add) as u8, (pointer % 94 + add) as u8];
     Some(match (encoding.name(), index) {
         ("Big5", _) => pair(pointer, 157, 0x81, [0x40, 0x62], 0x3F),
+        (_, "gb18030-ranges") => {
+            let (first, second) = (pointer / 12600 + 0x81, pointer / 1260 % 10 + 0x30);
+            [first, second, pointer / 10 % 126 + 0x81, pointer % 10 + 0x30].map(|byte| byte as u8).to_vec()
+        }
         ("EUC-KR", _) => pair(pointer, 190, 0x81, [0x41, 0x41], 0),
         ("gb18030" | "GBK", _) => pair(pointer, 190, 0x81, [0x40, 0x41], 0x3F),
         ("Shift_JIS", _) => {
@@ -52,6 +56,8 @@ fn pointers(encoding: &'static Encoding, rows: &[(usize, char)]) -> HashMap<char
         let is_left_out = match encoding.name() {
             "Big5" => pointer < (0xA1 - 0x81) * 157,
             "Shift_JIS" => (8272..=8835).contains(&pointer),
+            // Section 10.2.2: it is the byte 80.
+            "GBK" => character == '€',
             _ => false,
         };
         // Section 5, "index Big5 pointer": the last pointer of these six, and the first of all others.
@@ -130,6 +136,7 @@ fn euc_kr() {
 #[test]
 fn chinese() {
     compare(GB18030, "gb18030");
+    compare(GBK, "gb18030");
     // Section 10.2.2: GBK writes the euro as one byte; both read it so.
     let (encoded, _, had_unmappable) = GBK.encode("€");
     assert_eq!((&*encoded, had_unmappable), (&b"\x80"[..], false));
@@ -152,6 +159,61 @@ fn chinese() {
     }
     // Section 10.2.2: the one character that gb18030 has no bytes for.
     assert!(GB18030.encode("\u{E5E5}").2);
+}
+
+/// Each pointer of each range below U+10000, and some of that above, read and written. What has a pair, too, is written so.
+#[test]
+fn ranges() {
+    let pairs = pointers(GB18030, &rows("gb18030"));
+    let rows = rows("gb18030-ranges");
+    for (number, &(start, character)) in rows.iter().enumerate() {
+        // Section 5, "index gb18030 ranges code point": the end of the last range below U+10000 and of that above.
+        let (end, step) = match start {
+            39394 => (39419, 1),
+            189000 => (1237575, 1001),
+            _ => (rows[number + 1].0 - 1, 1),
+        };
+        for pointer in (start..=end).step_by(step).chain([end]) {
+            let scalar = if pointer == 7457 { 0xE7C7 } else { u32::from(character) + (pointer - start) as u32 };
+            let text = char::from_u32(scalar).unwrap().to_string();
+            let four = bytes(GB18030, "gb18030-ranges", pointer).unwrap();
+            for encoding in [GB18030, GBK] {
+                assert_eq!(encoding.decode_without_bom_handling(&four), ((&*text).into(), false), "{pointer}");
+            }
+            let (encoded, _, had_unmappable) = GB18030.encode(&text);
+            let pair = pairs.get(&text.chars().next().unwrap());
+            let wanted = pair.map_or(four, |&pointer| bytes(GB18030, "gb18030", pointer).unwrap());
+            assert_eq!((&*encoded, had_unmappable), (&*wanted, false), "{pointer}");
+            if pair.is_none() {
+                assert_eq!(*GBK.encode(&text).0, *format!("&#{scalar};").as_bytes(), "{pointer}");
+            }
+        }
+    }
+}
+
+/// Section 12.2.2: ISO-2022-JP writes halfwidth katakana as what the index has for it. The others write bytes.
+#[test]
+fn katakana() {
+    let wide = pointers(ISO_2022_JP, &rows("jis0208"));
+    let rows = rows("iso-2022-jp-katakana");
+    assert_eq!(rows.len(), 0x3F);
+    for (pointer, character) in rows {
+        let text = char::from_u32(0xFF61 + pointer as u32).unwrap().to_string();
+        let wanted = bytes(ISO_2022_JP, "jis0208", wide[&character]).unwrap();
+        assert_eq!(*ISO_2022_JP.encode(&text).0, *wanted, "{text}");
+        let byte = 0xA1 + pointer as u8;
+        let forms = [
+            (ISO_2022_JP, [&b"\x1B(I"[..], &[byte - 0x80], b"\x1B(B"].concat()),
+            (SHIFT_JIS, vec![byte]),
+            (EUC_JP, vec![0x8E, byte]),
+        ];
+        for (encoding, bytes) in &forms {
+            assert_eq!(encoding.decode_without_bom_handling(bytes), ((&*text).into(), false), "{text}");
+        }
+        for (encoding, bytes) in &forms[1..] {
+            assert_eq!(*encoding.encode(&text).0, **bytes, "{text}");
+        }
+    }
 }
 
 #[test]
