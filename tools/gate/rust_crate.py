@@ -3,8 +3,8 @@
 
     python3 tools/gate/rust_crate.py
 
-It runs `cargo test --offline` there, with what Debian's package librust-serde-dev has. If something that it needs is not
-here, it says so, and nothing is wrong.
+It runs `cargo test --offline` there, with what Debian's package librust-serde-dev has, and the example on a short input. If
+something that it needs is not here, it says so, and nothing is wrong.
 
 `make lint` compares what the crate declares of the library with `include/jillapun.h`: functions, types and numbers.
 """
@@ -32,6 +32,12 @@ DECLARED = os.path.join(CRATE, "src", "sys", "raw.rs")
 OLDEST = (1, 70)
 # The tests take no longer, in seconds.
 PATIENCE = 1200
+# Words for cargo. The example has them, too, since the crate is built anew for others.
+FLAGS = ["--offline", "--features", "serde"]
+EXAMPLE = ["cargo", "run", "--quiet", *FLAGS, "--example", "losses", "shift_jis"]
+# What the example reads, and what it writes to standard output and to standard error.
+READ = b"A\x83\x6e\xff\n\x83"
+WRITTEN = "A\u30cf\ufffd\n\ufffd", "malformed: 1 from offset 3 on\nmalformed: 1 from offset 5 on\n"
 
 
 # The types of the header, as Rust writes them.
@@ -107,21 +113,25 @@ def missing():
     return None
 
 
+def run(words, given=b""):
+    """Runs a command in the crate's folder: its status, and what it writes to standard output and to standard error."""
+    environment = dict(os.environ, CARGO_TARGET_DIR=TARGET, JILLAPUN_LIB=c_library.OUT)
+    ran = subprocess.run(words, cwd=CRATE, env=environment, input=given, capture_output=True, timeout=PATIENCE, check=False)
+    return ran.returncode, ran.stdout.decode(errors="replace"), ran.stderr.decode(errors="replace")
+
+
 def faults():
     """What is wrong with the crate."""
     why = missing()
     if why:
         print("left out: the tests of the crate for Rust, since %s" % why)
         return []
-    words = ["cargo", "test", "--offline", "--features", "serde"]
-    environment = dict(os.environ, CARGO_TARGET_DIR=TARGET, JILLAPUN_LIB=c_library.OUT)
-    ran = subprocess.run(
-        words, cwd=CRATE, env=environment, capture_output=True, text=True, errors="replace", timeout=PATIENCE, check=False
-    )
-    print("%d tests of the crate for Rust" % sum(map(int, re.findall(r"^test result: ok\. (\d+) passed", ran.stdout, re.M))))
-    if ran.returncode:
-        return ["%s: status %d\n%s%s" % (" ".join(words), ran.returncode, ran.stdout[-4000:], ran.stderr[-4000:])]
-    return []
+    status, said, errors = run(["cargo", "test", *FLAGS])
+    print("%d tests of the crate for Rust" % sum(map(int, re.findall(r"^test result: ok\. (\d+) passed", said, re.M))))
+    if status:
+        return ["cargo test: status %d\n%s%s" % (status, said[-4000:], errors[-4000:])]
+    ran = run(EXAMPLE, READ)
+    return [] if ran == (0, *WRITTEN) else ["%s: %r" % (" ".join(EXAMPLE), ran)]
 
 
 if __name__ == "__main__":
