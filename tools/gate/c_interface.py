@@ -12,10 +12,12 @@ sanitizers if the compiler has them. Run in the top folder on NAME.in with the w
 write NAME.out, and NAME.err to standard error, and end with the status of NAME.status, 0 if there is none. Then all is packed
 as `make dist` does, unpacked, and a program is built from what pkg-config says of it. The wheel for Python is packed and
 installed (`python_wheel.py`), and what `make install` puts in place is run and removed (`installed.py`).
+The names that the archives show to a linker are looked at, too: none may be one that a program could have.
 What was left out is said. The status is 1 if something was wrong.
 """
 
 import os
+import re
 import shutil
 import subprocess
 import sys
@@ -40,6 +42,13 @@ INCLUDE = os.path.join(TOP, "include")
 
 # The calls of each part of the library, and what they say is wrong.
 CHECKS = [c_mem.faults, c_streams.faults, c_python.faults]
+
+# What the global names of each archive begin with. `rattle_` has the kit's heap functions.
+NAMES = {
+    c_library.ARCHIVE: ("jillapun_", "rattle_"),
+    "libjillapun_indexes.a": ("jillapun_index_files",),
+    "libjillapun_encoding_c.a": ("encoding_",),
+}
 
 WARNINGS = ["-Wall", "-Wextra", "-pedantic", "-Werror"]
 SANITIZERS = ["-g", "-fsanitize=address,undefined", "-fno-sanitize-recover=all"]
@@ -85,6 +94,19 @@ def read(path, default=b""):
         return default
     with open(path, "rb") as file:
         return file.read()
+
+
+def names(folder):
+    """The global names of the archives in a folder."""
+    if not shutil.which("nm"):
+        print("left out: the names of the archives, since there is no nm here")
+        return
+    for archive, begins in NAMES.items():
+        said = run(["nm", "-g", "--defined-only", os.path.join(folder, archive)]).stdout.decode()
+        found = re.findall(r"^[0-9a-f]+ [A-Z] (\S+)$", said, re.M)
+        others = [name for name in found if not name.startswith(begins)]
+        if others or not found:
+            yield "%s has %d names, of which these begin otherwise: %s" % (archive, len(found), " ".join(others))
 
 
 def headers(folder):
@@ -170,6 +192,7 @@ def faults():
         archive, shared = c_library.build()
         print("built by LLVM")
         wrong += checked(shared)
+        wrong += names(os.path.dirname(archive))
         wrong += headers(folder)
         wrong += examples(archive, shared, folder)
         wrong += unpacked(folder)
