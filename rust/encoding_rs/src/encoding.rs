@@ -149,11 +149,11 @@ impl Encoding {
     ///
     /// # Panics
     ///
-    /// If the room that the text may need passes a `usize`, or the library is refused memory. Memory that is refused for
-    /// the text itself aborts, as of each `String`.
+    /// If the room that the text may need passes a `usize`, or the library is refused memory. If the text itself is
+    /// refused memory, the program aborts, as with each `String`.
     ///
-    /// Proved: `jillapun_for_bom`, `jillapun_decode`, `jillapun_decoder_decode_to_utf8`, `jillapun_utf8_valid_up_to` and
-    /// its kin.
+    /// Proved: `jillapun_for_bom`, `jillapun_decode`, `jillapun_decoder_decode_to_utf8`, `jillapun_utf8_valid_up_to`
+    /// and its kin.
     pub fn decode<'a>(&'static self, bytes: &'a [u8]) -> (Cow<'a, str>, &'static Encoding, bool) {
         let (encoding, length) = Encoding::for_bom(bytes).unwrap_or((self, 0));
         let (text, had_errors) = encoding.decode_without_bom_handling(&bytes[length..]);
@@ -258,8 +258,8 @@ impl Encoding {
     ///
     /// # Panics
     ///
-    /// If the room that the bytes may need passes a `usize`, or the library is refused memory. Memory that is refused for
-    /// the bytes themselves aborts, as of each `Vec`.
+    /// If the room that the bytes may need passes a `usize`, or the library is refused memory. If the bytes themselves
+    /// are refused memory, the program aborts, as with each `Vec`.
     ///
     /// Proved: `jillapun_encode`, `jillapun_encoder_encode_from_utf8`, `jillapun_ascii_valid_up_to` and its kin.
     pub fn encode<'a>(&'static self, string: &'a str) -> (Cow<'a, [u8]>, &'static Encoding, bool) {

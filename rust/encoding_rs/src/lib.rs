@@ -38,7 +38,8 @@
 //! - The first call that decodes or encodes in an encoding loads the indexes that the encoding needs, in a few
 //!   milliseconds, and keeps them as long as the process. If the library is refused memory, the call panics.
 //! - The features `alloc` and `std`, and those for speed, change nothing. `serde` is as in encoding_rs.
-//! - All names of the library begin with `jillapun_`, so a program may have the crates encoding_c and encoding_c_mem, too.
+//! - All names of the library begin with `jillapun_`, and those of its heap with `rattle_`, so a program may have the
+//!   crates encoding_c and encoding_c_mem, too.
 
 #![deny(missing_docs, unsafe_code)]
 

@@ -161,7 +161,8 @@ fn chinese() {
     assert!(GB18030.encode("\u{E5E5}").2);
 }
 
-/// Each pointer of each range below U+10000, and some of that above, read and written. What has a pair, too, is written so.
+/// Each pointer of each range below U+10000, and some of that above, read and written. What has a pair, too, is written
+/// as that.
 #[test]
 fn ranges() {
     let pairs = pointers(GB18030, &rows("gb18030"));
