@@ -30,6 +30,9 @@ HERE = os.path.dirname(os.path.abspath(__file__))
 INDEXES = os.path.join(HERE, "..", "indexes")
 RECODE = os.path.join(HERE, "..", "crates", "recode_cli", "out", "recode_cli")
 
+# The files of the code that is measured.
+SOURCES = [":(top,glob)crates/*/src/**", ":(top,glob)rust/*/src/**"]
+
 # Name, text, source, target.
 WORKLOADS = [
     ("ASCII, UTF-8 to UTF-8", "ascii", "utf-8", "utf-8"),
@@ -363,16 +366,23 @@ def plot(rows):
     return "\n".join(out + ["</svg>"]) + "\n"
 
 
+def code():
+    """The last commit that changed what is measured, and whether it was changed since."""
+    def said(*words):
+        return subprocess.run(["git", *words, "--", *SOURCES], cwd=HERE, capture_output=True, text=True).stdout.strip()
+
+    commit = said("log", "-1", "--format=%h") or "no commit"
+    return commit + " with changes" if said("status", "--porcelain") else commit
+
+
 def machine(given):
     """On what, when and how it was measured, in a sentence."""
     with open("/proc/cpuinfo") as info:
         model = next(line.split(":")[1].strip() for line in info if line.startswith("model name"))
     kit = subprocess.run(["rt", "version"], capture_output=True, text=True).stdout.split("\n")[0]
-    last = ["git", "log", "-1", "--format=%h", "--", ":(top,glob)crates/*/src/**"]
-    code = subprocess.run(last, cwd=HERE, capture_output=True, text=True).stdout.strip() or "no commit"
     size = "%d and %d" % SIZES if given.linear else given.megabytes
     return "Measured on %s: code of %s; %s, %d processors, load %.1f at the start; %s; %d rounds of %s MB." % (
-        time.strftime("%Y-%m-%d", time.gmtime()), code, model, os.cpu_count(), os.getloadavg()[0], kit, given.rounds, size)
+        time.strftime("%Y-%m-%d", time.gmtime()), code(), model, os.cpu_count(), os.getloadavg()[0], kit, given.rounds, size)
 
 
 def write(path, name, text):
