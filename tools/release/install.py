@@ -8,9 +8,9 @@ It is the programs, the library for C with its header, its file for pkg-config a
 their completion in bash, and the index texts. What is called as `recode` and `recode-places` are scripts that hand the
 folder of these to the programs, which look in the current folder: another default would stand in what is proved.
 
-The archive, `out/jillapun-VERSION-x86_64-linux.tar.gz`, has the Python module, the crate for Rust and the licences too, and
-the wheel if `make wheel` has made one: it is for machines without `rt`. All finds the others by its own place, so it can be
-unpacked anywhere. It is the same, byte by byte, for the same files.
+The archive, `out/jillapun-VERSION-x86_64-linux.tar.gz`, has the Python module, the crate for Rust with its page and the
+licences too, and the wheel if `make wheel` has made one: it is for machines without `rt`. All finds the others by its own
+place, so it can be unpacked anywhere. It is the same, byte by byte, for the same files.
 """
 
 import argparse
@@ -86,7 +86,7 @@ README = """Jillapun {version}, for Linux on x86-64: text encodings, by the Enco
     lib/pkgconfig                    PKG_CONFIG_PATH for `pkg-config --cflags --libs jillapun`
     python                           the module for Python, if it is here: PYTHONPATH, over lib/libjillapun.so
     jillapun-*.whl                   the module with library and indexes for `pip install`, if it is here
-    rust/encoding_rs                 the crate for Rust, over lib/libjillapun.a: `cargo doc` there has its pages
+    rust/encoding_rs, docs/RUST.md   the crate for Rust, over lib/libjillapun.a: `cargo doc` there has its pages
     share/recode/indexes             the indexes of the standard: `jillapun_tables_new` loads them
     COPYRIGHT, LICENSE-*             the licences
 
@@ -224,6 +224,7 @@ def archive():
         install(folder, "${pcfiledir}/../..")
         python_module(folder)
         sources("rust/encoding_rs", folder)
+        sources("docs/RUST.md", folder)
         for wheel in glob.glob(os.path.join(TOP, "out", "jillapun-%s-*.whl" % version)):
             copied(wheel, os.path.join(folder, os.path.basename(wheel)), 0o644)
         for licence in LICENCES:
