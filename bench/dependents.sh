@@ -31,7 +31,7 @@ tests() {
 }
 
 tests encoding_rs_io
-# The examples of `async-tokio` name a crate that Debian has not.
+# The examples of `async-tokio` name tokio_test, which Debian leaves out of the package.
 tests quick-xml --features encoding,serialize
 tests grep-searcher
 echo "$all in all"
