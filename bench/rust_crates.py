@@ -2,10 +2,12 @@
 """Measures the crate for Rust beside Debian's encoding_rs: see docs/PERFORMANCE.md.
 
     python3 bench/rust_crates.py [--rounds N] [--write]
+    python3 bench/rust_crates.py --compare
 
 It wants the library built (`make c`), cargo, and the crate encoding_rs of Debian (librust-encoding-rs-dev), which is built
 twice: as it is by default, and with the feature `fast-legacy-encode`. Each work is done by both crates of a program in
-turns. With --write the tables go into docs/PERFORMANCE.md.
+turns. With --write the tables go into docs/PERFORMANCE.md. With --compare nothing is timed: what both give of many inputs and
+texts must be equal, but for what bench/README.md lists; half a minute, and the status is 1 if something else differs.
 """
 
 import argparse
@@ -42,11 +44,16 @@ def copy(work):
     return folder
 
 
+def built(build, work):
+    """The program, built."""
+    environment = dict(os.environ, CARGO_TARGET_DIR=os.path.join(work, "target"))
+    subprocess.run(["cargo", "build", "--release", "--offline", "--quiet", *build], cwd=work, env=environment, check=True)
+    return os.path.join(work, "target", "release", "crates")
+
+
 def rows(build, rounds, work):
     """The rows that a build prints, by kind, encoding and work: ours, theirs, and the ratio with its quartiles."""
-    subprocess.run(["cargo", "build", "--release", "--offline", "--quiet", *build], cwd=work, check=True)
-    program = [os.path.join(work, "target", "release", "crates"), str(rounds)]
-    said = subprocess.run(program, stdout=subprocess.PIPE, text=True, check=True).stdout
+    said = subprocess.run([built(build, work), str(rounds)], stdout=subprocess.PIPE, text=True, check=True).stdout
     for line in said.splitlines():
         kind, label, what, ours, theirs, ratio, low, high = line.split("\t")
         yield (kind, label, what), (ours, theirs, "%s (%s to %s)" % (ratio, low, high))
@@ -56,7 +63,11 @@ def main():
     parser = argparse.ArgumentParser(description=__doc__, formatter_class=argparse.RawDescriptionHelpFormatter)
     parser.add_argument("--rounds", type=int, default=9)
     parser.add_argument("--write", action="store_true")
+    parser.add_argument("--compare", action="store_true")
     given = parser.parse_args()
+    if given.compare:
+        with tempfile.TemporaryDirectory() as work:
+            return subprocess.run([built([], copy(work)), "--compare"], check=False).returncode
     given.linear, given.megabytes = False, 16
     about = programs.machine(given)
     print(about, flush=True)

@@ -1,5 +1,10 @@
 //! The crate for Rust beside Debian's encoding_rs. `bench/rust_crates.py` builds and runs it: it prints a row for each
-//! work, as cells with tabs between them. What counts is the processor time of the thread; the sides take turns.
+//! work, as cells with tabs between them. What counts is the processor time of the thread; the sides take turns. With
+//! `--compare` it times nothing, and compares results.
+
+mod compare;
+
+use std::process::ExitCode;
 
 const LONG: usize = 16_000_000;
 
@@ -7,6 +12,8 @@ const LONG: usize = 16_000_000;
 macro_rules! side {
     ($side:ident) => {
         mod $side {
+            use crate::compare::{Read, Written};
+            use std::borrow::Cow;
             use std::hint::black_box;
 
             pub type Encoding = &'static $side::Encoding;
@@ -23,6 +30,41 @@ macro_rules! side {
             /// A whole text, to bytes.
             pub fn encode(encoding: Encoding, text: &str) {
                 black_box(encoding.encode(black_box(text)));
+            }
+
+            /// What the calls that decode a whole input give.
+            pub fn read(encoding: Encoding, bytes: &[u8]) -> Read {
+                let (text, used, had_errors) = encoding.decode(bytes);
+                let strict = encoding.decode_without_bom_handling_and_without_replacement(bytes);
+                let mut decoder = encoding.new_decoder();
+                let mut units = vec![0; decoder.max_utf16_buffer_length(bytes.len()).unwrap()];
+                let (_, _, written, _) = decoder.decode_to_utf16(bytes, &mut units, true);
+                units.truncate(written);
+                Read {
+                    is_borrowed: matches!(text, Cow::Borrowed(_)),
+                    text: text.into_owned(),
+                    encoding: used.name(),
+                    had_errors,
+                    strict: strict.map(Cow::into_owned),
+                    units,
+                }
+            }
+
+            /// What the calls that encode a whole text give.
+            pub fn written(encoding: Encoding, text: &str) -> Written {
+                let (bytes, used, had_unmappable) = encoding.encode(text);
+                let units: Vec<u16> = text.encode_utf16().collect();
+                // A reference has ten bytes at most, and an escape behind it three; ten are kept back.
+                let mut from_units = vec![0; 13 * units.len() + 16];
+                let (_, _, written, _) = encoding.new_encoder().encode_from_utf16(&units, &mut from_units, true);
+                from_units.truncate(written);
+                Written {
+                    is_borrowed: matches!(bytes, Cow::Borrowed(_)),
+                    bytes: bytes.into_owned(),
+                    encoding: used.name(),
+                    had_unmappable,
+                    from_units,
+                }
             }
 
             /// A decoder that is made and dropped.
@@ -165,24 +207,31 @@ fn measure(rounds: usize, label: &str, text: &str, is_long: bool) {
     }
 }
 
-fn main() {
-    let rounds = std::env::args().nth(1).map_or(15, |rounds| rounds.parse().unwrap());
-    let texts = [
-        ("utf-8", "日本語テス a"),
-        ("windows-1252", "Voilà déjà 20 octets"),
-        ("shift_jis", "日本語テスト、カナ"),
-        ("euc-jp", "日本語テスト、カナ"),
-        ("iso-2022-jp", "日本語テス"),
-        ("gb18030", "简体中文测试，文本"),
-        ("gbk", "简体中文测试，文本"),
-        ("big5", "繁體中文測試，文本"),
-        ("euc-kr", "한국어 시험 문장임"),
-        ("utf-16le", "Voilà déjà"),
-    ];
-    for (label, _) in texts {
+/// The encodings that are timed, each with a short text.
+const TEXTS: [(&str, &str); 10] = [
+    ("utf-8", "日本語テス a"),
+    ("windows-1252", "Voilà déjà 20 octets"),
+    ("shift_jis", "日本語テスト、カナ"),
+    ("euc-jp", "日本語テスト、カナ"),
+    ("iso-2022-jp", "日本語テス"),
+    ("gb18030", "简体中文测试，文本"),
+    ("gbk", "简体中文测试，文本"),
+    ("big5", "繁體中文測試，文本"),
+    ("euc-kr", "한국어 시험 문장임"),
+    ("utf-16le", "Voilà déjà"),
+];
+
+fn main() -> ExitCode {
+    let word = std::env::args().nth(1);
+    if word.as_deref() == Some("--compare") {
+        return compare::run();
+    }
+    let rounds = word.map_or(15, |rounds| rounds.parse().unwrap());
+    for (label, _) in TEXTS {
         measure(rounds, label, &long_text(label), true);
     }
-    for (label, text) in texts {
+    for (label, text) in TEXTS {
         measure(rounds, label, text, false);
     }
+    ExitCode::SUCCESS
 }
