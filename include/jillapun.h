@@ -415,13 +415,13 @@ typedef struct {
     /**
      * The bytes of the output, in memory: so many stand at the start of `dst`, or, at
      * `JILLAPUN_ROOM`, so many are wanted. 0 if nothing was written, and in a conversion by steps:
-     * its calls tell it.
+     * its calls report it.
      */
     uint64_t written;
     /**
      * The records of losses, in memory: so many stand at the start of `losses`, or, at
      * `JILLAPUN_ROOM`, so many are wanted. 0 if nothing was written, and in a conversion by steps:
-     * its calls tell it.
+     * its calls report it.
      */
     uint64_t losses;
     /** At `JILLAPUN_STOPPED`, how many characters of the text stand before the lost one. Else 0. */
@@ -480,7 +480,7 @@ _Static_assert(sizeof(jillapun_converter) == 16, "the size of jillapun_converter
 extern const jillapun_index_file jillapun_index_files[];
 extern const size_t jillapun_index_files_len;
 
-/* The exports on encodings: found by a label or a mark, and what is told of each. An encoding
+/* The exports on encodings: found by a label or a mark, and what is reported of each. An encoding
    crosses as its number, from 0 to 39, in the order of the names. */
 
 /**
@@ -593,7 +593,7 @@ uint8_t jillapun_tables_new(const jillapun_index_file *files, size_t files_len,
 uint8_t jillapun_decoder_new(jillapun_tables tables, uint8_t encoding, uint8_t mark,
     jillapun_decoder *out);
 
-/* What a decoder tells of itself. */
+/* What a decoder reports of itself. */
 
 /**
  * The number of the encoding in force: the one that the decoder was made for, or that of the
@@ -603,7 +603,7 @@ uint8_t jillapun_decoder_new(jillapun_tables tables, uint8_t encoding, uint8_t m
 uint8_t jillapun_decoder_encoding(const jillapun_decoder *decoder);
 
 /**
- * Tells in `length` how many bytes of UTF-8 are room enough for the text of `n` more bytes,
+ * Reports in `length` how many bytes of UTF-8 are room enough for the text of `n` more bytes,
  * with U+FFFD for each malformed sequence; `SIZE_MAX` if the number passes a `size_t`. What is
  * pending counts too.
  *
@@ -613,7 +613,7 @@ uint8_t jillapun_decoder_encoding(const jillapun_decoder *decoder);
 uint8_t jillapun_decoder_max_utf8_length(const jillapun_decoder *decoder, size_t n, size_t *length);
 
 /**
- * Tells in `length` how many bytes of UTF-8 are room enough for the text of `n` more bytes up
+ * Reports in `length` how many bytes of UTF-8 are room enough for the text of `n` more bytes up
  * to the first malformed sequence, and for one U+FFFD there; `SIZE_MAX` if the number passes a
  * `size_t`. What is pending counts too. What is returned is as of
  * `jillapun_decoder_max_utf8_length`.
@@ -622,7 +622,7 @@ uint8_t jillapun_decoder_max_utf8_length_without_replacement(const jillapun_deco
     size_t n, size_t *length);
 
 /**
- * Tells in `length` how many units of UTF-16 are room enough for the text of `n` more bytes,
+ * Reports in `length` how many units of UTF-16 are room enough for the text of `n` more bytes,
  * with U+FFFD for each malformed sequence; `SIZE_MAX` if the number passes a `size_t`. What is
  * pending counts too. What is returned is as of `jillapun_decoder_max_utf8_length`.
  */
@@ -630,7 +630,7 @@ uint8_t jillapun_decoder_max_utf16_length(const jillapun_decoder *decoder, size_
     size_t *length);
 
 /**
- * Tells in `length` how many of `bytes`, if they come next, stand for the characters of their
+ * Reports in `length` how many of `bytes`, if they come next, stand for the characters of their
  * own numbers, as in Latin1: a caller may copy these, and hand in the rest. In a single-byte
  * encoding the index decides, and the number is the most that is true. In the others it ends
  * before the first byte that is not ASCII, in ISO-2022-JP also before the first 0E, 0F or 1B.
@@ -673,12 +673,12 @@ uint8_t jillapun_decoder_decode_to_str_without_replacement(jillapun_decoder *dec
  * Decodes the next bytes of a stream to UTF-16, with U+FFFD for each malformed sequence. `last`
  * says that the stream ends with them.
  *
- * Returns `JILLAPUN_OK`, and `progress` tells what was done. At `JILLAPUN_INPUT_EMPTY` all of
+ * Returns `JILLAPUN_OK`, and `progress` says what was done. At `JILLAPUN_INPUT_EMPTY` all of
  * `src` is read: hand in what follows; with `last` the stream has ended. At
  * `JILLAPUN_OUTPUT_FULL` fewer than 2 units are free: make room, and hand in the rest again,
  * with `last` as it was, even if nothing is left. A surrogate pair is never split, and nothing
  * after what is written changes. `JILLAPUN_OUTPUT_FULL` does not come if `dst` is as long as
- * `jillapun_decoder_max_utf16_length` tells.
+ * `jillapun_decoder_max_utf16_length` reports.
  *
  * Else nothing is done, and all of `progress` is 0: `JILLAPUN_CLOSED`, the handle holds no
  * decoder; `JILLAPUN_FINISHED`, the stream has ended.
@@ -690,12 +690,12 @@ uint8_t jillapun_decoder_decode_to_utf16(jillapun_decoder *decoder, const uint8_
  * Decodes the next bytes of a stream to UTF-16, up to the first malformed sequence. `last` says
  * that the stream ends with them.
  *
- * Returns `JILLAPUN_OK`, and `progress` tells what was done. At `JILLAPUN_INPUT_EMPTY` all of
+ * Returns `JILLAPUN_OK`, and `progress` says what was done. At `JILLAPUN_INPUT_EMPTY` all of
  * `src` is read: hand in what follows; with `last` the stream has ended. At
  * `JILLAPUN_OUTPUT_FULL` fewer than 2 units are free: make room, and hand in the rest again,
  * with `last` as it was, even if nothing is left. A surrogate pair is never split, and nothing
  * after what is written changes. `JILLAPUN_OUTPUT_FULL` does not come if `dst` is as long as
- * `jillapun_decoder_max_utf16_length` tells.
+ * `jillapun_decoder_max_utf16_length` reports.
  *
  * At `JILLAPUN_MALFORMED` a sequence of `malformed_length` bytes ends `malformed_after` bytes
  * before the end of what was read, and a unit is free: write U+FFFD or not, and go on as at
@@ -714,12 +714,12 @@ uint8_t jillapun_decoder_decode_to_utf16_without_replacement(jillapun_decoder *d
  * Decodes the next bytes of a stream to UTF-8, with U+FFFD for each malformed sequence. `last`
  * says that the stream ends with them.
  *
- * Returns `JILLAPUN_OK`, and `progress` tells what was done. At `JILLAPUN_INPUT_EMPTY` all of
+ * Returns `JILLAPUN_OK`, and `progress` says what was done. At `JILLAPUN_INPUT_EMPTY` all of
  * `src` is read: hand in what follows; with `last` the stream has ended. At
  * `JILLAPUN_OUTPUT_FULL` fewer than 4 bytes are free: make room, and hand in the rest again,
  * with `last` as it was, even if nothing is left. A character is never split, and nothing after
  * what is written changes. `JILLAPUN_OUTPUT_FULL` does not come if `dst` is as long as
- * `jillapun_decoder_max_utf8_length` tells.
+ * `jillapun_decoder_max_utf8_length` reports.
  *
  * Else nothing is done, and all of `progress` is 0: `JILLAPUN_CLOSED`, the handle holds no
  * decoder; `JILLAPUN_FINISHED`, the stream has ended.
@@ -731,12 +731,12 @@ uint8_t jillapun_decoder_decode_to_utf8(jillapun_decoder *decoder, const uint8_t
  * Decodes the next bytes of a stream to UTF-8, up to the first malformed sequence. `last` says
  * that the stream ends with them.
  *
- * Returns `JILLAPUN_OK`, and `progress` tells what was done. At `JILLAPUN_INPUT_EMPTY` all of
+ * Returns `JILLAPUN_OK`, and `progress` says what was done. At `JILLAPUN_INPUT_EMPTY` all of
  * `src` is read: hand in what follows; with `last` the stream has ended. At
  * `JILLAPUN_OUTPUT_FULL` fewer than 4 bytes are free: make room, and hand in the rest again,
  * with `last` as it was, even if nothing is left. A character is never split, and nothing after
  * what is written changes. `JILLAPUN_OUTPUT_FULL` does not come if `dst` is as long as
- * `jillapun_decoder_max_utf8_length_without_replacement` tells.
+ * `jillapun_decoder_max_utf8_length_without_replacement` reports.
  *
  * At `JILLAPUN_MALFORMED` a sequence of `malformed_length` bytes ends `malformed_after` bytes
  * before the end of what was read, and 3 bytes are free: write U+FFFD or not, and go on as at
@@ -762,7 +762,7 @@ uint8_t jillapun_decoder_decode_to_utf8_without_replacement(jillapun_decoder *de
  */
 uint8_t jillapun_encoder_new(jillapun_tables tables, uint8_t encoding, jillapun_encoder *out);
 
-/* What an encoder tells of itself. */
+/* What an encoder reports of itself. */
 
 /**
  * The number of the output encoding, in which the encoder writes; `JILLAPUN_NO_ENCODING` if the
@@ -777,7 +777,7 @@ uint8_t jillapun_encoder_encoding(const jillapun_encoder *encoder);
 bool jillapun_encoder_has_pending_state(const jillapun_encoder *encoder);
 
 /**
- * Tells in `length` how many bytes are room enough for what `n` bytes of UTF-8 are encoded to
+ * Reports in `length` how many bytes are room enough for what `n` bytes of UTF-8 are encoded to
  * with references, if each character has bytes; `SIZE_MAX` if the number passes a `size_t`.
  *
  * Returns `JILLAPUN_OK`; or `JILLAPUN_CLOSED`, and `length` is 0: the handle holds no encoder.
@@ -786,7 +786,7 @@ uint8_t jillapun_encoder_max_length_from_utf8_if_no_unmappables(const jillapun_e
     size_t n, size_t *length);
 
 /**
- * Tells in `length` how many bytes are room enough for what `n` bytes of UTF-8 are encoded to
+ * Reports in `length` how many bytes are room enough for what `n` bytes of UTF-8 are encoded to
  * without replacement, and for the last escape; `SIZE_MAX` if the number passes a `size_t`.
  * What is returned is as of `jillapun_encoder_max_length_from_utf8_if_no_unmappables`.
  */
@@ -794,16 +794,16 @@ uint8_t jillapun_encoder_max_length_from_utf8_without_replacement(const jillapun
     size_t n, size_t *length);
 
 /**
- * Tells in `length` how many bytes are room enough for what `n` units of UTF-16 are encoded to
- * with references, if each character has bytes; `SIZE_MAX` if the number passes a `size_t`.
+ * Reports in `length` how many bytes are room enough for what `n` units of UTF-16 are encoded
+ * to with references, if each character has bytes; `SIZE_MAX` if the number passes a `size_t`.
  * What is returned is as of `jillapun_encoder_max_length_from_utf8_if_no_unmappables`.
  */
 uint8_t jillapun_encoder_max_length_from_utf16_if_no_unmappables(const jillapun_encoder *encoder,
     size_t n, size_t *length);
 
 /**
- * Tells in `length` how many bytes are room enough for what `n` units of UTF-16 are encoded to
- * without replacement, and for the last escape; `SIZE_MAX` if the number passes a `size_t`.
+ * Reports in `length` how many bytes are room enough for what `n` units of UTF-16 are encoded
+ * to without replacement, and for the last escape; `SIZE_MAX` if the number passes a `size_t`.
  * What is returned is as of `jillapun_encoder_max_length_from_utf8_if_no_unmappables`.
  */
 uint8_t jillapun_encoder_max_length_from_utf16_without_replacement(const jillapun_encoder *encoder,
@@ -816,7 +816,7 @@ uint8_t jillapun_encoder_max_length_from_utf16_without_replacement(const jillapu
  * character that has no bytes. `last` says that the text ends with it: then the last escape is
  * written too, and the encoder is as a new one.
  *
- * Returns `JILLAPUN_OK`, and `progress` tells what was done. At `JILLAPUN_INPUT_EMPTY` all is
+ * Returns `JILLAPUN_OK`, and `progress` says what was done. At `JILLAPUN_INPUT_EMPTY` all is
  * read. At `JILLAPUN_OUTPUT_FULL` something is left to do: make room, and hand in the rest
  * again, with `last` as it was, even if nothing is left; 14 bytes are always enough to go on.
  * Unless the encoding is UTF-8, the last ten bytes of `dst` are kept for a reference. Nothing
@@ -833,7 +833,7 @@ uint8_t jillapun_encoder_encode_from_utf16(jillapun_encoder *encoder, const jill
  * `last` says that the text ends with it: then the last escape is written too, and the encoder
  * is as a new one.
  *
- * Returns `JILLAPUN_OK`, and `progress` tells what was done. At `JILLAPUN_INPUT_EMPTY` all is
+ * Returns `JILLAPUN_OK`, and `progress` says what was done. At `JILLAPUN_INPUT_EMPTY` all is
  * read. At `JILLAPUN_OUTPUT_FULL` something is left to do: make room, and hand in the rest
  * again, with `last` as it was, even if nothing is left; 4 bytes are always enough to go on. At
  * `JILLAPUN_UNMAPPABLE` the character that was read last has no bytes: write its reference, or
@@ -856,7 +856,7 @@ uint8_t jillapun_encoder_encode_from_utf16_without_replacement(jillapun_encoder 
  * character that has no bytes. `last` says that the text ends with it: then the last escape is
  * written too, and the encoder is as a new one.
  *
- * Returns `JILLAPUN_OK`, and `progress` tells what was done. At `JILLAPUN_INPUT_EMPTY` all is
+ * Returns `JILLAPUN_OK`, and `progress` says what was done. At `JILLAPUN_INPUT_EMPTY` all is
  * read. At `JILLAPUN_OUTPUT_FULL` something is left to do: make room, and hand in the rest
  * again, with `last` as it was, even if nothing is left; 14 bytes are always enough to go on.
  * Unless the encoding is UTF-8, the last ten bytes of `dst` are kept for a reference. Nothing
@@ -881,7 +881,7 @@ uint8_t jillapun_encoder_encode_from_utf8(jillapun_encoder *encoder, const uint8
  * says that the text ends with it: then the last escape is written too, and the encoder is as a
  * new one.
  *
- * Returns `JILLAPUN_OK`, and `progress` tells what was done. At `JILLAPUN_INPUT_EMPTY` all is
+ * Returns `JILLAPUN_OK`, and `progress` says what was done. At `JILLAPUN_INPUT_EMPTY` all is
  * read. At `JILLAPUN_OUTPUT_FULL` something is left to do: make room, and hand in the rest
  * again, with `last` as it was, even if nothing is left; 4 bytes are always enough to go on. At
  * `JILLAPUN_UNMAPPABLE` the character that was read last has no bytes: write its reference, or
@@ -1004,10 +1004,11 @@ void jillapun_converter_free(jillapun_converter *converter);
 
 /**
  * Converts the next bytes of an input. It reads from the start of `src`, writes what that gives
- * at the start of `dst`, and a record of each loss at the start of `losses`, and tells in
+ * at the start of `dst`, and a record of each loss at the start of `losses`, and says in
  * `progress` how much of each. `last` says that nothing follows `src` in the input: give it
- * again, with what of `src` was not read, until the end is told. What finds no room is kept, at
- * most 1 KiB of text, 32 bytes of output and one record, and comes first in the next call.
+ * again, with what of `src` was not read, until the end is reported. What finds no room is
+ * kept, at most 1 KiB of text, 32 bytes of output and one record, and comes first in the next
+ * call.
  *
  * - `JILLAPUN_GOES_ON`: call again. If `progress` says that room is wanted (`wants_room`), with
  *   room, and with what of `src` was not read; what follows may stand behind it. Else all of
@@ -1052,7 +1053,7 @@ uint8_t jillapun_converter_step(jillapun_converter *converter, const uint8_t *sr
  * replacement), or if a number stands for nothing.
  *
  * The outputs of all parts, in a row, are the output for the whole. So are their records of
- * losses, once `jillapun_join_loss` has moved them, and what is told of the parts, once
+ * losses, once `jillapun_join_loss` has moved them, and what is reported of the parts, once
  * `jillapun_join_reports` has added it. Nothing was lost of the whole if nothing was lost of
  * any part. A part that the policy stops is the last, and is not added: the stop of the whole
  * has its `scalar`, and its `index` with the `characters` of the parts before.
@@ -1061,9 +1062,9 @@ uint8_t jillapun_part_encoding(uint8_t from, uint8_t to, uint8_t mark, const uin
     size_t first_len);
 
 /**
- * Makes a record of what the next part loses one of the whole. `before` is what is told of the
- * parts before it: its `read` is added to the place of a record of kind `JILLAPUN_BAD`, and its
- * `characters` to that of one of kind `JILLAPUN_LOST`.
+ * Makes a record of what the next part loses one of the whole. `before` is what is reported of
+ * the parts before it: its `read` is added to the place of a record of kind `JILLAPUN_BAD`, and
+ * its `characters` to that of one of kind `JILLAPUN_LOST`.
  *
  * Returns whether that was done. Else the record stays as it is: it is of another kind, or its
  * place would be 2^64 or more, which is so of no record of a conversion.
@@ -1071,9 +1072,9 @@ uint8_t jillapun_part_encoding(uint8_t from, uint8_t to, uint8_t mark, const uin
 bool jillapun_join_loss(const jillapun_report *before, jillapun_loss *loss);
 
 /**
- * Adds what is told of the next part to what is told of those before it: `read`, `bad`, `lost`,
- * `characters`, `written` and `losses`; `index` and `scalar` stay. The status of both is
- * `JILLAPUN_LOSSY` if that of one is.
+ * Adds what is reported of the next part to what is reported of those before it: `read`, `bad`,
+ * `lost`, `characters`, `written` and `losses`; `index` and `scalar` stay. The status of both
+ * is `JILLAPUN_LOSSY` if that of one is.
  *
  * Returns whether that was done. Else nothing is changed, since a sum would be 2^64 or more:
  * never of parts of an input that is within a limit.

@@ -112,7 +112,7 @@ def table():
         "//! no order and no index. In each list the labels stand in the order of the Encoding Standard, in",
         "//! lower case, each with the number of its encoding.",
         "",
-        "ghost use Rattle.std.specs.Prelude.{◌≡◌, ℕ};",
+        "ghost use Rattle.std.specs.Prelude.{◌≡◌};",
         "ghost use Rattle.encoding_labels.specs.laws.ByLength.{entries, labels_of_length};",
         "",
         *imports("crate::places", CONSTANTS),

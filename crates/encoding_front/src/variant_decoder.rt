@@ -170,8 +170,8 @@ impl<'t> VariantDecoder<'t> {
         }
     }
 
-    /// Goes on from what was saved: the call `resume`, with a clause more, that the rule stays as it
-    /// is.
+    /// Goes on from what was saved: the call `resume`, with a clause more, that the rule stays as
+    /// it is.
     pub(crate) fn resume_on(&mut self, saved: SavedPieces)
         requires { HoldsFew (resumed_of self.old saved.mode (saved_pending saved)) }
         ensures same { reading_of (state_of self.new)

@@ -172,8 +172,8 @@ fn any_bidi_in(units: &[u16]) -> bool
     any
 }
 
-// Whether a unit may be of a character that is written from right to left, for units that may be all
-// below the Hebrew block: whether they are is tested first.
+// Whether some unit may be of a character that is written from right to left, for units that may
+// all be below the Hebrew block: that is tested first.
 #[inline(always)]
 fn any_bidi_in_rest(units: &[u16]) -> bool
     ensures { result ≡ list_any is_bidi_unit units.now }
