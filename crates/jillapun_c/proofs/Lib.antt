@@ -3,6 +3,7 @@ mod AskedLemmas
 mod ConversionLemmas
 mod ConverterRunLemmas
 mod ConverterTurnLemmas
+mod DecodedLemmas
 mod EncoderHandleLemmas
 mod EncoderPartLemmas
 mod EncodingNumberLemmas

@@ -31,7 +31,8 @@ use Rattle.jillapun_c.specs.Conversions.{IsVerdict}
 use Rattle.jillapun_c.specs.EncodingNumbers.{encoding_at, mark_at}
 use Rattle.jillapun_c.specs.Openings.{IfReady}
 use Rattle.jillapun_c.specs.Room.{IsPut, TextIsPut}
-use Rattle.jillapun_c.specs.Whole.{BeginsWithText, DecodesIfReady, DecodesWhole, EncodesWhole, MayDecode, PutsIfRoom, verdict_of}
+use Rattle.jillapun_c.specs.Whole.{BeginsWithText, DecodesIfReady, DecodesWhole, EncodesWhole, IsToldOf, MayDecode, PutsIfRoom, verdict_of}
+use Rattle.jillapun_c.specs.declared.decoded.Decoded.{Decoded}
 use Rattle.jillapun_c.specs.declared.status.TheConstants.{LOSSY, NO_MEMORY, OK}
 use Rattle.jillapun_c.proofs.TextDecodeLemmas.{PutsOver}
 
@@ -42,13 +43,15 @@ all_read CoderResult.InputEmpty never = refl
 all_read CoderResult.OutputFull never = absurd (never refl)
 
 -- a call that does not end for lack of room writes the text at the start of it
-pub decodes_straight : (v v' : DecoderView) (t : IndexLists) (mark : Mark) (e : Encoding) (src old new : List ℕ) (outcome : CoderResult) (read w : ℕ) (left : RoomLeft) (had : Bool) (status : ℕ)
+pub decodes_straight : (v v' : DecoderView) (t : IndexLists) (mark : Mark) (e : Encoding) (src old new : List ℕ) (outcome : CoderResult) (read w : ℕ) (left : RoomLeft) (had : Bool) (told : Decoded) (status : ℕ)
     → IsNewDecoder v t mark e → outcome ≢ CoderResult.OutputFull → TextCall v v' src true read (λ (l : List ℕ). Adds old 0 (encode_utf8_all l) new w) left outcome had
-    → length new ≡ length old → status ≡ verdict_of had → DecodesWhole IsPut t e mark src old new w status
-decodes_straight v v' t mark e src old new outcome read w left had status begins never call same told =
+    → length new ≡ length old → told.written ≡ length (take w new) → IsToldOf mark e src (take w new) told → status ≡ verdict_of had → DecodesWhole IsPut t e mark src old new told status
+decodes_straight v v' t mark e src old new outcome read w left had told status begins never call same size told_of verdict =
     let wrote = wrote_text v v' src read (λ (l : List ℕ). Adds old 0 (encode_utf8_all l) new w) left outcome had call (all_read outcome never) in
     let made : List ℕ = encode_utf8_all (text (v.state.pieces src)) in
     let adds : Adds old 0 made new w = wrote.0 in
+    let is : take w new ≡ made = ap (take w) adds.list ∙ take_at made (drop w old) w (omega (arith, adds.counted)) in
+    let all : told.written ≡ w = omega (arith, size, ap length is, adds.counted) in
     record {
       text = made;
       had_errors = had;
@@ -58,13 +61,14 @@ decodes_straight v v' t mark e src old new outcome read w left had status begins
       };
       put = inl (record {
         put = record {
-          fits = omega (arith, adds.within, same);
-          is = ap (take w) adds.list ∙ take_at made (drop w old) w (omega (arith, adds.counted));
-          behind = ap (drop w) adds.list ∙ drop_at made (drop w old) w (omega (arith, adds.counted));
+          fits = omega (arith, adds.within, same, all);
+          is = ap (λ (n : ℕ). take n new) all ∙ is;
+          behind = ap (λ (n : ℕ). drop n new) all ∙ ap (drop w) adds.list ∙ drop_at made (drop w old) w (omega (arith, adds.counted)) ∙ ap (λ (n : ℕ). drop n old) (sym all);
         };
-        length_is = omega (arith, adds.counted);
-        told = told;
+        length_is = omega (arith, adds.counted, all);
+        told = verdict;
       });
+      told_of = subst (λ (l : List ℕ). IsToldOf mark e src l told) is told_of;
     }
 
 -- ---- by its status
@@ -85,12 +89,12 @@ told_verdict false status told = inl told
 -- ---- its text is put over another
 
 -- what was put begins with a text
-pub begins_with_text : (t : IndexLists) (e : Encoding) (mark : Mark) (src old new : List ℕ) (w status : ℕ) → AreAcceptedTables t → MayDecode IsPut t e mark src old new w status
-    → IsVerdict status → BeginsWithText new w
-begins_with_text t e mark src old new w status taken (inr none) verdict = is_memory status verdict none.0
-begins_with_text t e mark src old new w status taken (inl d) verdict = by_room d.put
+pub begins_with_text : (t : IndexLists) (e : Encoding) (mark : Mark) (src old new : List ℕ) (told : Decoded) (status : ℕ) → AreAcceptedTables t → MayDecode IsPut t e mark src old new told status
+    → IsVerdict status → BeginsWithText new told.written
+begins_with_text t e mark src old new told status taken (inr none) verdict = is_memory status verdict none.0
+begins_with_text t e mark src old new told status taken (inl d) verdict = by_room d.put
   where
-    by_room : PutsIfRoom IsPut d.text old new d.had_errors w status → BeginsWithText new w
+    by_room : PutsIfRoom IsPut d.text old new d.had_errors told.written status → BeginsWithText new told.written
     by_room (inl fits) = record {
       within = fits.put.fits;
       utf8 = subst IsUtf8 (sym (fits.put.is ∙ d.decoded.bytes)) (marked_text t mark e src, (marked_scalars t mark e src taken, refl));
@@ -102,18 +106,18 @@ by_option None A F G f h = h
 by_option (Some x) A F G f h = f x h
 
 -- what is put may be put otherwise
-decodes_as : (P Q : (old output new : List ℕ) (written : ℕ) → Type 0) (t : IndexLists) (encoding mark : ℕ) (src old mid new : List ℕ) (w status : ℕ)
-    → ((made : List ℕ) (had : Bool) → PutsIfRoom P made old mid had w status → PutsIfRoom Q made old new had w status) → (status ≡ NO_MEMORY → mid ≡ old → new ≡ old)
-    → DecodesIfReady P t encoding mark src old mid w status → DecodesIfReady Q t encoding mark src old new w status
-decodes_as P Q t encoding mark src old mid new w status puts kept h =
+decodes_as : (P Q : (old output new : List ℕ) (written : ℕ) → Type 0) (t : IndexLists) (encoding mark : ℕ) (src old mid new : List ℕ) (told : Decoded) (status : ℕ)
+    → ((made : List ℕ) (had : Bool) → PutsIfRoom P made old mid had told.written status → PutsIfRoom Q made old new had told.written status) → (status ≡ NO_MEMORY → mid ≡ old → new ≡ old)
+    → DecodesIfReady P t encoding mark src old mid told status → DecodesIfReady Q t encoding mark src old new told status
+decodes_as P Q t encoding mark src old mid new told status puts kept h =
     by_option (encoding_at encoding) _ (λ e. MatchOption (mark_at mark) _ (λ m. Decodes P mid e m)) (λ e. MatchOption (mark_at mark) _ (λ m. Decodes Q new e m))
     (λ e. by_option (mark_at mark) _ (λ m. Decodes P mid e m) (λ m. Decodes Q new e m) (ready e)) h
   where
     Decodes : (R : (old output new : List ℕ) (written : ℕ) → Type 0) → List ℕ → Encoding → Mark → Type 0
-    Decodes R l e m = IfReady t e (MayDecode R t e m src old l w status) status
+    Decodes R l e m = IfReady t e (MayDecode R t e m src old l told status) status
 
-    made : (e : Encoding) (m : Mark) → MayDecode P t e m src old mid w status → MayDecode Q t e m src old new w status
-    made e m (inl d) = inl (record { text = d.text; had_errors = d.had_errors; decoded = d.decoded; put = puts d.text d.had_errors d.put })
+    made : (e : Encoding) (m : Mark) → MayDecode P t e m src old mid told status → MayDecode Q t e m src old new told status
+    made e m (inl d) = inl (record { text = d.text; had_errors = d.had_errors; decoded = d.decoded; put = puts d.text d.had_errors d.put; told_of = d.told_of })
     made e m (inr none) = inr (none.0, kept none.0 none.1)
 
     ready : (e : Encoding) (m : Mark) → Decodes P mid e m → Decodes Q new e m
@@ -121,23 +125,23 @@ decodes_as P Q t encoding mark src old mid new w status puts kept h =
     ready e m (inr other) = inr other
 
 -- nothing is, if the status is no verdict
-pub not_put : (P Q : (old output new : List ℕ) (written : ℕ) → Type 0) (t : IndexLists) (encoding mark : ℕ) (src old new : List ℕ) (w status : ℕ) → ¬ (IsVerdict status)
-    → DecodesIfReady P t encoding mark src old new w status → DecodesIfReady Q t encoding mark src old new w status
-not_put P Q t encoding mark src old new w status other = decodes_as P Q t encoding mark src old new new w status (λ made had. too_long made had) (λ _ same. same)
+pub not_put : (P Q : (old output new : List ℕ) (written : ℕ) → Type 0) (t : IndexLists) (encoding mark : ℕ) (src old new : List ℕ) (told : Decoded) (status : ℕ) → ¬ (IsVerdict status)
+    → DecodesIfReady P t encoding mark src old new told status → DecodesIfReady Q t encoding mark src old new told status
+not_put P Q t encoding mark src old new told status other = decodes_as P Q t encoding mark src old new new told status (λ made had. too_long made had) (λ _ same. same)
   where
-    too_long : (made : List ℕ) (had : Bool) → PutsIfRoom P made old new had w status → PutsIfRoom Q made old new had w status
+    too_long : (made : List ℕ) (had : Bool) → PutsIfRoom P made old new had told.written status → PutsIfRoom Q made old new had told.written status
     too_long made had (inl fits) = absurd (other (told_verdict had status fits.told))
     too_long made had (inr long) = inr long
 
 -- a text is, whatever is behind it
-pub put_over_text : (t : IndexLists) (encoding mark : ℕ) (src old mid new : List ℕ) (w status : ℕ) → IsVerdict status → IsUtf8 (take w mid) → PutsOver mid new w
-    → DecodesIfReady IsPut t encoding mark src old mid w status → DecodesIfReady TextIsPut t encoding mark src old new w status
-put_over_text t encoding mark src old mid new w status verdict is over =
-    decodes_as IsPut TextIsPut t encoding mark src old mid new w status (λ made had. puts made had) (λ none same. is_memory status verdict none)
+pub put_over_text : (t : IndexLists) (encoding mark : ℕ) (src old mid new : List ℕ) (told : Decoded) (status : ℕ) → IsVerdict status → IsUtf8 (take told.written mid) → PutsOver mid new told.written
+    → DecodesIfReady IsPut t encoding mark src old mid told status → DecodesIfReady TextIsPut t encoding mark src old new told status
+put_over_text t encoding mark src old mid new told status verdict is over =
+    decodes_as IsPut TextIsPut t encoding mark src old mid new told status (λ made had. puts made had) (λ none same. is_memory status verdict none)
   where
-    puts : (made : List ℕ) (had : Bool) → PutsIfRoom IsPut made old mid had w status → PutsIfRoom TextIsPut made old new had w status
+    puts : (made : List ℕ) (had : Bool) → PutsIfRoom IsPut made old mid had told.written status → PutsIfRoom TextIsPut made old new had told.written status
     puts made had (inl fits) = inl (record {
-      put = subst (λ l. TextIsPut old l new w) (is.1.1 ∙ fits.put.is) (over is.0 old is.1.0 (sym is.1.1) fits.put.behind);
+      put = subst (λ l. TextIsPut old l new told.written) (is.1.1 ∙ fits.put.is) (over is.0 old is.1.0 (sym is.1.1) fits.put.behind);
       length_is = fits.length_is;
       told = fits.told;
     })

@@ -23,10 +23,12 @@ use Rattle.encoding_front.specs.Encodings.{no_lists}
 use Rattle.jillapun_c.specs.IndexFiles.{told_of}
 use Rattle.jillapun_c.specs.Room.{rest_cleared}
 use Rattle.jillapun_c.specs.TextParts.{IsLookedAt, most_read, told_outcome}
+use Rattle.jillapun_c.specs.Whole.{IsToldOf}
 use Rattle.jillapun_c.specs.declared.decoder.words.DecoderWords.{DecoderWords}
 use Rattle.jillapun_c.specs.declared.converter.Stage.TheVariants.{Open, Stopped}
 use Rattle.jillapun_c.specs.declared.index_files.FileFault.TheVariants as told
 use Rattle.jillapun_c.specs.declared.converter.progress.TheConstants.ConverterProgress as converter_
+use Rattle.jillapun_c.specs.declared.decoded.TheConstants.Decoded as decoded_
 use Rattle.jillapun_c.specs.declared.encoder_progress.TheConstants.EncoderProgress as encoder_
 use Rattle.jillapun_c.specs.declared.progress.TheConstants.Progress as decoder_
 use Rattle.jillapun_c.specs.declared.report.TheConstants.Report as report_
@@ -104,8 +106,22 @@ nothing_is_encoded = refl
 pub nothing_is_converted : converter_.NONE ≡ record { read = 0; written = 0; losses = 0; wants_room = false }
 nothing_is_converted = refl
 
+pub nothing_is_told : decoded_.NONE ≡ record { written = 0; mark_len = 0; encoding = 255; is_own = false }
+nothing_is_told = refl
+
 pub nothing_is_reported : report_.NONE ≡ record { read = 0; bad = 0; lost = 0; characters = 0; written = 0; losses = 0; index = 0; scalar = 0 }
 nothing_is_reported = refl
+
+-- what is told of an input: by the mark of UTF-8, that its text is its own bytes, those behind the mark; by that of UTF-16,
+-- and of a byte that stands for another character, that it is not
+pub own_behind_a_mark : IsToldOf Mark.Sniff Encoding.Windows1252 (0xEF ∷ 0xBB ∷ 0xBF ∷ 0x61 ∷ []) (0x61 ∷ []) (record { written = 1; mark_len = 3; encoding = 25; is_own = true })
+own_behind_a_mark = record { encoding_is = refl; mark_len_is = refl; own = (λ _. refl, λ _. refl) }
+
+pub other_behind_a_mark : IsToldOf Mark.Sniff Encoding.Utf8 (0xFF ∷ 0xFE ∷ 0x61 ∷ 0x00 ∷ []) (0x61 ∷ []) (record { written = 1; mark_len = 2; encoding = 27; is_own = false })
+other_behind_a_mark = record { encoding_is = refl; mark_len_is = refl; own = (λ h. absurd (cc), λ h. absurd (cc)) }
+
+pub mark_that_is_kept : IsToldOf Mark.Keep Encoding.Utf8 (0xEF ∷ 0xBB ∷ 0xBF ∷ []) (0xEF ∷ 0xBB ∷ 0xBF ∷ []) (record { written = 3; mark_len = 0; encoding = 25; is_own = true })
+mark_that_is_kept = record { encoding_is = refl; mark_len_is = refl; own = (λ _. refl, λ _. refl) }
 
 -- the most that a call reads: as many bytes as it has room for, in UTF-8 and what is written as UTF-8; else four each
 pub read_into_utf8 : most_read Encoding.Utf8 5 ≡ 5

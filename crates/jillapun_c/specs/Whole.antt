@@ -1,17 +1,20 @@
 -- What a call makes of a whole input, or of a whole text.
-use Rattle.std.specs.Prelude.{◌≡◌, ◌≢◌, ◌↔◌, ◌⊎◌, ℕ, ◌<◌, ◌≤◌, Bool, IsTrue, if◌then◌else◌, List, length, take, Option, Some, MatchOption}
+use Rattle.std.specs.Prelude.{◌≡◌, ◌≢◌, ◌↔◌, ◌⊎◌, ℕ, ◌<◌, ◌≤◌, Bool, IsTrue, if◌then◌else◌, List, length, take, drop, Option, Some, MatchOption}
 use Rattle.std.specs.Str.{IsUtf8, chars}
 use Rattle.encoding_mem.specs.Coding.{lost_count, output}
 use Rattle.encoding_mem.specs.declared.codec.reference.Reference.TheVariants.{Decimal}
 use Rattle.encoding_mem.specs.declared.codec.room.OutputUnit.TheVariants.{Replaced}
 use Rattle.encoding_tables.specs.IndexLists.{IndexLists}
+use Rattle.encoding_front.specs.EncodingTable.{number_of}
 use Rattle.encoding_front.specs.Encodings.{coding_of, output_encoding_of}
+use Rattle.encoding_front.specs.Marks.{source_of}
 use Rattle.encoding_front.specs.calls.OneShot.{IsDecoded, room_at_start}
 use Rattle.encoding_front.specs.declared.encoding.Encoding.{Encoding}
 use Rattle.encoding_front.specs.declared.mark.Mark.{Mark}
 use Rattle.jillapun_c.specs.EncodingNumbers.{encoding_at, mark_at}
 use Rattle.jillapun_c.specs.Openings.{IfReady}
 use Rattle.jillapun_c.specs.Room.{IsPut}
+use Rattle.jillapun_c.specs.declared.decoded.Decoded.{Decoded}
 use Rattle.jillapun_c.specs.declared.status.TheConstants.{OK, LOSSY, UNKNOWN, NO_MEMORY, ROOM}
 
 -- the status of a call that made all of its output
@@ -36,26 +39,34 @@ pub record IsTooLong (output old new : List ℕ) (written status : ℕ) : Type 0
 abbrev pub PutsIfRoom : (Puts : (old output new : List ℕ) (written : ℕ) → Type 0) (output old new : List ℕ) (is_lossy : Bool) (written status : ℕ) → Type 0
 PutsIfRoom Puts output old new is_lossy written status = FitsInto Puts output old new is_lossy written status ⊎ IsTooLong output old new written status
 
--- the text of the input is put into the room
-pub record DecodesWhole (Puts : (old output new : List ℕ) (written : ℕ) → Type 0) (tables : IndexLists) (e : Encoding) (mark : Mark) (src old new : List ℕ) (written status : ℕ) : Type 0 where
+-- What is told of an input that was decoded, beside the length of its text: the encoding, by the mark that is taken or else
+-- the one that was asked for; how long the mark is; and whether the text is the bytes that follow it.
+pub record IsToldOf (mark : Mark) (e : Encoding) (src text : List ℕ) (decoded : Decoded) : Type 0 where
+  pub encoding_is : decoded.encoding ≡ number_of (source_of mark e src).0
+  pub mark_len_is : decoded.mark_len ≡ (source_of mark e src).1
+  pub own : IsTrue decoded.is_own ↔ (text ≡ drop decoded.mark_len src)
+
+-- the text of the input is put into the room, and told of
+pub record DecodesWhole (Puts : (old output new : List ℕ) (written : ℕ) → Type 0) (tables : IndexLists) (e : Encoding) (mark : Mark) (src old new : List ℕ) (told : Decoded) (status : ℕ) : Type 0 where
   pub text : List ℕ
   pub had_errors : Bool
   pub decoded : IsDecoded tables mark e src text had_errors
-  pub put : PutsIfRoom Puts text old new had_errors written status
+  pub put : PutsIfRoom Puts text old new had_errors told.written status
+  pub told_of : IsToldOf mark e src text told
 
 -- the output is put into the room, or memory was refused and the room is as it was
 abbrev pub OrNoMemory : (Put : Type 0) (old new : List ℕ) (status : ℕ) → Type 0
 OrNoMemory Put old new status = Put ⊎ ((status ≡ NO_MEMORY) × (new ≡ old))
 
 -- the text is decoded, or memory was refused
-abbrev pub MayDecode : (Puts : (old output new : List ℕ) (written : ℕ) → Type 0) → IndexLists → Encoding → Mark → (src old new : List ℕ) → (written status : ℕ) → Type 0
-MayDecode Puts tables e mark src old new written status = OrNoMemory (DecodesWhole Puts tables e mark src old new written status) old new status
+abbrev pub MayDecode : (Puts : (old output new : List ℕ) (written : ℕ) → Type 0) → IndexLists → Encoding → Mark → (src old new : List ℕ) → (told : Decoded) → (status : ℕ) → Type 0
+MayDecode Puts tables e mark src old new told status = OrNoMemory (DecodesWhole Puts tables e mark src old new told status) old new status
 
 -- an input is decoded, if each number stands for something, and each index that the encoding needs is there
-abbrev pub DecodesIfReady : (Puts : (old output new : List ℕ) (written : ℕ) → Type 0) → IndexLists → (encoding mark : ℕ) (src old new : List ℕ) (written status : ℕ) → Type 0
-DecodesIfReady Puts t encoding mark src old new written status =
+abbrev pub DecodesIfReady : (Puts : (old output new : List ℕ) (written : ℕ) → Type 0) → IndexLists → (encoding mark : ℕ) (src old new : List ℕ) (told : Decoded) (status : ℕ) → Type 0
+DecodesIfReady Puts t encoding mark src old new told status =
     MatchOption (encoding_at encoding) (status ≡ UNKNOWN) (λ e. MatchOption (mark_at mark) (status ≡ UNKNOWN)
-    (λ m. IfReady t e (MayDecode Puts t e m src old new written status) status))
+    (λ m. IfReady t e (MayDecode Puts t e m src old new told status) status))
 
 -- bytes begin with a text of so many
 pub record BeginsWithText (bytes : List ℕ) (size : ℕ) : Type 0 where

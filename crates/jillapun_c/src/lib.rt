@@ -8,6 +8,7 @@
 
 mod convert;
 mod converter;
+mod decoded;
 mod decoder;
 mod encoder;
 mod encoder_progress;

@@ -20,9 +20,11 @@ ghost use Rattle.jillapun_c.specs.Whole.{BeginsWithText, DecodesIfReady, Decodes
 ghost use Rattle.jillapun_c.specs.Whole.{EncodesIfReady, HasRoomAsked, MayDecode, MayEncode};
 ghost use Rattle.jillapun_c.specs.Whole.{PutsIfRoom};
 ghost use Rattle.jillapun_c.specs.Whole.{TakesNoMemory, verdict_of};
+ghost use Rattle.jillapun_c.specs.declared.decoded.TheConstants.Decoded.{NONE};
 ghost use Rattle.jillapun_c.specs.declared.status.TheConstants.{LOSSY, NO_MEMORY, NOT_UTF8};
 ghost use Rattle.jillapun_c.specs.declared.status.TheConstants.{OK, ROOM};
 
+use crate::decoded::Decoded;
 use crate::encoding_number::{encoding_of, mark_of};
 use crate::mem::text_room::clear_rest;
 use crate::mem::utf8::is_text;
@@ -35,16 +37,16 @@ use std::str;
 
 /// Decodes a whole input to UTF-8, at the start of `dst`, with U+FFFD for each malformed sequence.
 /// `mark` says what becomes of a byte order mark at its start. `tables` may be `{0}` if the
-/// encoding needs no index. `written` is the length of the text in bytes, and nothing after it
-/// changes.
+/// encoding needs no index. Nothing after the text changes.
 ///
 /// Returns `OK`; or `LOSSY`, a malformed sequence was replaced. At `ROOM` nothing is written, since
-/// `dst` is shorter than the text: call again with room for `written` bytes. Else nothing is done,
-/// and `written` is 0: `UNKNOWN`, no encoding or no handling of marks has the number; `NOT_READY`,
-/// the tables lack an index of the encoding, or there are none and it needs one; `NO_MEMORY`,
-/// memory was refused, which is not asked for if `dst` is as long as
-/// `jillapun_decoder_max_utf8_length` tells of `src_len` bytes and a new decoder of this encoding
-/// with this `mark`.
+/// `dst` is shorter than the text, and `decoded` is as after a call with enough room: call again
+/// with room for `written` bytes, or, if the text `is_own`, use the input. Else nothing is done,
+/// and `decoded` says so: its `encoding` is `NO_ENCODING`, and all else 0. `UNKNOWN`: no encoding
+/// or no handling of marks has the number. `NOT_READY`: the tables lack an index of the encoding,
+/// or there are none and it needs one. `NO_MEMORY`: memory was refused, which is not asked for if
+/// `dst` is as long as `jillapun_decoder_max_utf8_length` tells of `src_len` bytes and a new
+/// decoder of this encoding with this `mark`.
 #[unsafe(no_mangle)]
 pub extern "C" fn jillapun_decode(
     alloc: Global,
@@ -53,16 +55,16 @@ pub extern "C" fn jillapun_decode(
     mark: u8,
     src: &[u8],
     dst: &mut [u8],
-    written: &mut usize,
+    decoded: &mut Decoded,
 ) -> u8
     ensures decodes { DecodesIfReady IsPut (held_lists tables.tables) encoding mark src.now dst.old
-        dst.new written.new result }
-    ensures text { IsVerdict result → BeginsWithText dst.new written.new }
+        dst.new decoded.new result }
+    ensures text { IsVerdict result → BeginsWithText dst.new decoded.new.written }
     ensures kept { result ≢ OK → result ≢ LOSSY → dst.new ≡ dst.old }
-    ensures nothing { result ≢ OK → result ≢ LOSSY → result ≢ ROOM → written.new ≡ 0 }
+    ensures nothing { result ≢ OK → result ≢ LOSSY → result ≢ ROOM → decoded.new ≡ NONE }
     ensures memory { TakesNoMemory encoding mark (length src.now) (length dst.old) result }
 {
-    *written = 0;
+    *decoded = Decoded::NONE;
     let Some(encoding) = encoding_of(encoding) else {
         return UNKNOWN;
     };
@@ -72,7 +74,7 @@ pub extern "C" fn jillapun_decode(
     if !tables.are_ready(encoding) {
         return NOT_READY;
     }
-    decode_into(alloc, tables.lent(), encoding, mark, src, dst, written)
+    decode_into(alloc, tables.lent(), encoding, mark, src, dst, decoded)
 }
 
 /// Decodes a whole input to UTF-8 at the start of a text, with U+FFFD for each malformed sequence.
@@ -87,19 +89,19 @@ pub extern "C" fn jillapun_decode_to_str(
     mark: u8,
     src: &[u8],
     dst: &mut [u8],
-    written: &mut usize,
+    decoded: &mut Decoded,
 ) -> u8
     ensures decodes { DecodesIfReady TextIsPut (held_lists tables.tables) encoding mark src.now
-        dst.old dst.new written.new result }
+        dst.old dst.new decoded.new result }
     ensures kept { result ≢ OK → result ≢ LOSSY → dst.new ≡ dst.old }
-    ensures nothing { result ≢ OK → result ≢ LOSSY → result ≢ ROOM → written.new ≡ 0 }
+    ensures nothing { result ≢ OK → result ≢ LOSSY → result ≢ ROOM → decoded.new ≡ NONE }
     ensures memory { TakesNoMemory encoding mark (length src.now) (length dst.old) result }
 {
-    let status = jillapun_decode(alloc, tables, encoding, mark, src, dst, written);
+    let status = jillapun_decode(alloc, tables, encoding, mark, src, dst, decoded);
     if !is_verdict(status) {
         return status;
     }
-    clear_rest(dst, *written);
+    clear_rest(dst, decoded.written);
     status
 }
 
@@ -118,28 +120,28 @@ fn decode_into(
     mark: Mark,
     src: &[u8],
     dst: &mut [u8],
-    written: &mut usize,
+    decoded: &mut Decoded,
 ) -> u8
     requires ready { IsReady (lists_of tables) encoding }
     requires accepted { AreAcceptedTables (lists_of tables) }
     ensures decodes { MayDecode IsPut (lists_of tables.entry) encoding mark src.now dst.old dst.new
-        written.new result }
-    ensures text { IsVerdict result → BeginsWithText dst.new written.new }
+        decoded.new result }
+    ensures text { IsVerdict result → BeginsWithText dst.new decoded.new.written }
     ensures kept { result ≢ OK → result ≢ LOSSY → dst.new ≡ dst.old }
-    ensures nothing { result ≢ OK → result ≢ LOSSY → result ≢ ROOM → written.new ≡ 0 }
+    ensures nothing { result ≢ OK → result ≢ LOSSY → result ≢ ROOM → decoded.new ≡ NONE }
     ensures memory { HasRoomAsked (room_at_start mark encoding Replaced (length src.now))
         (length dst.old) → result ≢ NO_MEMORY }
 {
     let mut decoder = Decoder::new(encoding, mark, tables);
     if is_enough(&decoder, src.len(), dst.len()) {
-        return decode_straight(&mut decoder, src, dst, written);
+        return decode_straight(&mut decoder, encoding, mark, src, dst, decoded);
     }
     match tables {
-        Some(tables) => decode_by_copy(alloc, tables, encoding, mark, src, dst, written),
+        Some(tables) => decode_by_copy(alloc, tables, encoding, mark, src, dst, decoded),
         // The call of the library for a whole input asks for tables.
         None => {
             let none = Tables::new(alloc);
-            decode_by_copy(alloc, &none, encoding, mark, src, dst, written)
+            decode_by_copy(alloc, &none, encoding, mark, src, dst, decoded)
         }
     }
 }
@@ -157,18 +159,25 @@ fn is_enough(decoder: &Decoder<'_>, size: usize, room: usize) -> bool
 }
 
 // Decodes a whole input by a new decoder straight into the room, which is surely enough.
-fn decode_straight(decoder: &mut Decoder<'_>, src: &[u8], dst: &mut [u8], written: &mut usize) -> u8
+fn decode_straight(
+    decoder: &mut Decoder<'_>,
+    encoding: Encoding,
+    mark: Mark,
+    src: &[u8],
+    dst: &mut [u8],
+    decoded: &mut Decoded,
+) -> u8
     requires open { (decoder_view decoder.old).finished ≡ false }
     requires room { HasRoomAsked
         (room_asked (decoder_view decoder.old).opening Replaced (length src.now))
         (length dst.old) }
-    ensures decodes { (tables : IndexLists) (e : Encoding) (mark : Mark)
-        → IsNewDecoder (decoder_view decoder.old) tables mark e
-        → DecodesWhole IsPut tables e mark src.now dst.old dst.new written.new result }
+    ensures decodes { (tables : IndexLists)
+        → IsNewDecoder (decoder_view decoder.old) tables mark encoding
+        → DecodesWhole IsPut tables encoding mark src.now dst.old dst.new decoded.new result }
     ensures done { IsVerdict result }
 {
     let (_, _, length, had_errors) = decoder.decode_to_utf8(src, dst, true);
-    *written = length;
+    *decoded = Decoded::of(encoding, mark, src, &dst[..length]);
     verdict_of(had_errors)
 }
 
@@ -180,25 +189,28 @@ fn decode_by_copy(
     mark: Mark,
     src: &[u8],
     dst: &mut [u8],
-    written: &mut usize,
+    decoded: &mut Decoded,
 ) -> u8
     requires { IsReady tables.now encoding }
     ensures decodes { MayDecode IsPut tables.now encoding mark src.now dst.old dst.new
-        written.new result }
+        decoded.new result }
     ensures kept { result ≢ OK → result ≢ LOSSY → dst.new ≡ dst.old }
-    ensures nothing { result ≢ OK → result ≢ LOSSY → result ≢ ROOM → written.new ≡ 0 }
+    ensures nothing { result ≢ OK → result ≢ LOSSY → result ≢ ROOM → decoded.new ≡ NONE }
 {
-    match decoded(alloc, tables, encoding, mark, src) {
-        Ok((text, had_errors)) => put(text.as_bytes(), had_errors, dst, written),
+    match text_of(alloc, tables, encoding, mark, src) {
+        Ok((text, had_errors)) => {
+            *decoded = Decoded::of(encoding, mark, src, text.as_bytes());
+            put(text.as_bytes(), had_errors, dst, &mut decoded.written)
+        }
         Err(_) => {
-            *written = 0;
+            *decoded = Decoded::NONE;
             NO_MEMORY
         }
     }
 }
 
 // The text of a whole input, and whether a malformed sequence was replaced.
-fn decoded(
+fn text_of(
     alloc: Global,
     tables: &Tables,
     encoding: Encoding,

@@ -1,6 +1,9 @@
 //! Calls of the exports for whole texts.
 
-use crate::status::{KEEP, LOSSY, NOT_READY, NOT_UTF8, OK, REMOVE, ROOM, SNIFF, UNKNOWN};
+use crate::decoded::Decoded;
+use crate::status::{
+    KEEP, LOSSY, NO_ENCODING, NOT_READY, NOT_UTF8, OK, REMOVE, ROOM, SNIFF, UNKNOWN,
+};
 use crate::tables_handle::TablesHandle;
 use crate::tests::euro;
 use crate::whole::{jillapun_decode, jillapun_decode_to_str, jillapun_encode};
@@ -13,6 +16,14 @@ const UTF_8: u8 = 25;
 const UTF_16LE: u8 = 27;
 
 const X_USER_DEFINED: u8 = 39;
+
+// What a report holds before a call.
+const FILLED: Decoded = Decoded {
+    written: 9,
+    mark_len: 9,
+    encoding: 9,
+    is_own: true,
+};
 
 // What a call leaves: its status, the room, and the length.
 type Left = (u8, [u8; 12], usize);
@@ -30,7 +41,7 @@ fn decoded_over(
     room: usize,
 ) -> Left {
     let mut dst = *b"............";
-    let mut written = 9;
+    let mut told = FILLED;
     let status = jillapun_decode(
         alloc,
         tables,
@@ -38,9 +49,9 @@ fn decoded_over(
         mark,
         src,
         &mut dst[..room.min(12)],
-        &mut written,
+        &mut told,
     );
-    (status, dst, written)
+    (status, dst, told.written)
 }
 
 fn encoded(alloc: Global, encoding: u8, text: &[u8], room: usize) -> Left {
@@ -95,13 +106,69 @@ fn room_that_is_surely_enough_changes_nothing(rt: HostRuntime) {
     assert_eq!(rt; left, (ROOM, *b"............", 12));
 }
 
+// What a call reports: its status, the length of the mark, the encoding, and whether the text is
+// the input's own bytes.
+fn reported(
+    alloc: Global,
+    encoding: u8,
+    mark: u8,
+    src: &[u8],
+    room: usize,
+) -> (u8, usize, u8, bool) {
+    let mut dst = [0; 12];
+    let mut told = FILLED;
+    let tables = euro(alloc);
+    let dst = &mut dst[..room.min(12)];
+    let status = jillapun_decode(alloc, tables, encoding, mark, src, dst, &mut told);
+    (status, told.mark_len, told.encoding, told.is_own)
+}
+
+#[test]
+fn encoding_and_own_bytes_are_reported(rt: HostRuntime) {
+    let alloc = rt.alloc();
+    let marked = [0xEF, 0xBB, 0xBF, 0xC3, 0xA9];
+    assert_eq!(rt;
+        reported(alloc, WINDOWS_1252, SNIFF, &marked, 12),
+        (OK, 3, UTF_8, true)
+    );
+    assert_eq!(rt;
+        reported(alloc, WINDOWS_1252, SNIFF, &marked, 0),
+        (ROOM, 3, UTF_8, true)
+    );
+    assert_eq!(rt;
+        reported(alloc, UTF_8, KEEP, &marked, 12),
+        (OK, 0, UTF_8, true)
+    );
+    assert_eq!(rt;
+        reported(alloc, UTF_8, REMOVE, &[0xFF, 0xFE, 0x61], 12),
+        (LOSSY, 0, UTF_8, false)
+    );
+    assert_eq!(rt;
+        reported(alloc, WINDOWS_1252, KEEP, b"abc", 12),
+        (OK, 0, WINDOWS_1252, true)
+    );
+    assert_eq!(rt;
+        reported(alloc, UTF_8, SNIFF, &[0xFF, 0xFE, 0x61, 0], 12),
+        (OK, 2, UTF_16LE, false)
+    );
+    // A malformed sequence of three bytes is not U+FFFD, which has as many.
+    assert_eq!(rt;
+        reported(alloc, UTF_8, KEEP, &[0xF0, 0x9F, 0x92], 12),
+        (LOSSY, 0, UTF_8, false)
+    );
+    assert_eq!(rt;
+        reported(alloc, 40, KEEP, b"a", 12),
+        (UNKNOWN, 0, NO_ENCODING, false)
+    );
+}
+
 fn put_over(alloc: Global, encoding: u8, src: &[u8], room: usize) -> (u8, [u8; 8], usize) {
     let mut text = *b"\xC3\xA9\xE2\x82\xAC\xE2\x82\xAC";
-    let mut written = 9;
+    let mut told = FILLED;
     let tables = euro(alloc);
     let dst = &mut text[..room.min(8)];
-    let status = jillapun_decode_to_str(alloc, tables, encoding, KEEP, src, dst, &mut written);
-    (status, text, written)
+    let status = jillapun_decode_to_str(alloc, tables, encoding, KEEP, src, dst, &mut told);
+    (status, text, told.written)
 }
 
 #[test]

@@ -5,7 +5,7 @@ use Rattle.jillapun_c.proofs.whole.jillapun_decode_to_str.Goals as goal
 
 pub returns-then-not-is_verdict-clause-decodes : goal.returns-then-not-is_verdict-clause-decodes
 returns-then-not-is_verdict-clause-decodes c =
-    not_put IsPut TextIsPut (held_lists c.args.tables.tables) c.args.encoding c.args.mark c.args.src.now c.args.dst.now c.jillapun_decode-status.new.dst c.jillapun_decode-status.new.written c.jillapun_decode-status.result
+    not_put IsPut TextIsPut (held_lists c.args.tables.tables) c.args.encoding c.args.mark c.args.src.now c.args.dst.now c.jillapun_decode-status.new.dst c.jillapun_decode-status.new.decoded c.jillapun_decode-status.result
     (λ verdict. let is = c.is_verdict.ensures.1 verdict in absurd (cc)) c.jillapun_decode-status.ensures.decodes
 
 pub clear_rest-requires : goal.clear_rest-requires
@@ -14,7 +14,7 @@ clear_rest-requires c = (c.jillapun_decode-status.ensures.text (c.is_verdict.ens
 pub returns-clause-decodes : goal.returns-clause-decodes
 returns-clause-decodes c =
     let verdict = c.is_verdict.ensures.0 c.if-not-is_verdict.false in
-    put_over_text (held_lists c.args.tables.tables) c.args.encoding c.args.mark c.args.src.now c.args.dst.now c.jillapun_decode-status.new.dst c.clear_rest.new.dst c.jillapun_decode-status.new.written c.jillapun_decode-status.result
+    put_over_text (held_lists c.args.tables.tables) c.args.encoding c.args.mark c.args.src.now c.args.dst.now c.jillapun_decode-status.new.dst c.clear_rest.new.dst c.jillapun_decode-status.new.decoded c.jillapun_decode-status.result
     verdict (c.jillapun_decode-status.ensures.text verdict).utf8 c.clear_rest.ensures.put c.jillapun_decode-status.ensures.decodes
 
 pub returns-clause-kept : goal.returns-clause-kept
