@@ -105,7 +105,9 @@ enum {
      */
     JILLAPUN_STOPPED = 12,
     /** The input has more bytes than the limit. */
-    JILLAPUN_TOO_LONG = 13
+    JILLAPUN_TOO_LONG = 13,
+    /** A sequence of the input is malformed, and the call replaces none. */
+    JILLAPUN_NOT_WELL_FORMED = 14
 };
 
 /* The outcome of a call of a decoder or an encoder. */
@@ -378,6 +380,24 @@ typedef struct {
      */
     uint32_t scalar;
 } jillapun_encoder_progress;
+
+/** What a call that decodes a whole input reports. */
+typedef struct {
+    /** How many bytes the text has. */
+    size_t written;
+    /** How many bytes the byte order mark has that was left out; 0 if none was. */
+    size_t mark_len;
+    /**
+     * The number of the encoding that the input was decoded from: that of the mark, if one was
+     * left out, else the one that was asked for. `JILLAPUN_NO_ENCODING` if nothing was decoded.
+     */
+    uint8_t encoding;
+    /**
+     * Whether the text is the bytes of the input that follow the mark, as they stand: then the
+     * caller may use these, from `src + mark_len` on, in place of `dst`.
+     */
+    bool is_own;
+} jillapun_decoded;
 
 /** A malformed sequence of the input, or a character that the output encoding has no bytes for. */
 typedef struct {
@@ -906,19 +926,20 @@ uint8_t jillapun_encoder_encode_from_utf8_without_replacement(jillapun_encoder *
 /**
  * Decodes a whole input to UTF-8, at the start of `dst`, with U+FFFD for each malformed
  * sequence. `mark` says what becomes of a byte order mark at its start. `tables` may be `{0}`
- * if the encoding needs no index. `written` is the length of the text in bytes, and nothing
- * after it changes.
+ * if the encoding needs no index. Nothing after the text changes.
  *
  * Returns `JILLAPUN_OK`; or `JILLAPUN_LOSSY`, a malformed sequence was replaced. At
- * `JILLAPUN_ROOM` nothing is written, since `dst` is shorter than the text: call again with
- * room for `written` bytes. Else nothing is done, and `written` is 0: `JILLAPUN_UNKNOWN`, no
- * encoding or no handling of marks has the number; `JILLAPUN_NOT_READY`, the tables lack an
- * index of the encoding, or there are none and it needs one; `JILLAPUN_NO_MEMORY`, memory was
- * refused, which is not asked for if `dst` is as long as `jillapun_decoder_max_utf8_length`
- * tells of `src_len` bytes and a new decoder of this encoding with this `mark`.
+ * `JILLAPUN_ROOM` nothing is written, since `dst` is shorter than the text, and `decoded` is as
+ * after a call with enough room: call again with room for `written` bytes, or, if the text
+ * `is_own`, use the input. Else nothing is done, and `decoded` says so: its `encoding` is
+ * `JILLAPUN_NO_ENCODING`, and all else 0. `JILLAPUN_UNKNOWN`: no encoding or no handling of
+ * marks has the number. `JILLAPUN_NOT_READY`: the tables lack an index of the encoding, or
+ * there are none and it needs one. `JILLAPUN_NO_MEMORY`: memory was refused, which is not asked
+ * for if `dst` is as long as `jillapun_decoder_max_utf8_length` tells of `src_len` bytes and a
+ * new decoder of this encoding with this `mark`.
  */
 uint8_t jillapun_decode(jillapun_tables tables, uint8_t encoding, uint8_t mark, const uint8_t *src,
-    size_t src_len, uint8_t *dst, size_t dst_len, size_t *written);
+    size_t src_len, uint8_t *dst, size_t dst_len, jillapun_decoded *decoded);
 
 /**
  * Decodes a whole input to UTF-8 at the start of a text, with U+FFFD for each malformed
@@ -927,7 +948,19 @@ uint8_t jillapun_decode(jillapun_tables tables, uint8_t encoding, uint8_t mark, 
  * the call, as with `jillapun_decoder_decode_to_str`.
  */
 uint8_t jillapun_decode_to_str(jillapun_tables tables, uint8_t encoding, uint8_t mark,
-    const uint8_t *src, size_t src_len, uint8_t *dst, size_t dst_len, size_t *written);
+    const uint8_t *src, size_t src_len, uint8_t *dst, size_t dst_len, jillapun_decoded *decoded);
+
+/**
+ * Decodes a whole input to UTF-8, at the start of `dst`, unless a sequence of it is malformed.
+ *
+ * Returns `JILLAPUN_OK`, and text and `decoded` are those of `jillapun_decode`. Or
+ * `JILLAPUN_NOT_WELL_FORMED`: a sequence is malformed; `decoded` is as if nothing was done, and
+ * what `dst` holds is not said. Else `dst` stays as it was, and what is returned, and
+ * `decoded`, is as of `jillapun_decode`, but for this: memory is not asked for if `dst` is as
+ * long as `jillapun_decoder_max_utf8_length_without_replacement` tells.
+ */
+uint8_t jillapun_decode_without_replacement(jillapun_tables tables, uint8_t encoding, uint8_t mark,
+    const uint8_t *src, size_t src_len, uint8_t *dst, size_t dst_len, jillapun_decoded *decoded);
 
 /**
  * Encodes a whole text, which is UTF-8, into the output encoding of the one with this number

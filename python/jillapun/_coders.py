@@ -78,13 +78,13 @@ def _declared(name: str, *parameters: Any) -> Any:
     return call
 
 
-_DECODER, _ENCODER, _WRITTEN = ctypes.POINTER(Decoder), ctypes.POINTER(Encoder), ctypes.POINTER(c.Size)
+_DECODER, _ENCODER = ctypes.POINTER(Decoder), ctypes.POINTER(Encoder)
 _LENT, _ROOM = (ctypes.c_char_p, c.Size), (ctypes.c_void_p, c.Size)
 _STEP = (*_ROOM, *_ROOM, ctypes.c_bool)
 _DECODE, _ENCODE = (_DECODER, *_STEP, ctypes.POINTER(Progress)), (_ENCODER, *_STEP, ctypes.POINTER(EncoderProgress))
 
-decode_whole = _declared("jillapun_decode", c.Tables, c.Byte, c.Byte, *_LENT, *_ROOM, _WRITTEN)
-encode_whole = _declared("jillapun_encode", c.Tables, c.Byte, *_LENT, *_ROOM, _WRITTEN)
+decode_whole = _declared("jillapun_decode", c.Tables, c.Byte, c.Byte, *_LENT, *_ROOM, ctypes.POINTER(c.Decoded))
+encode_whole = _declared("jillapun_encode", c.Tables, c.Byte, *_LENT, *_ROOM, ctypes.POINTER(c.Size))
 decode_replacing = _declared("jillapun_decoder_decode_to_utf8", *_DECODE)
 decode_stopping = _declared("jillapun_decoder_decode_to_utf8_without_replacement", *_DECODE)
 encode_replacing = _declared("jillapun_encoder_encode_from_utf8", *_ENCODE)

@@ -14,7 +14,7 @@ Long = ctypes.c_uint64
 
 # Statuses.
 OK, LOSSY, UNKNOWN, NOT_READY, BAD_INDEX, NO_MEMORY, CLOSED, IN_USE, FINISHED, NOT_UTF8, ROOM = range(11)
-GOES_ON, STOPPED, TOO_LONG = 11, 12, 13
+GOES_ON, STOPPED, TOO_LONG, NOT_WELL_FORMED = range(11, 15)
 
 # Kinds of losses.
 BAD, LOST = range(2)
@@ -73,6 +73,10 @@ class Report(ctypes.Structure):
         ("index", Long),
         ("scalar", ctypes.c_uint32),
     ]
+
+
+class Decoded(ctypes.Structure):
+    _fields_ = [("written", Size), ("mark_len", Size), ("encoding", Byte), ("is_own", ctypes.c_bool)]
 
 
 class ConverterProgress(ctypes.Structure):

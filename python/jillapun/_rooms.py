@@ -13,12 +13,13 @@ class Room:
     def __init__(self, size: int, count: int):
         self.bytes: Any = (ctypes.c_char * size)()
         self.losses: Any = (ctypes.c_char * (count * c.LOSS.size))()
-        written, self.report = c.Size(), c.Report()
+        decoded, written, self.report = c.Decoded(), c.Size(), c.Report()
         # For a call with declared parameters.
         self.words = self.bytes, size, self.losses, count
-        # For one with none, and what is to be read after it: one that lists no losses, and one that does.
+        # For one with none, and what is to be read after it: two that list no losses, and one that does.
         lent = ctypes.byref(self.bytes), c.Size.from_param(size)
-        self.short: Any = (*lent, ctypes.byref(written), written, self.bytes)
+        self.decoding: Any = (*lent, ctypes.byref(decoded), decoded, self.bytes)
+        self.encoding: Any = (*lent, ctypes.byref(written), written, self.bytes)
         self.whole: Any = (*lent, ctypes.byref(self.losses), c.Size.from_param(count), ctypes.byref(self.report))
 
 

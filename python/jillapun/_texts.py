@@ -69,9 +69,9 @@ def decode(data: bytes, encoding: str, *, mark: str = "remove", indexes: Optiona
             room = _take()
         except IndexError:
             room = rooms.take()
-        place, size, told, written, made = room.short
+        place, size, told, decoded, made = room.decoding
         if not decode_short(at, is_open, number, at_mark, given, LENGTHS[len(given)], place, size, told):
-            text = made[: written.value].decode()
+            text = made[: decoded.written].decode()
             _give(room)
             return _new(Decoded, (text, []))
         _give(room)
@@ -95,7 +95,7 @@ def encode(text: str, encoding: str, *, unmappable: str = "decimal", indexes: Op
             room = _take()
         except IndexError:
             room = rooms.take()
-        place, size, told, written, made = room.short
+        place, size, told, written, made = room.encoding
         if not encode_short(at, is_open, number, given, LENGTHS[len(given)], place, size, told):
             data = made[: written.value]
             _give(room)

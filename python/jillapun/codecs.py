@@ -44,7 +44,7 @@ class _Room:
 
     def __init__(self) -> None:
         self.at = ctypes.create_string_buffer(_ROOM)
-        self.bytes, self.written = memoryview(self.at), c.Size()
+        self.bytes, self.decoded, self.written = memoryview(self.at), c.Decoded(), c.Size()
 
     def text(self, size: int) -> str:
         return str(self.bytes[:size], "utf-8")
@@ -126,10 +126,10 @@ class Coding:
     def _short_text(self, data: bytes, errors: str, state: int, final: bool) -> Optional[str]:
         """The text, or nothing if there is a malformed sequence, or an undecided one, that the caller has to see."""
         room = _room()
-        words = self.number, self.mark(state), data, len(data), room.at, _ROOM, room.written
+        words = self.number, self.mark(state), data, len(data), room.at, _ROOM, room.decoded
         status = coders.decode_whole(handle_of(None), *words)
         is_enough = status == c.OK or (status == c.LOSSY and final and errors == "replace")
-        text = room.text(room.written.value) if is_enough else None
+        text = room.text(room.decoded.written) if is_enough else None
         _rooms.append(room)
         return text
 

@@ -50,6 +50,11 @@ def text_of(points):
     return "".join(map(chr, points))
 
 
+def length_in(told):
+    """How long the output is of which a call for a whole input, or for a whole text, reports."""
+    return told.value if isinstance(told, ctypes.c_size_t) else told.written
+
+
 def encoded(encoder, points):
     """The bytes of a text without what has none, and with decimal references for it; and each lost character."""
     plain, replaced, lost = bytearray(), bytearray(), []
@@ -233,8 +238,8 @@ class Streams:
         return text + b"." * (size - len(text))
 
     def decoders(self, job, data, parts):
-        """The six calls of a decoder, and the two for a whole input."""
-        pieces = plain_recode.pieces(self.encodings, job, data)[1]
+        """The six calls of a decoder, and the three for a whole input."""
+        found, pieces = plain_recode.pieces(self.encodings, job, data)
         text = text_of(point for _, _, points in pieces for point in ((0xFFFD,) if points is None else points))
         losses = [(start, end - start) for start, end, points in pieces if points is None]
         for to_units, name in ((False, "utf8"), (False, "str"), (True, "utf16")):
@@ -245,6 +250,8 @@ class Streams:
         words = self.numbers[job.source], MARKS[job.mark]
         for call in ("jillapun_decode", "jillapun_decode_to_str"):
             self.in_one_call(call, words, data, text.encode(), bool(losses))
+        mark = plain_recode.found_in(job, data)[1]
+        self.told_of(words, data, text.encode(), (mark, self.numbers[found], text.encode() == data[mark:]), bool(losses))
         self.over_a_text(words, data, text.encode())
         self.queried(job, data, text)
         if not losses:
@@ -362,22 +369,41 @@ class Streams:
     def in_one_call(self, call, words, given, output, had):
         """A whole input or text at once: in room that is enough, perhaps surely so, which stays as it was after the output, and
         in too little."""
-        written, filled = ctypes.c_size_t(), b"\x5a" * self.random.choice((0, 1, 5, 4 * len(given) + 12))
+        told, filled = self.told(call), b"\x5a" * self.random.choice((0, 1, 5, 4 * len(given) + 12))
         room = bytearray(b"\x5a" * len(output) + filled)
-        status = getattr(self.library, call)(self.tables, *words, given, room, written)
-        got = status, bytes(room), written.value
+        status = getattr(self.library, call)(self.tables, *words, given, room, told)
+        got = status, bytes(room), length_in(told)
         self.same(call, (words, given), got, (NUMBERS["LOSSY" if had else "OK"], output + filled, len(output)))
         if output:
             room = bytearray(len(output) - 1)
-            status = getattr(self.library, call)(self.tables, *words, given, room, written)
-            got = status, set(room) <= {0}, written.value
+            status = getattr(self.library, call)(self.tables, *words, given, room, told)
+            got = status, set(room) <= {0}, length_in(told)
             self.same("too small a room", (call, words, given), got, (NUMBERS["ROOM"], True, len(output)))
+
+    def told(self, call):
+        """What a call for a whole input, or for a whole text, reports in."""
+        return self.library.struct("Decoded")(9, 9, 9, True) if "decode" in call else ctypes.c_size_t(9)
+
+    def told_of(self, words, data, output, told, had):
+        """What is reported of a whole input, in whatever room: the length of the mark, the encoding, and whether the text is the
+        input's own bytes; and the call without U+FFFD, which refuses an input with a malformed sequence."""
+        for call in ("jillapun_decode", "jillapun_decode_without_replacement"):
+            room, decoded = bytearray(self.random.choice((0, len(output), 4 * len(data) + 12))), self.told(call)
+            status = getattr(self.library, call)(self.tables, *words, data, room, decoded)
+            want = NUMBERS["LOSSY" if had else "OK"] if len(room) >= len(output) else NUMBERS["ROOM"]
+            wanted = want, len(output), *told
+            if had and call.endswith("replacement"):
+                wanted = NUMBERS["NOT_WELL_FORMED"], 0, 0, NUMBERS["NO_ENCODING"], False
+            elif want != NUMBERS["ROOM"]:
+                self.same(call, (words, data), bytes(room[: len(output)]), output)
+            got = status, decoded.written, decoded.mark_len, decoded.encoding, decoded.is_own
+            self.same(call, (words, data), got, wanted)
 
     def over_a_text(self, words, data, output):
         """A whole input at once over a text, which is one after the call."""
-        room, written = bytearray(self.some_text(len(output) + self.random.choice((0, 3, 3 * len(data) + 3)))), ctypes.c_size_t()
-        self.library.jillapun_decode_to_str(self.tables, *words, data, room, written)
-        got = bytes(room[: written.value]), self.valid_len(room)
+        room, told = bytearray(self.some_text(len(output) + self.random.choice((0, 3, 3 * len(data) + 3)))), self.told("decode")
+        self.library.jillapun_decode_to_str(self.tables, *words, data, room, told)
+        got = bytes(room[: told.written]), self.valid_len(room)
         self.same("jillapun_decode_to_str", (words, data), got, (output, len(room)))
 
     def refused(self):
@@ -390,13 +416,17 @@ class Streams:
             ("jillapun_decode", ready, (utf8, len(MARKS)), b"a", "UNKNOWN"),
             ("jillapun_decode_to_str", none, (western, MARKS["keep"]), b"a", "NOT_READY"),
             ("jillapun_decode_to_str", ready, (utf8, len(MARKS)), b"a", "UNKNOWN"),
+            ("jillapun_decode_without_replacement", none, (western, MARKS["keep"]), b"a", "NOT_READY"),
+            ("jillapun_decode_without_replacement", ready, (utf8, len(MARKS)), b"a", "UNKNOWN"),
             ("jillapun_encode", none, (western,), b"a", "NOT_READY"),
             ("jillapun_encode", ready, (len(self.numbers),), b"a", "UNKNOWN"),
             ("jillapun_encode", ready, (utf8,), b"a\xff", "NOT_UTF8"),
         ):
-            room, written = bytearray(8), ctypes.c_size_t(9)
-            self.must(call, getattr(self.library, call)(tables, *words, given, room, written), status)
-            self.same(call, status, (bytes(room), written.value), (bytes(8), 0))
+            room, told = bytearray(8), self.told(call)
+            self.must(call, getattr(self.library, call)(tables, *words, given, room, told), status)
+            self.same(call, status, (bytes(room), length_in(told)), (bytes(8), 0))
+            if "decode" in call:
+                self.same(call, status, (told.mark_len, told.encoding, told.is_own), (0, NUMBERS["NO_ENCODING"], False))
 
     def whole_without_tables(self):
         """Whole inputs and texts in encodings that need no index, with no tables."""
@@ -406,13 +436,14 @@ class Streams:
             ("jillapun_decode", (user, MARKS["sniff"]), b"a\x80", text),
             ("jillapun_decode", (utf8, MARKS["remove"]), b"\xef\xbb\xbfa", b"a"),
             ("jillapun_decode_to_str", (utf8, MARKS["sniff"]), b"\xff\xfea\x00", b"a"),
+            ("jillapun_decode_without_replacement", (utf8, MARKS["sniff"]), b"\xff\xfea\x00", b"a"),
             ("jillapun_encode", (user,), text, b"a\x80"),
             ("jillapun_encode", (utf8,), text, text),
         ):
             for more in (0, 40):
-                room, written = bytearray(len(output) + more), ctypes.c_size_t()
-                self.must(call, getattr(self.library, call)(none, *words, given, room, written))
-                self.same(call, words, (bytes(room), written.value), (output + bytes(more), len(output)))
+                room, told = bytearray(len(output) + more), self.told(call)
+                self.must(call, getattr(self.library, call)(none, *words, given, room, told))
+                self.same(call, words, (bytes(room), length_in(told)), (output + bytes(more), len(output)))
 
     def coded(self, call, target, points, of_units):
         """A text by an encoder of its own: its bytes, its lost characters, and whether a call told of some."""

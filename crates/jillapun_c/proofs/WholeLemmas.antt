@@ -1,29 +1,32 @@
 -- A whole input through one last call of a new decoder, and its text put over another. A whole text through one last call of
 -- a new encoder.
-use Rattle.std.proofs.Common.{◌≡◌, ◌≢◌, ◌<◌, ◌↔◌, ℕ, Bool, true, false, inl, inr, IsTrue, Option, None, Some, List, length, take, drop, refl, sym, ◌∙◌, ap, subst, arith, encode_utf8_all}
+use Rattle.std.proofs.Common.{◌≡◌, ◌≢◌, ◌<◌, ◌↔◌, ℕ, Bool, true, false, inl, inr, IsTrue, Option, None, Some, List, [], ◌∷◌, ◌++◌, length, take, drop, refl, sym, ◌∙◌, ap, subst, arith, encode_utf8_all}
 use Rattle.std.specs.Prelude.{MatchOption}
 use Rattle.std.specs.Str.{IsUtf8, chars}
-use Rattle.std.proofs.lemmas.List.{drop_at, take_at}
+use Rattle.std.proofs.lemmas.List.{append-nil, drop_at, take_at}
 use Rattle.std.proofs.lemmas.Str.{encodes-chars}
 use Rattle.encoding_mem.specs.Coding.{Coding, lost_count, output, whole_from}
-use Rattle.encoding_mem.specs.Piece.{Piece, malformed_count, text}
+use Rattle.encoding_mem.specs.Piece.{Piece, malformed, malformed_count, text}
 use Rattle.encoding_mem.specs.Utf8Coding.{utf8_coding}
+use Rattle.encoding_mem.specs.calls.Decoding.{Reports, Takes}
 use Rattle.encoding_mem.specs.calls.Writing.{Adds}
+use Rattle.encoding_mem.specs.declared.codec.decoder_result.DecoderResult.{DecoderResult}
 use Rattle.encoding_mem.specs.declared.codec.form.EscapeState.TheVariants.{Ascii}
 use Rattle.encoding_mem.specs.declared.codec.reference.Reference.TheVariants.{Decimal}
 use Rattle.encoding_mem.specs.laws.EncoderCalls.{utf8_lost_count, utf8_output}
+use Rattle.encoding_mem.specs.laws.Piece.{malformed_count-append, well_formed_count}
 use Rattle.encoding_tables.specs.IndexLists.{AreAcceptedTables, IndexLists}
 use Rattle.encoding_front.specs.Codecs.{codec_of}
 use Rattle.encoding_front.specs.EncodingTable.{codec_kind_of}
 use Rattle.encoding_front.specs.Encodings.{IsUtf8Encoding, coding_of, output_encoding_of}
-use Rattle.encoding_front.specs.Marks.{marked_text}
-use Rattle.encoding_front.specs.calls.DecoderCall.{RoomLeft, TextCall}
+use Rattle.encoding_front.specs.Marks.{marked_pieces, marked_text}
+use Rattle.encoding_front.specs.calls.DecoderCall.{DecoderCall, RoomLeft, TextCall}
 use Rattle.encoding_front.specs.calls.Encoder.{EncoderState, Replaces, coding_in, new_state}
 use Rattle.encoding_front.specs.calls.Stream.{DecoderView, IsNewDecoder}
 use Rattle.encoding_front.specs.declared.coder_result.CoderResult.{CoderResult}
 use Rattle.encoding_front.specs.declared.encoding.Encoding.{Encoding}
 use Rattle.encoding_front.specs.declared.mark.Mark.{Mark}
-use Rattle.encoding_front.specs.laws.Calls.{wrote_replaced, wrote_text}
+use Rattle.encoding_front.specs.laws.Calls.{wrote_replaced, wrote_scalars, wrote_text}
 use Rattle.encoding_front.specs.laws.Encoder.{output_twice}
 use Rattle.encoding_front.specs.laws.Encodings.{coding_of_utf8}
 use Rattle.encoding_front.specs.laws.Input.{marked_scalars}
@@ -31,9 +34,9 @@ use Rattle.jillapun_c.specs.Conversions.{IsVerdict}
 use Rattle.jillapun_c.specs.EncodingNumbers.{encoding_at, mark_at}
 use Rattle.jillapun_c.specs.Openings.{IfReady}
 use Rattle.jillapun_c.specs.Room.{IsPut, TextIsPut}
-use Rattle.jillapun_c.specs.Whole.{BeginsWithText, DecodesIfReady, DecodesWhole, EncodesWhole, IsToldOf, MayDecode, PutsIfRoom, verdict_of}
+use Rattle.jillapun_c.specs.Whole.{BeginsWithText, DecodesIfReady, DecodesWellFormed, DecodesWhole, EncodesWhole, TellsOfInput, MayDecode, PutsIfRoom, verdict_of}
 use Rattle.jillapun_c.specs.declared.decoded.Decoded.{Decoded}
-use Rattle.jillapun_c.specs.declared.status.TheConstants.{LOSSY, NO_MEMORY, OK}
+use Rattle.jillapun_c.specs.declared.status.TheConstants.{LOSSY, NO_MEMORY, NOT_WELL_FORMED, OK}
 use Rattle.jillapun_c.proofs.TextDecodeLemmas.{PutsOver}
 
 -- ---- an input is decoded
@@ -42,24 +45,14 @@ all_read : (outcome : CoderResult) → outcome ≢ CoderResult.OutputFull → ou
 all_read CoderResult.InputEmpty never = refl
 all_read CoderResult.OutputFull never = absurd (never refl)
 
--- a call that does not end for lack of room writes the text at the start of it
-pub decodes_straight : (v v' : DecoderView) (t : IndexLists) (mark : Mark) (e : Encoding) (src old new : List ℕ) (outcome : CoderResult) (read w : ℕ) (left : RoomLeft) (had : Bool) (told : Decoded) (status : ℕ)
-    → IsNewDecoder v t mark e → outcome ≢ CoderResult.OutputFull → TextCall v v' src true read (λ (l : List ℕ). Adds old 0 (encode_utf8_all l) new w) left outcome had
-    → length new ≡ length old → told.written ≡ length (take w new) → IsToldOf mark e src (take w new) told → status ≡ verdict_of had → DecodesWhole IsPut t e mark src old new told status
-decodes_straight v v' t mark e src old new outcome read w left had told status begins never call same size told_of verdict =
-    let wrote = wrote_text v v' src read (λ (l : List ℕ). Adds old 0 (encode_utf8_all l) new w) left outcome had call (all_read outcome never) in
-    let made : List ℕ = encode_utf8_all (text (v.state.pieces src)) in
-    let adds : Adds old 0 made new w = wrote.0 in
+-- bytes that were added at the start of a room are put there, and told of
+puts_straight : (mark : Mark) (e : Encoding) (src made old new : List ℕ) (w : ℕ) (is_lossy : Bool) (told : Decoded) (status : ℕ)
+    → Adds old 0 made new w → length new ≡ length old → told.written ≡ length (take w new) → TellsOfInput mark e src (take w new) told → status ≡ verdict_of is_lossy
+    → PutsIfRoom IsPut made old new is_lossy told.written status × TellsOfInput mark e src made told
+puts_straight mark e src made old new w is_lossy told status adds same size told_of verdict =
     let is : take w new ≡ made = ap (take w) adds.list ∙ take_at made (drop w old) w (omega (arith, adds.counted)) in
-    let all : told.written ≡ w = omega (arith, size, ap length is, adds.counted) in
-    record {
-      text = made;
-      had_errors = had;
-      decoded = record {
-        bytes = ap (λ (ps : List Piece). encode_utf8_all (text ps)) (begins.pieces src);
-        malformed_ = subst (λ (ps : List Piece). IsTrue had ↔ (0 < malformed_count ps)) (begins.pieces src) wrote.1;
-      };
-      put = inl (record {
+    let all : told.written ≡ w = omega (arith, size, ap length is, adds.counted) in (
+      inl (record {
         put = record {
           fits = omega (arith, adds.within, same, all);
           is = ap (λ (n : ℕ). take n new) all ∙ is;
@@ -67,9 +60,64 @@ decodes_straight v v' t mark e src old new outcome read w left had told status b
         };
         length_is = omega (arith, adds.counted, all);
         told = verdict;
-      });
-      told_of = subst (λ (l : List ℕ). IsToldOf mark e src l told) is told_of;
+      }),
+      subst (λ (l : List ℕ). TellsOfInput mark e src l told) is told_of,
+    )
+
+-- a call that does not end for lack of room writes the text at the start of it
+pub decodes_straight : (v v' : DecoderView) (t : IndexLists) (mark : Mark) (e : Encoding) (src old new : List ℕ) (outcome : CoderResult) (read w : ℕ) (left : RoomLeft) (had : Bool) (told : Decoded) (status : ℕ)
+    → IsNewDecoder v t mark e → outcome ≢ CoderResult.OutputFull → TextCall v v' src true read (λ (l : List ℕ). Adds old 0 (encode_utf8_all l) new w) left outcome had
+    → length new ≡ length old → told.written ≡ length (take w new) → TellsOfInput mark e src (take w new) told → status ≡ verdict_of had → DecodesWhole IsPut t e mark src old new told status
+decodes_straight v v' t mark e src old new outcome read w left had told status begins never call same size told_of verdict =
+    let wrote = wrote_text v v' src read (λ (l : List ℕ). Adds old 0 (encode_utf8_all l) new w) left outcome had call (all_read outcome never) in
+    let made : List ℕ = encode_utf8_all (text (v.state.pieces src)) in
+    let puts = puts_straight mark e src made old new w had told status wrote.0 same size told_of verdict in
+    record {
+      text = made;
+      had_errors = had;
+      decoded = record {
+        bytes = ap (λ (ps : List Piece). encode_utf8_all (text ps)) (begins.pieces src);
+        malformed_ = subst (λ (ps : List Piece). IsTrue had ↔ (0 < malformed_count ps)) (begins.pieces src) wrote.1;
+      };
+      put = puts.0;
+      told_of = puts.1;
     }
+
+-- ---- an input is decoded, if nothing in it is malformed
+
+all_well_formed : (outcome : DecoderResult) → outcome ≢ DecoderResult.OutputFull → ((a b : ℕ) → outcome ≢ DecoderResult.Malformed a b) → outcome ≡ DecoderResult.InputEmpty
+all_well_formed DecoderResult.InputEmpty never fine = refl
+all_well_formed DecoderResult.OutputFull never fine = absurd (never refl)
+all_well_formed (DecoderResult.Malformed a b) never fine = absurd (fine a b refl)
+
+-- a call that ends neither for lack of room nor at a malformed sequence writes the text at the start of the room
+pub well_formed_straight : (v v' : DecoderView) (t : IndexLists) (mark : Mark) (e : Encoding) (src old new : List ℕ) (outcome : DecoderResult) (read w : ℕ) (left : RoomLeft) (told : Decoded) (status : ℕ)
+    → IsNewDecoder v t mark e → outcome ≢ DecoderResult.OutputFull → ((a b : ℕ) → outcome ≢ DecoderResult.Malformed a b)
+    → DecoderCall v v' src true read (λ (l : List ℕ). Adds old 0 (encode_utf8_all l) new w) left outcome
+    → length new ≡ length old → told.written ≡ length (take w new) → TellsOfInput mark e src (take w new) told → status ≡ OK → DecodesWellFormed t e mark src old new told status
+well_formed_straight v v' t mark e src old new outcome read w left told status begins never fine call same size told_of verdict =
+    let wrote = wrote_scalars v v' src read (λ (l : List ℕ). Adds old 0 (encode_utf8_all l) new w) left outcome call (all_well_formed outcome never fine) in
+    let adds : Adds old 0 (encode_utf8_all (marked_text t mark e src)) new w =
+    subst (λ (ps : List Piece). Adds old 0 (encode_utf8_all (text ps)) new w) (begins.pieces src) wrote.0 in
+    let puts = puts_straight mark e src (encode_utf8_all (marked_text t mark e src)) old new w false told status adds same size told_of verdict in
+    inl (sym (ap malformed_count (begins.pieces src)) ∙ well_formed_count (v.state.pieces src) wrote.1, record { put = puts.0; told_of = puts.1 })
+
+-- one that ends at a malformed sequence
+pub malformed_straight : (v v' : DecoderView) (t : IndexLists) (mark : Mark) (e : Encoding) (src old new : List ℕ) (outcome : DecoderResult) (a b read : ℕ) (W : List ℕ → Type 0) (left : RoomLeft) (told : Decoded) (status : ℕ)
+    → IsNewDecoder v t mark e → outcome ≡ DecoderResult.Malformed a b → DecoderCall v v' src true read W left outcome → status ≡ NOT_WELL_FORMED → DecodesWellFormed t e mark src old new told status
+malformed_straight v v' t mark e src old new outcome a b read W left told status begins is call refused =
+    let k : Takes (Reports (DecoderResult.Malformed a b) v'.state.pending) v.state.pieces v'.state.pieces src true v.state.pending v'.state.pending read W =
+    subst (λ (o : DecoderResult). Takes (Reports o v'.state.pending) v.state.pieces v'.state.pieces src true v.state.pending v'.state.pending read W) is call.law in
+    let prefix : List Piece = k.well_formed.4.0 in
+    let all : v.state.pieces src ≡ k.taken ++ v'.state.pieces (drop read src ++ []) = ap v.state.pieces (sym (append-nil src)) ∙ k.rest [] (λ _. refl) in
+    let some : 0 < malformed_count (marked_pieces t mark e src) = omega (
+      arith,
+      ap malformed_count (sym (begins.pieces src) ∙ all),
+      malformed_count-append k.taken (v'.state.pieces (drop read src ++ [])),
+      ap malformed_count k.well_formed.4.2,
+      malformed_count-append prefix (malformed a ∷ []),
+    ) in
+    inr (some, refused)
 
 -- ---- by its status
 

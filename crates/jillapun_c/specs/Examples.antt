@@ -23,7 +23,7 @@ use Rattle.encoding_front.specs.Encodings.{no_lists}
 use Rattle.jillapun_c.specs.IndexFiles.{told_of}
 use Rattle.jillapun_c.specs.Room.{rest_cleared}
 use Rattle.jillapun_c.specs.TextParts.{IsLookedAt, most_read, told_outcome}
-use Rattle.jillapun_c.specs.Whole.{IsToldOf}
+use Rattle.jillapun_c.specs.Whole.{TellsOfInput}
 use Rattle.jillapun_c.specs.declared.decoder.words.DecoderWords.{DecoderWords}
 use Rattle.jillapun_c.specs.declared.converter.Stage.TheVariants.{Open, Stopped}
 use Rattle.jillapun_c.specs.declared.index_files.FileFault.TheVariants as told
@@ -114,13 +114,13 @@ nothing_is_reported = refl
 
 -- what is told of an input: by the mark of UTF-8, that its text is its own bytes, those behind the mark; by that of UTF-16,
 -- and of a byte that stands for another character, that it is not
-pub own_behind_a_mark : IsToldOf Mark.Sniff Encoding.Windows1252 (0xEF ∷ 0xBB ∷ 0xBF ∷ 0x61 ∷ []) (0x61 ∷ []) (record { written = 1; mark_len = 3; encoding = 25; is_own = true })
+pub own_behind_a_mark : TellsOfInput Mark.Sniff Encoding.Windows1252 (0xEF ∷ 0xBB ∷ 0xBF ∷ 0x61 ∷ []) (0x61 ∷ []) (record { written = 1; mark_len = 3; encoding = 25; is_own = true })
 own_behind_a_mark = record { encoding_is = refl; mark_len_is = refl; own = (λ _. refl, λ _. refl) }
 
-pub other_behind_a_mark : IsToldOf Mark.Sniff Encoding.Utf8 (0xFF ∷ 0xFE ∷ 0x61 ∷ 0x00 ∷ []) (0x61 ∷ []) (record { written = 1; mark_len = 2; encoding = 27; is_own = false })
+pub other_behind_a_mark : TellsOfInput Mark.Sniff Encoding.Utf8 (0xFF ∷ 0xFE ∷ 0x61 ∷ 0x00 ∷ []) (0x61 ∷ []) (record { written = 1; mark_len = 2; encoding = 27; is_own = false })
 other_behind_a_mark = record { encoding_is = refl; mark_len_is = refl; own = (λ h. absurd (cc), λ h. absurd (cc)) }
 
-pub mark_that_is_kept : IsToldOf Mark.Keep Encoding.Utf8 (0xEF ∷ 0xBB ∷ 0xBF ∷ []) (0xEF ∷ 0xBB ∷ 0xBF ∷ []) (record { written = 3; mark_len = 0; encoding = 25; is_own = true })
+pub mark_that_is_kept : TellsOfInput Mark.Keep Encoding.Utf8 (0xEF ∷ 0xBB ∷ 0xBF ∷ []) (0xEF ∷ 0xBB ∷ 0xBF ∷ []) (record { written = 3; mark_len = 0; encoding = 25; is_own = true })
 mark_that_is_kept = record { encoding_is = refl; mark_len_is = refl; own = (λ _. refl, λ _. refl) }
 
 -- the most that a call reads: as many bytes as it has room for, in UTF-8 and what is written as UTF-8; else four each

@@ -1,13 +1,14 @@
 -- What a call makes of a whole input, or of a whole text.
-use Rattle.std.specs.Prelude.{◌≡◌, ◌≢◌, ◌↔◌, ◌⊎◌, ℕ, ◌<◌, ◌≤◌, Bool, IsTrue, if◌then◌else◌, List, length, take, drop, Option, Some, MatchOption}
+use Rattle.std.specs.Prelude.{◌≡◌, ◌≢◌, ◌↔◌, ◌⊎◌, ℕ, ◌<◌, ◌≤◌, Bool, false, IsTrue, if◌then◌else◌, List, length, take, drop, Option, Some, MatchOption, encode_utf8_all}
 use Rattle.std.specs.Str.{IsUtf8, chars}
 use Rattle.encoding_mem.specs.Coding.{lost_count, output}
+use Rattle.encoding_mem.specs.Piece.{malformed_count}
 use Rattle.encoding_mem.specs.declared.codec.reference.Reference.TheVariants.{Decimal}
-use Rattle.encoding_mem.specs.declared.codec.room.OutputUnit.TheVariants.{Replaced}
+use Rattle.encoding_mem.specs.declared.codec.room.OutputUnit.{OutputUnit}
 use Rattle.encoding_tables.specs.IndexLists.{IndexLists}
 use Rattle.encoding_front.specs.EncodingTable.{number_of}
 use Rattle.encoding_front.specs.Encodings.{coding_of, output_encoding_of}
-use Rattle.encoding_front.specs.Marks.{source_of}
+use Rattle.encoding_front.specs.Marks.{marked_pieces, marked_text, source_of}
 use Rattle.encoding_front.specs.calls.OneShot.{IsDecoded, room_at_start}
 use Rattle.encoding_front.specs.declared.encoding.Encoding.{Encoding}
 use Rattle.encoding_front.specs.declared.mark.Mark.{Mark}
@@ -15,7 +16,7 @@ use Rattle.jillapun_c.specs.EncodingNumbers.{encoding_at, mark_at}
 use Rattle.jillapun_c.specs.Openings.{IfReady}
 use Rattle.jillapun_c.specs.Room.{IsPut}
 use Rattle.jillapun_c.specs.declared.decoded.Decoded.{Decoded}
-use Rattle.jillapun_c.specs.declared.status.TheConstants.{OK, LOSSY, UNKNOWN, NO_MEMORY, ROOM}
+use Rattle.jillapun_c.specs.declared.status.TheConstants.{OK, LOSSY, UNKNOWN, NO_MEMORY, NOT_WELL_FORMED, ROOM}
 
 -- the status of a call that made all of its output
 abbrev pub verdict_of : (is_lossy : Bool) → ℕ
@@ -41,7 +42,7 @@ PutsIfRoom Puts output old new is_lossy written status = FitsInto Puts output ol
 
 -- What is told of an input that was decoded, beside the length of its text: the encoding, by the mark that is taken or else
 -- the one that was asked for; how long the mark is; and whether the text is the bytes that follow it.
-pub record IsToldOf (mark : Mark) (e : Encoding) (src text : List ℕ) (decoded : Decoded) : Type 0 where
+pub record TellsOfInput (mark : Mark) (e : Encoding) (src text : List ℕ) (decoded : Decoded) : Type 0 where
   pub encoding_is : decoded.encoding ≡ number_of (source_of mark e src).0
   pub mark_len_is : decoded.mark_len ≡ (source_of mark e src).1
   pub own : IsTrue decoded.is_own ↔ (text ≡ drop decoded.mark_len src)
@@ -52,7 +53,7 @@ pub record DecodesWhole (Puts : (old output new : List ℕ) (written : ℕ) → 
   pub had_errors : Bool
   pub decoded : IsDecoded tables mark e src text had_errors
   pub put : PutsIfRoom Puts text old new had_errors told.written status
-  pub told_of : IsToldOf mark e src text told
+  pub told_of : TellsOfInput mark e src text told
 
 -- the output is put into the room, or memory was refused and the room is as it was
 abbrev pub OrNoMemory : (Put : Type 0) (old new : List ℕ) (status : ℕ) → Type 0
@@ -62,11 +63,28 @@ OrNoMemory Put old new status = Put ⊎ ((status ≡ NO_MEMORY) × (new ≡ old)
 abbrev pub MayDecode : (Puts : (old output new : List ℕ) (written : ℕ) → Type 0) → IndexLists → Encoding → Mark → (src old new : List ℕ) → (told : Decoded) → (status : ℕ) → Type 0
 MayDecode Puts tables e mark src old new told status = OrNoMemory (DecodesWhole Puts tables e mark src old new told status) old new status
 
--- an input is decoded, if each number stands for something, and each index that the encoding needs is there
+-- a call goes on, if each number stands for something, and each index that the encoding needs is there
+abbrev pub IfCanDecode : IndexLists → (encoding mark : ℕ) (Then : Encoding → Mark → Type 0) (status : ℕ) → Type 0
+IfCanDecode t encoding mark Then status = MatchOption (encoding_at encoding) (status ≡ UNKNOWN) (λ e. MatchOption (mark_at mark) (status ≡ UNKNOWN) (λ m. IfReady t e (Then e m) status))
+
+-- an input is decoded, if what is asked for is there
 abbrev pub DecodesIfReady : (Puts : (old output new : List ℕ) (written : ℕ) → Type 0) → IndexLists → (encoding mark : ℕ) (src old new : List ℕ) (told : Decoded) (status : ℕ) → Type 0
-DecodesIfReady Puts t encoding mark src old new told status =
-    MatchOption (encoding_at encoding) (status ≡ UNKNOWN) (λ e. MatchOption (mark_at mark) (status ≡ UNKNOWN)
-    (λ m. IfReady t e (MayDecode Puts t e m src old new told status) status))
+DecodesIfReady Puts t encoding mark src old new told status = IfCanDecode t encoding mark (λ e m. MayDecode Puts t e m src old new told status) status
+
+-- the text of an input is put into the room, as it is without U+FFFD for what is malformed, and told of
+pub record PutsText (tables : IndexLists) (e : Encoding) (mark : Mark) (src old new : List ℕ) (told : Decoded) (status : ℕ) : Type 0 where
+  pub put : PutsIfRoom IsPut (encode_utf8_all (marked_text tables mark e src)) old new false told.written status
+  pub told_of : TellsOfInput mark e src (encode_utf8_all (marked_text tables mark e src)) told
+
+-- the text of an input is put into the room, if nothing in it is malformed, and else the status says that something is
+abbrev pub DecodesWellFormed : IndexLists → Encoding → Mark → (src old new : List ℕ) → (told : Decoded) → (status : ℕ) → Type 0
+DecodesWellFormed tables e mark src old new told status =
+    let malformed = malformed_count (marked_pieces tables mark e src) in
+    ((malformed ≡ 0) × PutsText tables e mark src old new told status) ⊎ ((0 < malformed) × (status ≡ NOT_WELL_FORMED))
+
+-- so it is, or memory was refused
+abbrev pub MayDecodeWellFormed : IndexLists → Encoding → Mark → (src old new : List ℕ) → (told : Decoded) → (status : ℕ) → Type 0
+MayDecodeWellFormed tables e mark src old new told status = OrNoMemory (DecodesWellFormed tables e mark src old new told status) old new status
 
 -- bytes begin with a text of so many
 pub record BeginsWithText (bytes : List ℕ) (size : ℕ) : Type 0 where
@@ -88,9 +106,9 @@ abbrev pub HasRoomAsked : (asked : Option ℕ) (room : ℕ) → Type 0
 HasRoomAsked asked room = (n : ℕ) × (asked ≡ Some n) × (n ≤ room)
 
 -- memory is not refused, since none is asked for, if the room is as much as the length query of a new decoder tells
-abbrev pub TakesNoMemory : (encoding mark size room status : ℕ) → Type 0
-TakesNoMemory encoding mark size room status =
-    (e : Encoding) (m : Mark) → encoding_at encoding ≡ Some e → mark_at mark ≡ Some m → HasRoomAsked (room_at_start m e Replaced size) room → status ≢ NO_MEMORY
+abbrev pub TakesNoMemory : OutputUnit → (encoding mark size room status : ℕ) → Type 0
+TakesNoMemory unit encoding mark size room status =
+    (e : Encoding) (m : Mark) → encoding_at encoding ≡ Some e → mark_at mark ≡ Some m → HasRoomAsked (room_at_start m e unit size) room → status ≢ NO_MEMORY
 
 -- a text is encoded, if there is an encoding with that number, and each index that its output encoding needs is there
 abbrev pub EncodesIfReady : IndexLists → (encoding : ℕ) (text old new : List ℕ) (written status : ℕ) → Type 0

@@ -2,7 +2,7 @@
 
 ghost use Rattle.std.specs.Prelude.{◌≡◌, ◌↔◌, ◌≤◌, IsTrue, drop, length};
 ghost use Rattle.encoding_front.specs.Marks.{source_of};
-ghost use Rattle.jillapun_c.specs.Whole.{IsToldOf};
+ghost use Rattle.jillapun_c.specs.Whole.{TellsOfInput};
 
 use crate::encoding_number::number_of;
 use crate::status::NO_ENCODING;
@@ -36,7 +36,7 @@ impl Decoded {
     /// What is reported of an input and its text.
     pub(crate) fn of(encoding: Encoding, mark: Mark, src: &[u8], text: &[u8]) -> Decoded
         ensures length { result.written ≡ length text.now }
-        ensures told { IsToldOf mark encoding src.now text.now result }
+        ensures told { TellsOfInput mark encoding src.now text.now result }
     {
         let (source, mark_len) = source_of(encoding, mark, src);
         Decoded {

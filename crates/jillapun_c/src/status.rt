@@ -36,6 +36,8 @@ pub const GOES_ON: u8 = 11;
 pub const STOPPED: u8 = 12;
 /// The input has more bytes than the limit.
 pub const TOO_LONG: u8 = 13;
+/// A sequence of the input is malformed, and the call replaces none.
+pub const NOT_WELL_FORMED: u8 = 14;
 
 // The outcome of a call of a decoder or an encoder.
 

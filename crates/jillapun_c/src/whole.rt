@@ -1,11 +1,11 @@
 //! The exports that decode a whole input, and encode a whole text, at once.
 
-ghost use Rattle.std.specs.Prelude.{◌≡◌, ◌≢◌, ◌↔◌, ◌<◌, ◌≤◌, IfOk, IfSome, IsTrue, false};
+ghost use Rattle.std.specs.Prelude.{◌≡◌, ◌≢◌, ◌↔◌, ◌<◌, ◌≤◌, ◌⊎◌, IfOk, IfSome, IsTrue, false};
 ghost use Rattle.std.specs.Prelude.{length, string_bytes, take};
 ghost use Rattle.std.specs.Str.{IsUtf8, chars};
 ghost use Rattle.encoding_mem.specs.Coding.{lost_count, output};
 ghost use Rattle.encoding_mem.specs.declared.codec.reference.Reference.TheVariants.{Decimal};
-ghost use Rattle.encoding_mem.specs.declared.codec.room.OutputUnit.TheVariants.{Replaced};
+ghost use Rattle.encoding_mem.specs.declared.codec.room.OutputUnit.TheVariants.{Bytes, Replaced};
 ghost use Rattle.encoding_tables.specs.IndexLists.{AreAcceptedTables, IndexLists};
 ghost use Rattle.encoding_front.specs.Encodings.{IsReady, coding_of, lists_of, output_encoding_of};
 ghost use Rattle.encoding_front.specs.calls.DecoderViews.{decoder_view};
@@ -16,21 +16,22 @@ ghost use Rattle.encoding_front.specs.declared.mark.Mark.{Mark};
 ghost use Rattle.jillapun_c.specs.Conversions.{IsVerdict};
 ghost use Rattle.jillapun_c.specs.HeldTables.{held_lists};
 ghost use Rattle.jillapun_c.specs.Room.{IsPut, TextIsPut};
-ghost use Rattle.jillapun_c.specs.Whole.{BeginsWithText, DecodesIfReady, DecodesWhole};
+ghost use Rattle.jillapun_c.specs.Whole.{BeginsWithText, DecodesIfReady, DecodesWellFormed};
+ghost use Rattle.jillapun_c.specs.Whole.{DecodesWhole, IfCanDecode, MayDecodeWellFormed};
 ghost use Rattle.jillapun_c.specs.Whole.{EncodesIfReady, HasRoomAsked, MayDecode, MayEncode};
 ghost use Rattle.jillapun_c.specs.Whole.{PutsIfRoom};
 ghost use Rattle.jillapun_c.specs.Whole.{TakesNoMemory, verdict_of};
 ghost use Rattle.jillapun_c.specs.declared.decoded.TheConstants.Decoded.{NONE};
 ghost use Rattle.jillapun_c.specs.declared.status.TheConstants.{LOSSY, NO_MEMORY, NOT_UTF8};
-ghost use Rattle.jillapun_c.specs.declared.status.TheConstants.{OK, ROOM};
+ghost use Rattle.jillapun_c.specs.declared.status.TheConstants.{NOT_WELL_FORMED, OK, ROOM};
 
 use crate::decoded::Decoded;
 use crate::encoding_number::{encoding_of, mark_of};
 use crate::mem::text_room::clear_rest;
 use crate::mem::utf8::is_text;
-use crate::status::{LOSSY, NO_MEMORY, NOT_READY, NOT_UTF8, OK, ROOM, UNKNOWN};
+use crate::status::{LOSSY, NO_MEMORY, NOT_READY, NOT_UTF8, NOT_WELL_FORMED, OK, ROOM, UNKNOWN};
 use crate::tables_handle::TablesHandle;
-use encoding_front::{CoderResult, Decoder, Encoder, Encoding, Mark, OneShotFault};
+use encoding_front::{CoderResult, Decoder, DecoderResult, Encoder, Encoding, Mark, OneShotFault};
 use encoding_tables::Tables;
 use std::alloc::Global;
 use std::str;
@@ -62,7 +63,8 @@ pub extern "C" fn jillapun_decode(
     ensures text { IsVerdict result → BeginsWithText dst.new decoded.new.written }
     ensures kept { result ≢ OK → result ≢ LOSSY → dst.new ≡ dst.old }
     ensures nothing { result ≢ OK → result ≢ LOSSY → result ≢ ROOM → decoded.new ≡ NONE }
-    ensures memory { TakesNoMemory encoding mark (length src.now) (length dst.old) result }
+    ensures memory { TakesNoMemory Replaced encoding mark (length src.now) (length dst.old)
+        result }
 {
     *decoded = Decoded::NONE;
     let Some(encoding) = encoding_of(encoding) else {
@@ -95,7 +97,8 @@ pub extern "C" fn jillapun_decode_to_str(
         dst.old dst.new decoded.new result }
     ensures kept { result ≢ OK → result ≢ LOSSY → dst.new ≡ dst.old }
     ensures nothing { result ≢ OK → result ≢ LOSSY → result ≢ ROOM → decoded.new ≡ NONE }
-    ensures memory { TakesNoMemory encoding mark (length src.now) (length dst.old) result }
+    ensures memory { TakesNoMemory Replaced encoding mark (length src.now) (length dst.old)
+        result }
 {
     let status = jillapun_decode(alloc, tables, encoding, mark, src, dst, decoded);
     if !is_verdict(status) {
@@ -103,6 +106,42 @@ pub extern "C" fn jillapun_decode_to_str(
     }
     clear_rest(dst, decoded.written);
     status
+}
+
+/// Decodes a whole input to UTF-8, at the start of `dst`, unless a sequence of it is malformed.
+///
+/// Returns `OK`, and text and `decoded` are those of `jillapun_decode`. Or `NOT_WELL_FORMED`: a
+/// sequence is malformed; `decoded` is as if nothing was done, and what `dst` holds is not said.
+/// Else `dst` stays as it was, and what is returned, and `decoded`, is as of `jillapun_decode`, but
+/// for this: memory is not asked for if `dst` is as long as
+/// `jillapun_decoder_max_utf8_length_without_replacement` tells.
+#[unsafe(no_mangle)]
+pub extern "C" fn jillapun_decode_without_replacement(
+    alloc: Global,
+    tables: TablesHandle,
+    encoding: u8,
+    mark: u8,
+    src: &[u8],
+    dst: &mut [u8],
+    decoded: &mut Decoded,
+) -> u8
+    ensures decodes { IfCanDecode (held_lists tables.tables) encoding mark (λ e m. MayDecodeWellFormed
+        (held_lists tables.tables) e m src.now dst.old dst.new decoded.new result) result }
+    ensures kept { result ≢ OK → result ≢ NOT_WELL_FORMED → dst.new ≡ dst.old }
+    ensures nothing { result ≢ OK → result ≢ ROOM → decoded.new ≡ NONE }
+    ensures memory { TakesNoMemory Bytes encoding mark (length src.now) (length dst.old) result }
+{
+    *decoded = Decoded::NONE;
+    let Some(encoding) = encoding_of(encoding) else {
+        return UNKNOWN;
+    };
+    let Some(mark) = mark_of(mark) else {
+        return UNKNOWN;
+    };
+    if !tables.are_ready(encoding) {
+        return NOT_READY;
+    }
+    decode_well_formed(alloc, tables.lent(), encoding, mark, src, dst, decoded)
 }
 
 // Whether all was converted.
@@ -133,7 +172,7 @@ fn decode_into(
         (length dst.old) → result ≢ NO_MEMORY }
 {
     let mut decoder = Decoder::new(encoding, mark, tables);
-    if is_enough(&decoder, src.len(), dst.len()) {
+    if is_enough(decoder.max_utf8_buffer_length(src.len()), dst.len()) {
         return decode_straight(&mut decoder, encoding, mark, src, dst, decoded);
     }
     match tables {
@@ -146,13 +185,11 @@ fn decode_into(
     }
 }
 
-// Whether so much room is surely enough for the text of so many bytes.
-fn is_enough(decoder: &Decoder<'_>, size: usize, room: usize) -> bool
-    requires { (decoder_view decoder.now).finished ≡ false }
-    ensures { IsTrue result
-        ↔ HasRoomAsked (room_asked (decoder_view decoder.now).opening Replaced size) room }
+// Whether the room is as much as is asked for.
+fn is_enough(asked: Option<usize>, room: usize) -> bool
+    ensures { IsTrue result ↔ HasRoomAsked asked room }
 {
-    match decoder.max_utf8_buffer_length(size) {
+    match asked {
         Some(asked) => asked <= room,
         None => false,
     }
@@ -207,6 +244,98 @@ fn decode_by_copy(
             NO_MEMORY
         }
     }
+}
+
+// Decodes a whole input into the room, unless a sequence is malformed: straight into it, if it is
+// surely enough.
+fn decode_well_formed(
+    alloc: Global,
+    tables: Option<&Tables>,
+    encoding: Encoding,
+    mark: Mark,
+    src: &[u8],
+    dst: &mut [u8],
+    decoded: &mut Decoded,
+) -> u8
+    requires { IsReady (lists_of tables) encoding }
+    ensures decodes { MayDecodeWellFormed (lists_of tables.entry) encoding mark src.now dst.old
+        dst.new decoded.new result }
+    ensures kept { result ≢ OK → result ≢ NOT_WELL_FORMED → dst.new ≡ dst.old }
+    ensures nothing { result ≢ OK → result ≢ ROOM → decoded.new ≡ NONE }
+    ensures memory { HasRoomAsked (room_at_start mark encoding Bytes (length src.now))
+        (length dst.old) → result ≢ NO_MEMORY }
+{
+    let mut decoder = Decoder::new(encoding, mark, tables);
+    let asked = decoder.max_utf8_buffer_length_without_replacement(src.len());
+    if is_enough(asked, dst.len()) {
+        return decode_well_formed_straight(&mut decoder, encoding, mark, src, dst, decoded);
+    }
+    match tables {
+        Some(tables) => {
+            decode_well_formed_by_copy(alloc, tables, encoding, mark, src, dst, decoded)
+        }
+        // The call of the library for a whole input asks for tables.
+        None => {
+            let none = Tables::new(alloc);
+            decode_well_formed_by_copy(alloc, &none, encoding, mark, src, dst, decoded)
+        }
+    }
+}
+
+// Decodes a whole input by a new decoder straight into the room, which is surely enough, up to a
+// malformed sequence.
+fn decode_well_formed_straight(
+    decoder: &mut Decoder<'_>,
+    encoding: Encoding,
+    mark: Mark,
+    src: &[u8],
+    dst: &mut [u8],
+    decoded: &mut Decoded,
+) -> u8
+    requires open { (decoder_view decoder.old).finished ≡ false }
+    requires room { HasRoomAsked
+        (room_asked (decoder_view decoder.old).opening Bytes (length src.now)) (length dst.old) }
+    ensures decodes { (tables : IndexLists)
+        → IsNewDecoder (decoder_view decoder.old) tables mark encoding
+        → DecodesWellFormed tables encoding mark src.now dst.old dst.new decoded.new result }
+    ensures done { (result ≡ OK) ⊎ (result ≡ NOT_WELL_FORMED) }
+    ensures nothing { result ≢ OK → decoded.new ≡ NONE }
+{
+    let (outcome, _, length) = decoder.decode_to_utf8_without_replacement(src, dst, true);
+    if let DecoderResult::Malformed(..) = outcome {
+        *decoded = Decoded::NONE;
+        return NOT_WELL_FORMED;
+    }
+    *decoded = Decoded::of(encoding, mark, src, &dst[..length]);
+    OK
+}
+
+// Decodes a whole input into memory of ours, and puts its text into the room, if nothing is
+// malformed and it fits.
+fn decode_well_formed_by_copy(
+    alloc: Global,
+    tables: &Tables,
+    encoding: Encoding,
+    mark: Mark,
+    src: &[u8],
+    dst: &mut [u8],
+    decoded: &mut Decoded,
+) -> u8
+    requires { IsReady tables.now encoding }
+    ensures decodes { MayDecodeWellFormed tables.now encoding mark src.now dst.old dst.new
+        decoded.new result }
+    ensures kept { result ≢ OK → dst.new ≡ dst.old }
+    ensures nothing { result ≢ OK → result ≢ ROOM → decoded.new ≡ NONE }
+{
+    *decoded = Decoded::NONE;
+    let Ok((text, had_errors)) = text_of(alloc, tables, encoding, mark, src) else {
+        return NO_MEMORY;
+    };
+    if had_errors {
+        return NOT_WELL_FORMED;
+    }
+    *decoded = Decoded::of(encoding, mark, src, text.as_bytes());
+    put(text.as_bytes(), false, dst, &mut decoded.written)
 }
 
 // The text of a whole input, and whether a malformed sequence was replaced.

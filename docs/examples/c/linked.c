@@ -8,16 +8,16 @@ bool encoding_mem_is_ascii(const uint8_t *buffer, size_t len);
 int main(void) {
     const uint8_t bytes[] = {0x93, 0xFA, 0x96, 0x7B};
     uint8_t text[16];
-    size_t written;
+    jillapun_decoded decoded;
     static jillapun_tables tables; /* {0}, as all that is static; tables stay for as long as the program runs */
     jillapun_index_fault fault;
     uint8_t status = jillapun_tables_new(jillapun_index_files, jillapun_index_files_len, &tables, &fault);
     if (status == JILLAPUN_OK)
         status = jillapun_decode(tables, JILLAPUN_SHIFT_JIS, JILLAPUN_KEEP, bytes, sizeof bytes, text,
-            sizeof text, &written);
+            sizeof text, &decoded);
     if (status != JILLAPUN_OK)
         return 1;
-    printf("%.*s\n", (int)written, (const char *)text);
-    printf("ASCII: %s\n", encoding_mem_is_ascii(text, written) ? "yes" : "no");
+    printf("%.*s\n", (int)decoded.written, (const char *)text);
+    printf("ASCII: %s\n", encoding_mem_is_ascii(text, decoded.written) ? "yes" : "no");
     return 0;
 }

@@ -2,11 +2,14 @@
 
 use crate::decoded::Decoded;
 use crate::status::{
-    KEEP, LOSSY, NO_ENCODING, NOT_READY, NOT_UTF8, OK, REMOVE, ROOM, SNIFF, UNKNOWN,
+    KEEP, LOSSY, NO_ENCODING, NOT_READY, NOT_UTF8, NOT_WELL_FORMED, OK, REMOVE, ROOM, SNIFF,
+    UNKNOWN,
 };
 use crate::tables_handle::TablesHandle;
 use crate::tests::euro;
-use crate::whole::{jillapun_decode, jillapun_decode_to_str, jillapun_encode};
+use crate::whole::{
+    jillapun_decode, jillapun_decode_to_str, jillapun_decode_without_replacement, jillapun_encode,
+};
 use std::alloc::Global;
 
 const WINDOWS_1252: u8 = 31;
@@ -160,6 +163,61 @@ fn encoding_and_own_bytes_are_reported(rt: HostRuntime) {
         reported(alloc, 40, KEEP, b"a", 12),
         (UNKNOWN, 0, NO_ENCODING, false)
     );
+}
+
+// What a call without replacement leaves, and whether it reports that nothing was decoded.
+fn well_formed(
+    alloc: Global,
+    tables: TablesHandle,
+    encoding: u8,
+    mark: u8,
+    src: &[u8],
+    room: usize,
+) -> (Left, bool) {
+    let mut dst = *b"............";
+    let mut told = FILLED;
+    let status = jillapun_decode_without_replacement(
+        alloc,
+        tables,
+        encoding,
+        mark,
+        src,
+        &mut dst[..room.min(12)],
+        &mut told,
+    );
+    let is_none = told.encoding == NO_ENCODING && told.mark_len == 0 && !told.is_own;
+    ((status, dst, told.written), is_none)
+}
+
+// Room for 12 bytes is surely enough for two of windows-1252, and for nine of UTF-8.
+#[test]
+fn well_formed_input_is_decoded(rt: HostRuntime) {
+    let alloc = rt.alloc();
+    for room in [12, 4] {
+        let left = well_formed(alloc, euro(alloc), WINDOWS_1252, KEEP, &[0x61, 0x80], room);
+        assert_eq!(rt; left, ((OK, *b"a\xE2\x82\xAC........", 4), false));
+        let none = TablesHandle::none();
+        let left = well_formed(alloc, none, UTF_8, SNIFF, &[0xFF, 0xFE, 0x61, 0], room);
+        assert_eq!(rt; left, ((OK, *b"a...........", 1), false));
+        let left = well_formed(alloc, euro(alloc), WINDOWS_1252, KEEP, &[0x81], room);
+        assert_eq!(rt; left.0.0, NOT_WELL_FORMED);
+        assert_eq!(rt; (left.0.2, left.1), (0, true));
+        let none = TablesHandle::none();
+        let left = well_formed(alloc, none, UTF_8, KEEP, &[0x61, 0xFF, 0x62, 0x63], room);
+        assert_eq!(rt; left.0.0, NOT_WELL_FORMED);
+        assert_eq!(rt; (left.0.2, left.1), (0, true));
+    }
+    let same = *b"............";
+    let left = well_formed(alloc, euro(alloc), WINDOWS_1252, KEEP, &[0x61, 0x80], 3);
+    assert_eq!(rt; left, ((ROOM, same, 4), false));
+    let left = well_formed(alloc, euro(alloc), WINDOWS_1252, KEEP, &[0x81], 0);
+    assert_eq!(rt; left, ((NOT_WELL_FORMED, same, 0), true));
+    let left = well_formed(alloc, TablesHandle::none(), WINDOWS_1252, KEEP, b"a", 12);
+    assert_eq!(rt; left, ((NOT_READY, same, 0), true));
+    let left = well_formed(alloc, euro(alloc), 40, KEEP, b"a", 12);
+    assert_eq!(rt; left, ((UNKNOWN, same, 0), true));
+    let left = well_formed(alloc, euro(alloc), UTF_8, 3, b"a", 12);
+    assert_eq!(rt; left, ((UNKNOWN, same, 0), true));
 }
 
 fn put_over(alloc: Global, encoding: u8, src: &[u8], room: usize) -> (u8, [u8; 8], usize) {

@@ -103,6 +103,15 @@ pub(super) struct Progress {
 
 #[repr(C)]
 #[derive(Default)]
+pub(super) struct Decoded {
+    pub(super) written: usize,
+    pub(super) mark_len: usize,
+    pub(super) encoding: u8,
+    pub(super) is_own: bool,
+}
+
+#[repr(C)]
+#[derive(Default)]
 pub(super) struct EncoderProgress {
     pub(super) read: usize,
     pub(super) written: usize,
@@ -204,7 +213,7 @@ extern "C" {
 
     pub(super) fn jillapun_decode(
         tables: Tables, encoding: u8, mark: u8, src: *const u8, src_len: usize, dst: *mut u8, dst_len: usize,
-        written: *mut usize,
+        decoded: *mut Decoded,
     ) -> u8;
     pub(super) fn jillapun_encode(
         tables: Tables, encoding: u8, text: *const u8, text_len: usize, dst: *mut u8, dst_len: usize,

@@ -9,7 +9,7 @@ use super::{raw, Tables};
 /// the input's text is longer, or if memory is refused, which is not asked for if there is as much room as a new decoder
 /// tells.
 pub(crate) fn decode_to_string(tables: Tables, encoding: u8, src: &[u8], dst: &mut String) -> bool {
-    let mut written = 0;
+    let mut decoded = raw::Decoded::default();
     // SAFETY: the spare capacity is what the two say, and need not be initialised. What was written are characters of
     // UTF-8, which then belong to the text; nothing panics between.
     let status = unsafe {
@@ -17,9 +17,9 @@ pub(crate) fn decode_to_string(tables: Tables, encoding: u8, src: &[u8], dst: &m
         let room = bytes.spare_capacity_mut();
         let (at, len) = (room.as_mut_ptr().cast(), room.len());
         let mark = Mark::Keep as u8;
-        let status = raw::jillapun_decode(tables.0, encoding, mark, src.as_ptr(), src.len(), at, len, &mut written);
+        let status = raw::jillapun_decode(tables.0, encoding, mark, src.as_ptr(), src.len(), at, len, &mut decoded);
         if let raw::OK | raw::LOSSY = status {
-            bytes.set_len(bytes.len() + written);
+            bytes.set_len(bytes.len() + decoded.written);
         }
         status
     };
