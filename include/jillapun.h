@@ -566,7 +566,7 @@ bool jillapun_can_encode_everything(uint8_t encoding);
  * Writes the name of the file of the index with this place, from 0 on, among those that an
  * encoding needs, as `index-jis0208.txt`, at the start of `name`. Returns its length in bytes;
  * at most 30. If `name` is shorter than that, nothing is written. If the encoding needs no
- * further index, or no encoding has the number, `SIZE_MAX` is returned.
+ * further index, 0 is returned; if no encoding has the number, `SIZE_MAX`.
  */
 size_t jillapun_needs(uint8_t encoding, size_t place, uint8_t *name, size_t name_len);
 
@@ -952,12 +952,14 @@ uint8_t jillapun_decode_to_str(jillapun_tables tables, uint8_t encoding, uint8_t
 
 /**
  * Decodes a whole input to UTF-8, at the start of `dst`, unless a sequence of it is malformed.
+ * The parameters are those of `jillapun_decode`.
  *
- * Returns `JILLAPUN_OK`, and text and `decoded` are those of `jillapun_decode`. Or
- * `JILLAPUN_NOT_WELL_FORMED`: a sequence is malformed; `decoded` is as if nothing was done, and
- * what `dst` holds is not said. Else `dst` stays as it was, and what is returned, and
- * `decoded`, is as of `jillapun_decode`, but for this: memory is not asked for if `dst` is as
- * long as `jillapun_decoder_max_utf8_length_without_replacement` tells.
+ * Returns `JILLAPUN_OK`, and the text and `decoded` are as with `jillapun_decode`; or
+ * `JILLAPUN_NOT_WELL_FORMED`, a sequence is malformed: `decoded` says that nothing was decoded,
+ * and `dst` may have been written to. What else is returned, and what is done then, is as with
+ * `jillapun_decode`, but for this: memory is not asked for if `dst` is as long as
+ * `jillapun_decoder_max_utf8_length_without_replacement` tells of `src_len` bytes and a new
+ * decoder of this encoding with this `mark`.
  */
 uint8_t jillapun_decode_without_replacement(jillapun_tables tables, uint8_t encoding, uint8_t mark,
     const uint8_t *src, size_t src_len, uint8_t *dst, size_t dst_len, jillapun_decoded *decoded);

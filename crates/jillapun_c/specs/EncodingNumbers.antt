@@ -1,5 +1,5 @@
 -- Encodings as numbers.
-use Rattle.std.specs.Prelude.{◌≡◌, ◌⊎◌, ℕ, ◌<◌, ◌≤◌, List, [], ◌∷◌, length, Option, None, Some, MatchOption, option_and_then, slice_get}
+use Rattle.std.specs.Prelude.{◌≡◌, ◌⊎◌, ℕ, ◌<◌, ◌≤◌, List, [], ◌∷◌, length, Option, None, Some, MatchOption, slice_get, unwrap_or}
 use Rattle.std.specs.Option.{option_map}
 use Rattle.encoding_tables.specs.FileNames.{file_name_of}
 use Rattle.encoding_tables.specs.IndexLists.{IndexLists}
@@ -27,9 +27,10 @@ pub record Writes (old word new : List ℕ) (returned : ℕ) : Type 0 where
 abbrev pub WritesIfAny : (word : Option (List ℕ)) → (old new : List ℕ) → ℕ → Type 0
 WritesIfAny word old new returned = MatchOption word (IsUnwritten old new returned) (λ w. Writes old w new returned)
 
--- the name of the file of an index that the encoding with that number needs, by its place among these
+-- the name of the file of an index that the encoding with that number needs, by its place among these; it has no bytes
+-- if the encoding needs no further index
 abbrev pub needed_file : ℕ → ℕ → Option (List ℕ)
-needed_file encoding place = option_map file_name_of (option_and_then (λ e. slice_get (needs_of e) place) (encoding_at encoding))
+needed_file encoding place = option_map (λ e. unwrap_or (option_map file_name_of (slice_get (needs_of e) place)) []) (encoding_at encoding)
 
 -- a status says whether tables, if there are any, have each index that the encoding with that number needs
 abbrev pub IsReadyStatus : Option IndexLists → (encoding status : ℕ) → Type 0

@@ -73,15 +73,18 @@ stops = refl
 pub no_policy : policy_at 3 ≡ None
 no_policy = refl
 
--- the files of EUC-JP, and none after them
+-- the files of EUC-JP, and none after them; no encoding has the number 40
 pub first_file_of_euc_jp : needed_file 1 0 ≡ Some (codes "index-jis0208.txt")
 first_file_of_euc_jp = refl
 
 pub second_file_of_euc_jp : needed_file 1 1 ≡ Some (codes "index-jis0212.txt")
 second_file_of_euc_jp = refl
 
-pub no_third_file_of_euc_jp : needed_file 1 2 ≡ None
+pub no_third_file_of_euc_jp : needed_file 1 2 ≡ Some []
 no_third_file_of_euc_jp = refl
+
+pub no_file_of_no_encoding : needed_file 40 0 ≡ None
+no_file_of_no_encoding = refl
 
 -- what is reported of faults: a line, no line alone, refused memory
 pub line_is_told : told_of (Text (record { line = 3; kind = fault.Row })) ≡ told.Text 3

@@ -143,7 +143,7 @@ pub extern "C" fn jillapun_can_encode_everything(encoding: u8) -> bool
 /// Writes the name of the file of the index with this place, from 0 on, among those that an
 /// encoding needs, as `index-jis0208.txt`, at the start of `name`. Returns its length in bytes; at
 /// most 30. If `name` is shorter than that, nothing is written. If the encoding needs no further
-/// index, or no encoding has the number, `SIZE_MAX` is returned.
+/// index, 0 is returned; if no encoding has the number, `SIZE_MAX`.
 #[unsafe(no_mangle)]
 pub extern "C" fn jillapun_needs(encoding: u8, place: usize, name: &mut [u8]) -> usize
     ensures { WritesIfAny (needed_file encoding place) name.old name.new result }
@@ -153,7 +153,7 @@ pub extern "C" fn jillapun_needs(encoding: u8, place: usize, name: &mut [u8]) ->
     };
     match encoding.needs().get(place) {
         Some(kind) => write_word(kind.file_name().as_bytes(), name),
-        None => REFUSED,
+        None => write_word(b"", name),
     }
 }
 

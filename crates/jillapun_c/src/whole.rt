@@ -108,13 +108,15 @@ pub extern "C" fn jillapun_decode_to_str(
     status
 }
 
-/// Decodes a whole input to UTF-8, at the start of `dst`, unless a sequence of it is malformed.
+/// Decodes a whole input to UTF-8, at the start of `dst`, unless a sequence of it is malformed. The
+/// parameters are those of `jillapun_decode`.
 ///
-/// Returns `OK`, and text and `decoded` are those of `jillapun_decode`. Or `NOT_WELL_FORMED`: a
-/// sequence is malformed; `decoded` is as if nothing was done, and what `dst` holds is not said.
-/// Else `dst` stays as it was, and what is returned, and `decoded`, is as of `jillapun_decode`, but
-/// for this: memory is not asked for if `dst` is as long as
-/// `jillapun_decoder_max_utf8_length_without_replacement` tells.
+/// Returns `OK`, and the text and `decoded` are as with `jillapun_decode`; or `NOT_WELL_FORMED`, a
+/// sequence is malformed: `decoded` says that nothing was decoded, and `dst` may have been written
+/// to. What else is returned, and what is done then, is as with `jillapun_decode`, but for this:
+/// memory is not asked for if `dst` is as long as
+/// `jillapun_decoder_max_utf8_length_without_replacement` tells of `src_len` bytes and a new
+/// decoder of this encoding with this `mark`.
 #[unsafe(no_mangle)]
 pub extern "C" fn jillapun_decode_without_replacement(
     alloc: Global,
@@ -125,8 +127,9 @@ pub extern "C" fn jillapun_decode_without_replacement(
     dst: &mut [u8],
     decoded: &mut Decoded,
 ) -> u8
-    ensures decodes { IfCanDecode (held_lists tables.tables) encoding mark (λ e m. MayDecodeWellFormed
-        (held_lists tables.tables) e m src.now dst.old dst.new decoded.new result) result }
+    ensures decodes { IfCanDecode (held_lists tables.tables) encoding mark
+        (λ e m. MayDecodeWellFormed (held_lists tables.tables) e m src.now dst.old dst.new
+        decoded.new result) result }
     ensures kept { result ≢ OK → result ≢ NOT_WELL_FORMED → dst.new ≡ dst.old }
     ensures nothing { result ≢ OK → result ≢ ROOM → decoded.new ≡ NONE }
     ensures memory { TakesNoMemory Bytes encoding mark (length src.now) (length dst.old) result }

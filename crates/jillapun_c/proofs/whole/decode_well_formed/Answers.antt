@@ -1,6 +1,5 @@
 use Rattle.std.proofs.Common.{subst}
 use Rattle.encoding_tables.specs.IndexLists.{IndexLists}
-use Rattle.encoding_front.specs.Encodings.{lists_of}
 use Rattle.jillapun_c.specs.Whole.{MayDecodeWellFormed}
 use Rattle.jillapun_c.proofs.TablesLemmas.{none_lent}
 use Rattle.jillapun_c.proofs.whole.decode_well_formed.Goals as goal
