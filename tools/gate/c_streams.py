@@ -251,7 +251,7 @@ class Streams:
         for call in ("jillapun_decode", "jillapun_decode_to_str"):
             self.in_one_call(call, words, data, text.encode(), bool(losses))
         mark = plain_recode.found_in(job, data)[1]
-        self.told_of(words, data, text.encode(), (mark, self.numbers[found], text.encode() == data[mark:]), bool(losses))
+        self.reported(words, data, text.encode(), (mark, self.numbers[found], text.encode() == data[mark:]), bool(losses))
         self.over_a_text(words, data, text.encode())
         self.queried(job, data, text)
         if not losses:
@@ -369,7 +369,7 @@ class Streams:
     def in_one_call(self, call, words, given, output, had):
         """A whole input or text at once: in room that is enough, perhaps surely so, which stays as it was after the output, and
         in too little."""
-        told, filled = self.told(call), b"\x5a" * self.random.choice((0, 1, 5, 4 * len(given) + 12))
+        told, filled = self.report_of(call), b"\x5a" * self.random.choice((0, 1, 5, 4 * len(given) + 12))
         room = bytearray(b"\x5a" * len(output) + filled)
         status = getattr(self.library, call)(self.tables, *words, given, room, told)
         got = status, bytes(room), length_in(told)
@@ -380,15 +380,15 @@ class Streams:
             got = status, set(room) <= {0}, length_in(told)
             self.same("too small a room", (call, words, given), got, (NUMBERS["ROOM"], True, len(output)))
 
-    def told(self, call):
+    def report_of(self, call):
         """What a call for a whole input, or for a whole text, reports in."""
         return self.library.struct("Decoded")(9, 9, 9, True) if "decode" in call else ctypes.c_size_t(9)
 
-    def told_of(self, words, data, output, told, had):
+    def reported(self, words, data, output, told, had):
         """What is reported of a whole input, in whatever room: the length of the mark, the encoding, and whether the text is the
         input's own bytes; and the call without U+FFFD, which refuses an input with a malformed sequence."""
         for call in ("jillapun_decode", "jillapun_decode_without_replacement"):
-            room, decoded = bytearray(self.random.choice((0, len(output), 4 * len(data) + 12))), self.told(call)
+            room, decoded = bytearray(self.random.choice((0, len(output), 4 * len(data) + 12))), self.report_of(call)
             status = getattr(self.library, call)(self.tables, *words, data, room, decoded)
             want = NUMBERS["LOSSY" if had else "OK"] if len(room) >= len(output) else NUMBERS["ROOM"]
             wanted = want, len(output), *told
@@ -401,7 +401,7 @@ class Streams:
 
     def over_a_text(self, words, data, output):
         """A whole input at once over a text, which is one after the call."""
-        room, told = bytearray(self.some_text(len(output) + self.random.choice((0, 3, 3 * len(data) + 3)))), self.told("decode")
+        room, told = bytearray(self.some_text(len(output) + self.random.choice((0, 3, 3 * len(data) + 3)))), self.report_of("decode")
         self.library.jillapun_decode_to_str(self.tables, *words, data, room, told)
         got = bytes(room[: told.written]), self.valid_len(room)
         self.same("jillapun_decode_to_str", (words, data), got, (output, len(room)))
@@ -422,7 +422,7 @@ class Streams:
             ("jillapun_encode", ready, (len(self.numbers),), b"a", "UNKNOWN"),
             ("jillapun_encode", ready, (utf8,), b"a\xff", "NOT_UTF8"),
         ):
-            room, told = bytearray(8), self.told(call)
+            room, told = bytearray(8), self.report_of(call)
             self.must(call, getattr(self.library, call)(tables, *words, given, room, told), status)
             self.same(call, status, (bytes(room), length_in(told)), (bytes(8), 0))
             if "decode" in call:
@@ -441,7 +441,7 @@ class Streams:
             ("jillapun_encode", (utf8,), text, text),
         ):
             for more in (0, 40):
-                room, told = bytearray(len(output) + more), self.told(call)
+                room, told = bytearray(len(output) + more), self.report_of(call)
                 self.must(call, getattr(self.library, call)(none, *words, given, room, told))
                 self.same(call, words, (bytes(room), length_in(told)), (output + bytes(more), len(output)))
 
