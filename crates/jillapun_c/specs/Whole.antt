@@ -71,7 +71,7 @@ IfCanDecode t encoding mark Then status = MatchOption (encoding_at encoding) (st
 abbrev pub DecodesIfReady : (Puts : (old output new : List ℕ) (written : ℕ) → Type 0) → IndexLists → (encoding mark : ℕ) (src old new : List ℕ) (told : Decoded) (status : ℕ) → Type 0
 DecodesIfReady Puts t encoding mark src old new told status = IfCanDecode t encoding mark (λ e m. MayDecode Puts t e m src old new told status) status
 
--- the text of an input is put into the room, as it is without U+FFFD for what is malformed, and told of
+-- the text of an input in which nothing is malformed is put into the room, and told of
 pub record PutsText (tables : IndexLists) (e : Encoding) (mark : Mark) (src old new : List ℕ) (told : Decoded) (status : ℕ) : Type 0 where
   pub put : PutsIfRoom IsPut (encode_utf8_all (marked_text tables mark e src)) old new false told.written status
   pub told_of : TellsOfInput mark e src (encode_utf8_all (marked_text tables mark e src)) told
