@@ -935,8 +935,8 @@ uint8_t jillapun_encoder_encode_from_utf8_without_replacement(jillapun_encoder *
  * `JILLAPUN_NO_ENCODING`, and all else 0. `JILLAPUN_UNKNOWN`: no encoding or no handling of
  * marks has the number. `JILLAPUN_NOT_READY`: the tables lack an index of the encoding, or
  * there are none and it needs one. `JILLAPUN_NO_MEMORY`: memory was refused, which is not asked
- * for if `dst` is as long as `jillapun_decoder_max_utf8_length` tells of `src_len` bytes and a
- * new decoder of this encoding with this `mark`.
+ * for if `dst` is as long as `jillapun_decoder_max_utf8_length` reports of `src_len` bytes and
+ * a new decoder of this encoding with this `mark`.
  */
 uint8_t jillapun_decode(jillapun_tables tables, uint8_t encoding, uint8_t mark, const uint8_t *src,
     size_t src_len, uint8_t *dst, size_t dst_len, jillapun_decoded *decoded);
@@ -958,7 +958,7 @@ uint8_t jillapun_decode_to_str(jillapun_tables tables, uint8_t encoding, uint8_t
  * `JILLAPUN_NOT_WELL_FORMED`, a sequence is malformed: `decoded` says that nothing was decoded,
  * and `dst` may have been written to. What else is returned, and what is done then, is as with
  * `jillapun_decode`, but for this: memory is not asked for if `dst` is as long as
- * `jillapun_decoder_max_utf8_length_without_replacement` tells of `src_len` bytes and a new
+ * `jillapun_decoder_max_utf8_length_without_replacement` reports of `src_len` bytes and a new
  * decoder of this encoding with this `mark`.
  */
 uint8_t jillapun_decode_without_replacement(jillapun_tables tables, uint8_t encoding, uint8_t mark,

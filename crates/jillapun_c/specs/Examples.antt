@@ -115,7 +115,7 @@ nothing_is_told = refl
 pub nothing_is_reported : report_.NONE ≡ record { read = 0; bad = 0; lost = 0; characters = 0; written = 0; losses = 0; index = 0; scalar = 0 }
 nothing_is_reported = refl
 
--- what is told of an input: by the mark of UTF-8, that its text is its own bytes, those behind the mark; by that of UTF-16,
+-- what is reported of an input: by the mark of UTF-8, that its text is its own bytes, those behind the mark; by that of UTF-16,
 -- and of a byte that stands for another character, that it is not
 pub own_behind_a_mark : TellsOfInput Mark.Sniff Encoding.Windows1252 (0xEF ∷ 0xBB ∷ 0xBF ∷ 0x61 ∷ []) (0x61 ∷ []) (record { written = 1; mark_len = 3; encoding = 25; is_own = true })
 own_behind_a_mark = record { encoding_is = refl; mark_len_is = refl; own = (λ _. refl, λ _. refl) }

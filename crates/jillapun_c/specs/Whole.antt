@@ -22,8 +22,8 @@ use Rattle.jillapun_c.specs.declared.status.TheConstants.{OK, LOSSY, UNKNOWN, NO
 abbrev pub verdict_of : (is_lossy : Bool) → ℕ
 verdict_of is_lossy = if is_lossy then LOSSY else OK
 
--- The room begins with the output, and the status tells whether something was lost. Puts says what becomes of the rest of
--- the room: it stays, or is a text again.
+-- The room begins with the output, and the status says whether something was lost. Puts says what becomes of the rest
+-- of the room: it stays, or is a text again.
 pub record FitsInto (Puts : (old output new : List ℕ) (written : ℕ) → Type 0) (output old new : List ℕ) (is_lossy : Bool) (written status : ℕ) : Type 0 where
   pub put : Puts old output new written
   pub length_is : written ≡ length output
@@ -40,14 +40,14 @@ pub record IsTooLong (output old new : List ℕ) (written status : ℕ) : Type 0
 abbrev pub PutsIfRoom : (Puts : (old output new : List ℕ) (written : ℕ) → Type 0) (output old new : List ℕ) (is_lossy : Bool) (written status : ℕ) → Type 0
 PutsIfRoom Puts output old new is_lossy written status = FitsInto Puts output old new is_lossy written status ⊎ IsTooLong output old new written status
 
--- What is told of an input that was decoded, beside the length of its text: the encoding, by the mark that is taken or else
--- the one that was asked for; how long the mark is; and whether the text is the bytes that follow it.
+-- What is reported of an input that was decoded, beside the length of its text: the encoding, by the mark that is taken
+-- or else the one that was asked for; how long the mark is; and whether the text is the bytes that follow it.
 pub record TellsOfInput (mark : Mark) (e : Encoding) (src text : List ℕ) (decoded : Decoded) : Type 0 where
   pub encoding_is : decoded.encoding ≡ number_of (source_of mark e src).0
   pub mark_len_is : decoded.mark_len ≡ (source_of mark e src).1
   pub own : IsTrue decoded.is_own ↔ (text ≡ drop decoded.mark_len src)
 
--- the text of the input is put into the room, and told of
+-- the text of the input is put into the room, and reported on
 pub record DecodesWhole (Puts : (old output new : List ℕ) (written : ℕ) → Type 0) (tables : IndexLists) (e : Encoding) (mark : Mark) (src old new : List ℕ) (told : Decoded) (status : ℕ) : Type 0 where
   pub text : List ℕ
   pub had_errors : Bool
@@ -71,7 +71,7 @@ IfCanDecode t encoding mark Then status = MatchOption (encoding_at encoding) (st
 abbrev pub DecodesIfReady : (Puts : (old output new : List ℕ) (written : ℕ) → Type 0) → IndexLists → (encoding mark : ℕ) (src old new : List ℕ) (told : Decoded) (status : ℕ) → Type 0
 DecodesIfReady Puts t encoding mark src old new told status = IfCanDecode t encoding mark (λ e m. MayDecode Puts t e m src old new told status) status
 
--- the text of an input in which nothing is malformed is put into the room, and told of
+-- the text of an input in which nothing is malformed is put into the room, and reported on
 pub record PutsText (tables : IndexLists) (e : Encoding) (mark : Mark) (src old new : List ℕ) (told : Decoded) (status : ℕ) : Type 0 where
   pub put : PutsIfRoom IsPut (encode_utf8_all (marked_text tables mark e src)) old new false told.written status
   pub told_of : TellsOfInput mark e src (encode_utf8_all (marked_text tables mark e src)) told
@@ -105,7 +105,7 @@ MayEncode tables e text old new written status = OrNoMemory (EncodesWhole tables
 abbrev pub HasRoomAsked : (asked : Option ℕ) (room : ℕ) → Type 0
 HasRoomAsked asked room = (n : ℕ) × (asked ≡ Some n) × (n ≤ room)
 
--- memory is not refused, since none is asked for, if the room is as much as the length query of a new decoder tells
+-- memory is not refused, since none is asked for, if the room is as much as the length query of a new decoder returns
 abbrev pub TakesNoMemory : OutputUnit → (encoding mark size room status : ℕ) → Type 0
 TakesNoMemory unit encoding mark size room status =
     (e : Encoding) (m : Mark) → encoding_at encoding ≡ Some e → mark_at mark ≡ Some m → HasRoomAsked (room_at_start m e unit size) room → status ≢ NO_MEMORY

@@ -46,7 +46,7 @@ use std::str;
 /// and `decoded` says so: its `encoding` is `NO_ENCODING`, and all else 0. `UNKNOWN`: no encoding
 /// or no handling of marks has the number. `NOT_READY`: the tables lack an index of the encoding,
 /// or there are none and it needs one. `NO_MEMORY`: memory was refused, which is not asked for if
-/// `dst` is as long as `jillapun_decoder_max_utf8_length` tells of `src_len` bytes and a new
+/// `dst` is as long as `jillapun_decoder_max_utf8_length` reports of `src_len` bytes and a new
 /// decoder of this encoding with this `mark`.
 #[unsafe(no_mangle)]
 pub extern "C" fn jillapun_decode(
@@ -115,7 +115,7 @@ pub extern "C" fn jillapun_decode_to_str(
 /// sequence is malformed: `decoded` says that nothing was decoded, and `dst` may have been written
 /// to. What else is returned, and what is done then, is as with `jillapun_decode`, but for this:
 /// memory is not asked for if `dst` is as long as
-/// `jillapun_decoder_max_utf8_length_without_replacement` tells of `src_len` bytes and a new
+/// `jillapun_decoder_max_utf8_length_without_replacement` reports of `src_len` bytes and a new
 /// decoder of this encoding with this `mark`.
 #[unsafe(no_mangle)]
 pub extern "C" fn jillapun_decode_without_replacement(
@@ -486,7 +486,7 @@ fn encode_by_copy(
     }
 }
 
-// Writes an output at the start of the room, if it fits, and tells its length.
+// Writes an output at the start of the room, if it fits, and reports its length.
 fn put(output: &[u8], is_lossy: bool, room: &mut [u8], written: &mut usize) -> u8
     ensures puts { PutsIfRoom IsPut output.now room.old room.new is_lossy written.new result }
     ensures kept { result ≢ OK → result ≢ LOSSY → room.new ≡ room.old }

@@ -1,4 +1,4 @@
-//! Calls of the exports that tell of a decoder or an encoder.
+//! Calls of the exports that report on a decoder or an encoder.
 
 use crate::decoder::queries::{
     jillapun_decoder_encoding, jillapun_decoder_latin1_byte_compatible_up_to,
@@ -39,7 +39,7 @@ fn decoder(alloc: Global, encoding: u8, mark: u8) -> DecoderHandle {
     handle
 }
 
-// What a decoder tells.
+// What a decoder reports.
 fn latin1_length(handle: &DecoderHandle) -> (u8, usize) {
     let mut length = 9;
     let status = jillapun_decoder_latin1_byte_compatible_up_to(
@@ -50,7 +50,7 @@ fn latin1_length(handle: &DecoderHandle) -> (u8, usize) {
     (status, length)
 }
 
-// What it tells once it has decoded these bytes.
+// What it reports once it has decoded these bytes.
 fn length_after(handle: &mut DecoderHandle, src: &[u8], last: bool) -> (u8, usize) {
     let mut text = [0; 8];
     let mut progress = Progress::NONE;
