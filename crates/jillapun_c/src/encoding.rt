@@ -153,7 +153,7 @@ pub extern "C" fn jillapun_needs(encoding: u8, place: usize, name: &mut [u8]) ->
     };
     match encoding.needs().get(place) {
         Some(kind) => write_word(kind.file_name().as_bytes(), name),
-        None => write_word(b"", name),
+        None => 0,
     }
 }
 
