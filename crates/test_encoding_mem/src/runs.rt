@@ -2,7 +2,7 @@
 //! are made of.
 
 use encoding_mem::ascii::ascii_prefix;
-use encoding_mem::character_counts::count_in_units;
+use encoding_mem::character_counts::{count_characters, count_in_units};
 use encoding_mem::encode::put_all;
 use encoding_mem::first_piece::{FirstPiece, cut_short};
 use encoding_mem::scalar::scalar_of;
@@ -112,6 +112,10 @@ fn parts_of_rules_and_drivers(rt: HostRuntime) {
     let mut dst = [0xFF; 4];
     assert_eq!(rt; put_all(&mut dst, 1, b"ab"), 3);
     assert_eq!(rt; dst, [0xFF, 0x61, 0x62, 0xFF]);
+    // Characters of one to four bytes; and two behind a vector of ASCII.
+    assert_eq!(rt; count_characters("aé日💩"), 4);
+    let text = "0123456789012345678901234567890123456789012345678901234567890123é日";
+    assert_eq!(rt; count_characters(text), 66);
     // A pair, a surrogate alone and a letter.
     assert_eq!(rt; count_in_units(&[0xD83D, 0xDCA9, 0xD83D, 0x41]), 3);
 }
