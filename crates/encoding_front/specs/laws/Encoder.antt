@@ -1,5 +1,5 @@
 -- What holds of every encoder.
-use Rattle.std.proofs.Common.{◌≡◌, ◌<◌, ℕ, Bool, List, refl, true, false, lit<}
+use Rattle.std.proofs.Common.{◌≡◌, ◌<◌, ◌≤◌, ℕ, Bool, List, refl, true, false, arith, lit<}
 use Rattle.std.specs.Str.{all_scalars}
 use Rattle.encoding_mem.specs.calls.EncoderCalls.{Encodes}
 use Rattle.encoding_mem.specs.calls.ReadCalls.{KeepsVerdict, IsNotUnmappable}
@@ -21,6 +21,7 @@ use Rattle.encoding_codecs.specs.laws.Gb18030Coding.{gb18030_laws}
 use Rattle.encoding_codecs.specs.laws.Iso2022JpForms.{iso_2022_jp_laws}
 use Rattle.encoding_front.specs.Encodings.{KeepsCharacters, coding_of, output_encoding_of, pieces_of}
 use Rattle.encoding_front.specs.calls.CodecBounds.{need_of, need_of_codec_kind}
+use Rattle.encoding_front.specs.calls.Encoder.{kept_back, kept_by_codec_kind}
 use Rattle.encoding_front.specs.EncodingTable.{codec_kind_of}
 use Rattle.encoding_front.specs.declared.encoding.Encoding.{Encoding}
 use Rattle.encoding_front.specs.declared.encoding.Encoding.TheVariants.{Big5}
@@ -40,6 +41,23 @@ need_of_codec_kind-positive _ = lit< tt
 
 pub need_positive : (e : Encoding) → 0 < need_of e
 need_positive e = need_of_codec_kind-positive (codec_kind_of (output_encoding_of e))
+
+-- and four bytes at most
+need_of_codec_kind-few : (s : CodecKind) → need_of_codec_kind s ≤ 4
+need_of_codec_kind-few (CodecKind.Gb18030 true) = omega arith
+need_of_codec_kind-few (CodecKind.Gb18030 false) = omega arith
+need_of_codec_kind-few _ = omega arith
+
+pub need_few : (e : Encoding) → need_of e ≤ 4
+need_few e = need_of_codec_kind-few (codec_kind_of (output_encoding_of e))
+
+-- ten bytes at most are kept back for a reference
+kept_by_codec_kind-few : (s : CodecKind) → kept_by_codec_kind s ≤ 10
+kept_by_codec_kind-few CodecKind.Utf8 = omega arith
+kept_by_codec_kind-few _ = omega arith
+
+pub kept_few : (e : Encoding) → kept_back e ≤ 10
+kept_few e = kept_by_codec_kind-few (codec_kind_of (output_encoding_of e))
 
 -- what is written in an output encoding is a coding
 codec_coding_laws : (t : IndexLists) (s : CodecKind) → IsCoding (need_of_codec_kind s) (codec_of t s).coding
