@@ -90,8 +90,8 @@ enum {
      */
     JILLAPUN_NOT_UTF8 = 9,
     /**
-     * The room is too small, and the report, or `written`, says how much is wanted. Nothing was
-     * written.
+     * The room is too small, and the report, or `written`, says how much is wanted. A call that
+     * decodes or encodes has put the first part there, one that converts nothing.
      */
     JILLAPUN_ROOM = 10,
     /**
@@ -383,7 +383,7 @@ typedef struct {
 
 /** What a call that decodes a whole input reports. */
 typedef struct {
-    /** How many bytes the text has. */
+    /** How many bytes the text has; `SIZE_MAX` if it has more. */
     size_t written;
     /** How many bytes the byte order mark has that was left out; 0 if none was. */
     size_t mark_len;
@@ -929,14 +929,14 @@ uint8_t jillapun_encoder_encode_from_utf8_without_replacement(jillapun_encoder *
  * if the encoding needs no index. Nothing after the text changes.
  *
  * Returns `JILLAPUN_OK`; or `JILLAPUN_LOSSY`, a malformed sequence was replaced. At
- * `JILLAPUN_ROOM` nothing is written, since `dst` is shorter than the text, and `decoded` is as
- * after a call with enough room: call again with room for `written` bytes, or, if the text
- * `is_own`, use the input. Else nothing is done, and `decoded` says so: its `encoding` is
- * `JILLAPUN_NO_ENCODING`, and all else 0. `JILLAPUN_UNKNOWN`: no encoding or no handling of
- * marks has the number. `JILLAPUN_NOT_READY`: the tables lack an index of the encoding, or
- * there are none and it needs one. `JILLAPUN_NO_MEMORY`: memory was refused, which is not asked
- * for if `dst` is as long as `jillapun_decoder_max_utf8_length` reports of `src_len` bytes and
- * a new decoder of this encoding with this `mark`.
+ * `JILLAPUN_ROOM` `dst` is shorter than the text, and begins with the first part of it;
+ * `decoded` is as after a call with enough room: call again with room for `written` bytes, or,
+ * if the text `is_own`, use the input. Else nothing is done, and `decoded` says so: its
+ * `encoding` is `JILLAPUN_NO_ENCODING`, and all else 0. `JILLAPUN_UNKNOWN`: no encoding or no
+ * handling of marks has the number. `JILLAPUN_NOT_READY`: the tables lack an index of the
+ * encoding, or there are none and it needs one.
+ *
+ * No memory is taken. What does not fit into `dst` is decoded all the same, for its length.
  */
 uint8_t jillapun_decode(jillapun_tables tables, uint8_t encoding, uint8_t mark, const uint8_t *src,
     size_t src_len, uint8_t *dst, size_t dst_len, jillapun_decoded *decoded);
@@ -954,12 +954,10 @@ uint8_t jillapun_decode_to_str(jillapun_tables tables, uint8_t encoding, uint8_t
  * Decodes a whole input to UTF-8, at the start of `dst`, unless a sequence of it is malformed.
  * The parameters are those of `jillapun_decode`.
  *
- * Returns `JILLAPUN_OK`, and the text and `decoded` are as with `jillapun_decode`; or
- * `JILLAPUN_NOT_WELL_FORMED`, a sequence is malformed: `decoded` says that nothing was decoded,
- * and `dst` may have been written to. What else is returned, and what is done then, is as with
- * `jillapun_decode`, but for this: memory is not asked for if `dst` is as long as
- * `jillapun_decoder_max_utf8_length_without_replacement` reports of `src_len` bytes and a new
- * decoder of this encoding with this `mark`.
+ * Returns `JILLAPUN_OK` or `JILLAPUN_ROOM`, and the text and `decoded` are as with
+ * `jillapun_decode`; or `JILLAPUN_NOT_WELL_FORMED`, a sequence is malformed: `decoded` says
+ * that nothing was decoded, and `dst` may have been written to. What else is returned, and what
+ * is done then, is as with `jillapun_decode`.
  */
 uint8_t jillapun_decode_without_replacement(jillapun_tables tables, uint8_t encoding, uint8_t mark,
     const uint8_t *src, size_t src_len, uint8_t *dst, size_t dst_len, jillapun_decoded *decoded);
@@ -968,15 +966,16 @@ uint8_t jillapun_decode_without_replacement(jillapun_tables tables, uint8_t enco
  * Encodes a whole text, which is UTF-8, into the output encoding of the one with this number
  * (the Encoding Standard, section 6, "encode"), at the start of `dst`, with the decimal
  * reference (`&#8364;`) of each character that has no bytes. `tables` may be `{0}` if the
- * output encoding needs no index. `written` is the length of the output in bytes, and nothing
- * after it changes.
+ * output encoding needs no index. `written` is the length of the output in bytes, or `SIZE_MAX`
+ * if it has more. Nothing after it changes.
  *
- * Returns `JILLAPUN_OK`; or `JILLAPUN_LOSSY`, a reference was written. At `JILLAPUN_ROOM`
- * nothing is written, since `dst` is shorter than the output: call again with room for
+ * Returns `JILLAPUN_OK`; or `JILLAPUN_LOSSY`, a reference was written. At `JILLAPUN_ROOM` `dst`
+ * is shorter than the output, and begins with the first part of it: call again with room for
  * `written` bytes. Else nothing is done, and `written` is 0: `JILLAPUN_NOT_UTF8`, the text is
  * not UTF-8; `JILLAPUN_UNKNOWN`, no encoding has the number; `JILLAPUN_NOT_READY`, the tables
- * lack an index of the output encoding, or there are none and it needs one;
- * `JILLAPUN_NO_MEMORY`, memory was refused.
+ * lack an index of the output encoding, or there are none and it needs one.
+ *
+ * No memory is taken. What does not fit into `dst` is encoded all the same, for its length.
  */
 uint8_t jillapun_encode(jillapun_tables tables, uint8_t encoding, const uint8_t *text,
     size_t text_len, uint8_t *dst, size_t dst_len, size_t *written);

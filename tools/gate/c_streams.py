@@ -367,17 +367,18 @@ class Streams:
         self.same("room without U+FFFD", (job, data), (progress.outcome, written), (NUMBERS["INPUT_EMPTY"], text))
 
     def in_one_call(self, call, words, given, output, had):
-        """A whole input or text at once: in room that is enough, perhaps surely so, which stays as it was after the output, and
-        in too little."""
+        """A whole input or text at once: in room that is enough, which stays as it was after the output, and in too little,
+        which begins with the first part of the output and stays as it was after that."""
         told, filled = self.report_of(call), b"\x5a" * self.random.choice((0, 1, 5, 4 * len(given) + 12))
         room = bytearray(b"\x5a" * len(output) + filled)
         status = getattr(self.library, call)(self.tables, *words, given, room, told)
         got = status, bytes(room), length_in(told)
         self.same(call, (words, given), got, (NUMBERS["LOSSY" if had else "OK"], output + filled, len(output)))
         if output:
-            room = bytearray(len(output) - 1)
+            room = bytearray(b"\x5a" * self.random.choice((len(output) - 1, self.random.randrange(len(output)))))
             status = getattr(self.library, call)(self.tables, *words, given, room, told)
-            got = status, set(room) <= {0}, length_in(told)
+            front = os.path.commonprefix([bytes(room), output])
+            got = status, set(room[len(front) :]) <= {0x5A}, length_in(told)
             self.same("too small a room", (call, words, given), got, (NUMBERS["ROOM"], True, len(output)))
 
     def report_of(self, call):

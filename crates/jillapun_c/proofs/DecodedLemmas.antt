@@ -1,5 +1,5 @@
 -- The encoding of an input and the length of its mark, by the mark that its bytes begin with.
-use Rattle.std.proofs.Common.{◌≡◌, ◌≢◌, ℕ, Bool, true, false, cond, List, [], ◌∷◌, length, refl, sym, ◌∙◌, ap, arith, Option, None, Some, filter}
+use Rattle.std.proofs.Common.{◌≡◌, ◌≢◌, ◌≤◌, ℕ, Bool, true, false, cond, List, [], ◌∷◌, length, refl, sym, ◌∙◌, ap, subst, arith, Option, None, Some, filter}
 use Rattle.std.specs.Prelude.{eqb}
 use Rattle.std.specs.List.{starts_with}
 use Rattle.std.specs.Option.{unwrap_or}
@@ -8,6 +8,7 @@ use Rattle.encoding_front.specs.Encodings.{byte_order_marks, first_mark, mark_at
 use Rattle.encoding_front.specs.Marks.{source_of, takes_mark_of}
 use Rattle.encoding_front.specs.declared.encoding.Encoding.{Encoding}
 use Rattle.encoding_front.specs.declared.mark.Mark.{Mark}
+use Rattle.encoding_front.specs.laws.Input.{source_fits}
 
 -- by the mark that was found, if it is taken
 abbrev pub taken_if : (Encoding → Bool) → Encoding → Option (Encoding × ℕ) → Encoding × ℕ
@@ -59,3 +60,6 @@ marks_exclude (c ∷ x) = (
 
 pub source_by_found : (mark : Mark) (e : Encoding) (x : List ℕ) (found : Option (Encoding × ℕ)) → found ≡ mark_at_start x → taken_if (takes_mark_of mark e) e found ≡ source_of mark e x
 source_by_found mark e x found is = ap (taken_if (takes_mark_of mark e) e) is ∙ sym (first_taken (takes_mark_of mark e) byte_order_marks e x (marks_exclude x))
+
+pub source_within : (mark : Mark) (e : Encoding) (x : List ℕ) (source : Encoding × ℕ) → source ≡ source_of mark e x → source.1 ≤ length x
+source_within mark e x source is = subst (λ (s : Encoding × ℕ). s.1 ≤ length x) (sym is) (source_fits mark e x)

@@ -1,10 +1,8 @@
 //! What a call that decodes a whole input reports beside its status.
 
-ghost use Rattle.std.specs.Prelude.{◌≡◌, ◌↔◌, ◌≤◌, IsTrue, drop, length};
+ghost use Rattle.std.specs.Prelude.{◌≡◌, ◌≤◌, length};
 ghost use Rattle.encoding_front.specs.Marks.{source_of};
-ghost use Rattle.jillapun_c.specs.Whole.{TellsOfInput};
 
-use crate::encoding_number::number_of;
 use crate::status::NO_ENCODING;
 use encoding_front::{Encoding, Mark};
 
@@ -12,7 +10,7 @@ use encoding_front::{Encoding, Mark};
 #[repr(C)]
 #[derive(Clone, Copy)]
 pub struct Decoded {
-    /// How many bytes the text has.
+    /// How many bytes the text has; `SIZE_MAX` if it has more.
     pub written: usize,
     /// How many bytes the byte order mark has that was left out; 0 if none was.
     pub mark_len: usize,
@@ -32,25 +30,12 @@ impl Decoded {
         encoding: NO_ENCODING,
         is_own: false,
     };
-
-    /// What is reported of an input and its text.
-    pub(crate) fn of(encoding: Encoding, mark: Mark, src: &[u8], text: &[u8]) -> Decoded
-        ensures length { result.written ≡ length text.now }
-        ensures told { TellsOfInput mark encoding src.now text.now result }
-    {
-        let (source, mark_len) = source_of(encoding, mark, src);
-        Decoded {
-            written: text.len(),
-            mark_len,
-            encoding: number_of(source),
-            is_own: is_end_of(text, src, mark_len),
-        }
-    }
 }
 
-// The encoding of an input, and how many bytes the mark has that is left out.
-fn source_of(encoding: Encoding, mark: Mark, src: &[u8]) -> (Encoding, usize)
-    ensures { result ≡ source_of mark encoding src.now }
+/// The encoding of an input, and how many bytes the mark has that is left out.
+pub(crate) fn source_of(encoding: Encoding, mark: Mark, src: &[u8]) -> (Encoding, usize)
+    ensures source { result ≡ source_of mark encoding src.now }
+    ensures within { result.1 ≤ length src.now }
 {
     match Encoding::for_bom(src) {
         Some((found, length)) => {
@@ -62,13 +47,4 @@ fn source_of(encoding: Encoding, mark: Mark, src: &[u8]) -> (Encoding, usize)
         }
         None => (encoding, 0),
     }
-}
-
-// Whether a text is the bytes from a place on.
-fn is_end_of(text: &[u8], bytes: &[u8], place: usize) -> bool
-    requires { place ≤ length bytes.now }
-    ensures { IsTrue result ↔ (text.now ≡ drop place bytes.now) }
-{
-    let rest = &bytes[place..];
-    text == rest
 }

@@ -14,6 +14,7 @@ mod encoder;
 mod encoder_progress;
 mod encoding;
 mod encoding_number;
+mod filled;
 mod in_memory;
 mod index_files;
 mod loose;

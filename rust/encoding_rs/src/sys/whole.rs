@@ -6,8 +6,7 @@ use super::{raw, Tables};
 /// Decodes a whole input to the end of a text, in the encoding with a number. A byte order mark is read as text.
 ///
 /// Returns whether U+FFFD was written for something malformed. The room is what is left of the text's capacity: panics if
-/// the input's text is longer, or if memory is refused, which is not asked for if there is as much room as a new decoder
-/// tells.
+/// the input's text is longer.
 pub(crate) fn decode_to_string(tables: Tables, encoding: u8, src: &[u8], dst: &mut String) -> bool {
     let mut decoded = raw::Decoded::default();
     // SAFETY: the spare capacity is what the two say, and need not be initialised. What was written are characters of
@@ -26,7 +25,6 @@ pub(crate) fn decode_to_string(tables: Tables, encoding: u8, src: &[u8], dst: &m
     match status {
         raw::OK => false,
         raw::LOSSY => true,
-        raw::NO_MEMORY => panic!("memory was refused for a text"),
         _ => panic!("the library does not decode: status {status}"),
     }
 }
@@ -35,7 +33,7 @@ pub(crate) fn decode_to_string(tables: Tables, encoding: u8, src: &[u8], dst: &m
 /// reference of each character that has no bytes.
 ///
 /// Returns whether a reference was written. The room is what is left of the vector's capacity: if it is too little,
-/// returns how much is wanted, and nothing is written. Panics if memory is refused.
+/// returns how much is wanted, and the vector stays as it is.
 pub(crate) fn encode_to_vec(tables: Tables, encoding: u8, text: &str, dst: &mut Vec<u8>) -> Result<bool, usize> {
     let mut written = 0;
     let room = dst.spare_capacity_mut();
@@ -53,7 +51,6 @@ pub(crate) fn encode_to_vec(tables: Tables, encoding: u8, text: &str, dst: &mut 
         raw::OK => Ok(false),
         raw::LOSSY => Ok(true),
         raw::ROOM => Err(written),
-        raw::NO_MEMORY => panic!("memory was refused for bytes"),
         _ => panic!("the library does not encode: status {status}"),
     }
 }
