@@ -90,8 +90,8 @@ enum {
      */
     JILLAPUN_NOT_UTF8 = 9,
     /**
-     * The room is too small, and the report, or `written`, says how much is wanted. A call that
-     * decodes or encodes has put the first part there, one that converts nothing.
+     * The room is too small, and begins with the first part of what was made. The report, or
+     * `written`, says how much is wanted.
      */
     JILLAPUN_ROOM = 10,
     /**
@@ -997,20 +997,19 @@ uint8_t jillapun_encode(jillapun_tables tables, uint8_t encoding, const uint8_t 
  * - `JILLAPUN_OK`: nothing was malformed, and the output, read again, is the text of the input.
  * - `JILLAPUN_LOSSY`: all was converted, and something was lost. `losses` may be empty even so:
  *   some encodings write a character as bytes that read back as another.
- * - `JILLAPUN_ROOM`: `written` bytes and `losses` records are wanted; nothing was written. Call
- *   again.
+ * - `JILLAPUN_ROOM`: `written` bytes and `losses` records are wanted, and both rooms begin with
+ *   the first of them. Call again.
  * - `JILLAPUN_STOPPED`: the policy is `JILLAPUN_STOP`, and the character that has no bytes is
  *   in the report. What is before it was converted, with the escape that would come before a
  *   reference, and its record is the last.
- * - `JILLAPUN_TOO_LONG`: `src` is longer than the limit. `JILLAPUN_NO_MEMORY`: memory was
- *   refused.
+ * - `JILLAPUN_TOO_LONG`: `src` is longer than the limit.
  * - `JILLAPUN_UNKNOWN`: a number stands for nothing. `JILLAPUN_NOT_READY`: an index that one of
  *   the encodings needs is not in the tables. `JILLAPUN_CLOSED`: the handle has no tables.
  *
- * At the last five nothing is written, and all of the report is 0.
+ * At the last four nothing is written, and all of the report is 0.
  *
- * It takes memory from the heap for the output, for the records and for a room as large as
- * `src`, of 64 bytes at least and 16 KiB at most, and frees it before it returns.
+ * No memory is taken. What does not fit into `dst` and `losses` is converted all the same, for
+ * its length.
  */
 uint8_t jillapun_convert(jillapun_tables tables, uint8_t from, uint8_t to, uint8_t mark,
     uint8_t policy, uint64_t limit, const uint8_t *src, size_t src_len, uint8_t *dst,

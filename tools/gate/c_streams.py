@@ -647,9 +647,18 @@ class Streams:
         self.same("losses", (job, data), got, losses)
         self.same("report", (job, data), told_in(report), self.told(run))
         if run.output:
-            room = bytearray(len(run.output) - 1)
+            room = bytearray(b"\x5a" * self.random.randrange(len(run.output)))
             status = self.library.jillapun_convert(self.tables, *numbers, NO_LIMIT, data, room, records, report)
-            self.same("too small a room", (job, data), (status, report.written, set(room) <= {0}), (NUMBERS["ROOM"], len(run.output), True))
+            front = os.path.commonprefix([bytes(room), bytes(run.output)])
+            got = status, report.written, report.losses, set(room[len(front) :]) <= {0x5A}
+            self.same("too small a room", (job, data), got, (NUMBERS["ROOM"], len(run.output), len(losses), True))
+        if losses:
+            few, room = (self.library.struct("Loss") * self.random.randrange(len(losses)))(), bytearray(len(run.output))
+            status = self.library.jillapun_convert(self.tables, *numbers, NO_LIMIT, data, room, few, report)
+            got = [(it.kind, it.place, it.number) for it in few]
+            front = os.path.commonprefix([got, losses])
+            wanted = NUMBERS["ROOM"], len(run.output), len(losses), [(0, 0, 0)] * (len(got) - len(front))
+            self.same("too few records", (job, data), (status, report.written, report.losses, got[len(front) :]), wanted)
 
 
 def told_in(report):

@@ -1,42 +1,62 @@
--- What was made stands in the caller's memory.
-use Rattle.std.proofs.Common.{◌≡◌, ◌∙◌, ◌≤◌, ℕ, List, ◌++◌, ap, drop, length, subst, sym, take}
-use Rattle.std.proofs.Math.Seq.{drop-append_seam, take-append_seam}
+-- A job in two rooms: what it makes stands there, as far as it fits.
+use Rattle.std.proofs.Common.{◌≡◌, ◌+◌, ◌<◌, ◌≤◌, ℕ, Bool, true, false, List, length, inl, inr, refl, arith}
 use Rattle.recode.specs.declared.job.Job.{Job}
-use Rattle.jillapun_c.specs.Conversions.{ConvertsInMemory, IsHandedOver}
+use Rattle.jillapun_c.specs.ConverterRuns.{HasConverted, IsAtStage}
+use Rattle.jillapun_c.specs.Converters.{ConvertsAll, HoldsNothing, TellsStage, TellsStatus, view_in}
+use Rattle.jillapun_c.specs.Conversions.{IsDone}
+use Rattle.jillapun_c.specs.Room.{HoldsFront}
+use Rattle.jillapun_c.specs.declared.converter.Converter.{Converter}
+use Rattle.jillapun_c.specs.declared.converter.Stage.{Stage}
+use Rattle.jillapun_c.specs.declared.converter.Stage.TheVariants.{Open, Stopped, TooLong}
+use Rattle.jillapun_c.specs.declared.converter.progress.ConverterProgress.{ConverterProgress}
+use Rattle.jillapun_c.specs.declared.filled.Filled.{Filled}
 use Rattle.jillapun_c.specs.declared.losses.Loss.{Loss}
 use Rattle.jillapun_c.specs.declared.report.Report.{Report}
+use Rattle.jillapun_c.specs.declared.status.TheConstants.{LOSSY, OK}
 
--- a report that tells two lengths beside what it told
-abbrev pub told_with : Report → (written losses : ℕ) → Report
-told_with report written losses = record report { written = written; losses = losses }
+-- so many more steps may come than items are owed
+abbrev pub steps_left : (wants_room : Bool) (owed : ℕ) → ℕ
+steps_left true owed = owed + 1
+steps_left false owed = 0
 
-converts_with : (j : Job) (input output : List ℕ) (losses : List Loss) (report : Report) (status written records : ℕ) → ConvertsInMemory j input output losses report status
-    → ConvertsInMemory j input output losses (told_with report written records) status
-converts_with j input output losses report status written records h = record {
-  made = h.made;
-  counts = λ is. let k = h.counts is in record { read = k.read; bad = k.bad; lost = k.lost; characters = k.characters; no_character = k.no_character };
-  faithful = h.faithful;
-  lossy = h.lossy;
-  stopped = λ is. let k = h.stopped is in record { policy = k.policy; first = k.first; no_counts = record { read = k.no_counts.read; bad = k.no_counts.bad; lost = k.no_counts.lost; characters = k.no_counts.characters } };
-}
+pub fewer_steps : (wants_room : Bool) (owed before : ℕ) → (wants_room ≡ true → owed < before) → steps_left wants_room owed < before + 1
+fewer_steps true owed before fewer = omega (arith, fewer refl)
+fewer_steps false owed before fewer = omega arith
 
-pub handed_over : (j : Job) (input dst dst' made : List ℕ) (losses losses' records : List Loss) (report report' : Report) (status written count : ℕ)
-    → ConvertsInMemory j input made records report status → written ≡ length made → count ≡ length records → report' ≡ told_with report written count
-    → written ≤ length dst' → count ≤ length losses' → dst' ≡ made ++ drop written dst → losses' ≡ records ++ drop count losses
-    → IsHandedOver j input dst dst' losses losses' report' status
-handed_over j input dst dst' made losses losses' records report report' status written count h whole whole_losses told fits losses_fit is losses_are =
-    rw told (record {
-      fits = fits;
-      losses_fit = losses_fit;
-      converted = subst (λ o. ConvertsInMemory j input o (take count losses') (told_with report written count) status) (sym (begins made dst dst' written whole is))
-          (subst (λ l. ConvertsInMemory j input made l (told_with report written count) status) (sym (begins records losses losses' count whole_losses losses_are))
-          (converts_with j input made records report status written count h));
-      kept = ends made dst dst' written whole is;
-      losses_kept = ends records losses losses' count whole_losses losses_are;
-    })
+-- Of a job in two rooms: what its converter handed out stands there, as far as it fits; and if no room is wanted, the
+-- conversion has come to its end.
+pub record RunSoFar (j : Job) (input rest dst dst' : List ℕ) (losses losses' : List Loss) (c : Converter) (wants_room : Bool) (output records : Filled) : Type 0 where
+  pub out : List ℕ
+  pub lines : List Loss
+  pub so_far : HasConverted j true input rest out lines c
+  pub written : HoldsFront out dst dst' output
+  pub lost : HoldsFront lines losses losses' records
+  pub same : length dst' ≡ length dst
+  pub same_losses : length losses' ≡ length losses
+  pub ended : wants_room ≡ false → HoldsNothing c × (c.stage ≡ Open → (view_in c).over ≡ true)
+
+is_over : (b : Bool) → (b ≡ false → ⊥) → b ≡ true
+is_over true other = refl
+is_over false other = absurd (other refl)
+
+pub at_its_end : (c : Converter) (unread dst : List ℕ) (losses : List Loss) (p : ConverterProgress) → ConvertsAll c true unread dst losses p → p.wants_room ≡ false → HoldsNothing c × (c.stage ≡ Open → (view_in c).over ≡ true)
+at_its_end c unread dst losses p k is =
+    let empty = k.wants_room.0 is in
+    (empty, λ open_. is_over (view_in c).over (λ goes_on. absurd (cc ((k.all empty open_ goes_on).0))))
+
+-- an end that nothing but the verdict or the policy made
+is_done : (s : Stage) (j : Job) (c : Converter) (input rest out : List ℕ) (lines : List Loss) (report : Report) (status : ℕ) (h : HasConverted j true input rest out lines c)
+    → IsAtStage s j (view_in c) input h.items → TellsStage s (view_in c) report status → (s ≡ Open → (view_in c).over ≡ true) → length input ≤ j.limit → IsDone status
+is_done Open j c input rest out lines report status h stage tells over short =
+    let told = tells.done (over refl) in by told.0.faithful told.2.faithful told.2.lossy
   where
-    begins : {X : Type 0} (made old new : List X) (n : ℕ) → n ≡ length made → new ≡ made ++ drop n old → take n new ≡ made
-    begins made old new n whole is = ap (take n) is ∙ rw whole (take-append_seam made (drop (length made) old))
+    by : (b : Bool) → (b ≡ true → status ≡ OK) → (b ≡ false → status ≡ LOSSY) → IsDone status
+    by true ok lossy = inl (inl (ok refl))
+    by false ok lossy = inl (inr (lossy refl))
+is_done (Stopped index scalar) j c input rest out lines report status h stage tells over short = inr tells.stopped
+is_done TooLong j c input rest out lines report status h stage tells over short = absurd (omega (arith, stage.1.long, short))
 
-    ends : {X : Type 0} (made old new : List X) (n : ℕ) → n ≡ length made → new ≡ made ++ drop n old → drop n new ≡ drop n old
-    ends made old new n whole is = ap (drop n) is ∙ rw whole (drop-append_seam made (drop (length made) old))
+pub run_done : (j : Job) (input rest dst dst' : List ℕ) (losses losses' : List Loss) (c : Converter) (wants_room : Bool) (output records : Filled) (report : Report) (status : ℕ) → RunSoFar j input rest dst dst' losses losses' c wants_room output records
+    → wants_room ≡ false → TellsStatus c report status → length input ≤ j.limit → IsDone status
+run_done j input rest dst dst' losses losses' c wants_room output records report status so none tells short =
+    let ended = so.ended none in is_done c.stage j c input rest so.out so.lines report status so.so_far so.so_far.stage (tells.empty ended.0) ended.1 short

@@ -1,12 +1,13 @@
 -- Rooms that are filled from a place on.
-use Rattle.std.proofs.Common.{◌≡◌, ℕ, ◌+◌, ◌-◌, ◌≤◌, min, ◌⊎◌, inl, inr, List, [], ◌++◌, length, take, drop, sym, ap, ◌∙◌, arith, length-append, length-drop, append-nil, append_assoc}
+use Rattle.std.proofs.Common.{◌≡◌, ℕ, ◌+◌, ◌-◌, ◌≤◌, min, ◌⊎◌, true, inl, inr, List, [], ◌++◌, length, take, drop, refl, sym, ap, ◌∙◌, arith, length-append, length-drop, length-take, append-nil, append_assoc}
 use Rattle.std.proofs.lemmas.List.{drop_all, drop-append-le, drop-drop, length-take-le, take_all, take_at, take-append-drop, take-append-le}
 use Rattle.std.proofs.lemmas.Slice.{between_is, drop-put_mid, take-put_mid}
 use Rattle.std.proofs.lemmas.Bool.{cases_lt}
 use Rattle.std.proofs.Math.Seq.{drop-append-add, take-append-add}
 use Rattle.std.specs.List.{copy_within}
 use borrow.Rule.Slice.PartMut.{put_mid}
-use Rattle.jillapun_c.specs.Room.{FillsRoom}
+use Rattle.jillapun_c.specs.Room.{FillsRoom, HoldsFront}
+use Rattle.jillapun_c.specs.declared.filled.Filled.{Filled}
 
 -- a room stays as long as it was when a part of it is written
 length_put : {X : Type 0} (a k : ℕ) (xs ys : List X) → a + k ≤ length xs → length ys ≡ k → length (put_mid a k xs ys) ≡ length xs
@@ -62,3 +63,17 @@ drop_rest_put at k n room part within size fits behind =
     ap (λ m. drop (m + n) (put_mid at k room part)) (sym (length-take-le at room within)) ∙ drop-append-add (take at room) (part ++ drop k (drop at room)) n
     ∙ drop-append-le n part (drop k (drop at room)) fits ∙ ap (λ l. drop n part ++ l) (nothing_behind at k room size) ∙ append-nil (drop n part)
     ∙ behind ∙ ap (drop n) (take_all k (drop at room) (omega (arith, length-drop at room, size))) ∙ drop-drop n at room
+
+-- ---- what is put into a room as far as it fits
+
+-- after the first part, which was made in the room
+pub first_filled : {X : Type 0} (old new : List X) (n : ℕ) (filled : Filled) → n ≤ length new → drop n new ≡ drop n old → filled.put ≡ n → filled.length ≡ n → filled.is_whole ≡ true → HoldsFront (take n new) old new filled
+first_filled old new n filled fits behind put size whole = record {
+  rest = [];
+  parts = ap (λ (m : ℕ). take m new) (sym put) ∙ sym (append-nil (take filled.put new));
+  fits = omega (arith, put, fits);
+  behind = ap (λ (m : ℕ). drop m new) put ∙ behind ∙ ap (λ (m : ℕ). drop m old) (sym put);
+  length_is = inl (omega (arith, size, length-take n new, fits));
+  whole = λ _. (refl, size ∙ sym put);
+  cut = λ not. absurd (cc (sym whole ∙ not));
+}

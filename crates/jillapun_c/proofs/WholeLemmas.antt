@@ -22,7 +22,7 @@ use Rattle.encoding_front.specs.calls.Encoder.{EncoderState, Replaces, Replacing
 use Rattle.encoding_front.specs.calls.Stream.{DecoderView, IsNewDecoder}
 use Rattle.encoding_front.specs.declared.coder_result.CoderResult.{CoderResult}
 use Rattle.encoding_front.specs.laws.Encoder.{coding_laws, kept_few, need_few, output_twice}
-use Rattle.jillapun_c.specs.Whole.{DecodesPart, HoldsFront, HasLeft, TextIsMade, end_of, is_malformed, DecodesIfReady, DecodesWellFormed, DecodesWhole, EncodesIfReady, HasDecoded, HasNotDecoded, IfCanDecode, PutsIfRoom, filled_status}
+use Rattle.jillapun_c.specs.Whole.{DecodesPart, HasLeft, TextIsMade, end_of, is_malformed, DecodesIfReady, DecodesWellFormed, DecodesWhole, EncodesIfReady, HasDecoded, HasNotDecoded, IfCanDecode, PutsIfRoom, filled_status}
 use Rattle.jillapun_c.specs.declared.filled.Filled.{Filled}
 use Rattle.jillapun_c.specs.declared.whole.decoding.End.{End}
 use Rattle.jillapun_c.specs.declared.whole.decoding.End.TheVariants.{Ended, Malformed, More}
@@ -37,10 +37,11 @@ use Rattle.encoding_front.specs.declared.mark.Mark.{Mark}
 use Rattle.encoding_front.specs.laws.Input.{marked_scalars}
 use Rattle.jillapun_c.specs.EncodingNumbers.{encoding_at, mark_at}
 use Rattle.jillapun_c.specs.Openings.{IfReady}
-use Rattle.jillapun_c.specs.Room.{IsPut}
+use Rattle.jillapun_c.specs.Room.{HoldsFront, IsPut}
 use Rattle.jillapun_c.specs.declared.decoded.Decoded.{Decoded}
 use Rattle.jillapun_c.specs.declared.status.TheConstants.{NOT_WELL_FORMED}
 use Rattle.jillapun_c.specs.declared.whole.decoding.Whole.{Whole}
+use Rattle.jillapun_c.proofs.RoomLemmas.{first_filled}
 
 -- ---- one call of a decoder
 
@@ -369,18 +370,6 @@ abbrev pub calls_left : CoderResult → ℕ
 calls_left CoderResult.InputEmpty = 0
 calls_left CoderResult.OutputFull = 1
 
--- what was written, and made, in the room
-first_wrote : (old new : List ℕ) (w : ℕ) (filled : Filled) → WritesBytes old new w → filled.put ≡ w → filled.length ≡ w → filled.is_whole ≡ true → HoldsFront (take w new) old new filled
-first_wrote old new w filled wrote put size whole = record {
-  rest = [];
-  parts = ap (λ (n : ℕ). take n new) (sym put) ∙ sym (append-nil (take filled.put new));
-  fits = omega (arith, put, wrote.room);
-  behind = ap (λ (n : ℕ). drop n new) put ∙ wrote.behind ∙ ap (λ (n : ℕ). drop n old) (sym put);
-  length_is = inl (omega (arith, size, length-take w new, wrote.room));
-  whole = λ _. (refl, size ∙ sym put);
-  cut = λ not. absurd (cc (sym whole ∙ not));
-}
-
 ended_by : (outcome : CoderResult) (s : EscapeState) (rest : List ℕ) → ReplacingEndsWith true outcome s rest → outcome ≡ CoderResult.InputEmpty → (rest ≡ []) × (s ≡ Ascii)
 ended_by CoderResult.InputEmpty s rest ends is = (ends.0, ends.1 refl)
 ended_by CoderResult.OutputFull s rest ends is = absurd (cc)
@@ -393,7 +382,7 @@ encoded_first x u cs rest old new w outcome lost size filled call wrote same put
   coder = call.same;
   made = take w new;
   bytes = call.bytes;
-  holds = first_wrote old new w filled wrote put length_is whole;
+  holds = first_filled old new w filled wrote.room wrote.behind put length_is whole;
   prefix = call.prefix;
   split = call.split;
   told = call.told;

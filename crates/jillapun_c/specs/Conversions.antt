@@ -8,9 +8,11 @@ use Rattle.recode.specs.declared.job.Job.{Job}
 use Rattle.recode.specs.declared.job.Policy.{Policy}
 use Rattle.recode.specs.declared.job.Report.{Report as RunReport}
 use Rattle.jillapun_c.specs.Losses.{log_of_losses}
+use Rattle.jillapun_c.specs.Room.{BeginsWithPart, HoldsFront, IsReported}
+use Rattle.jillapun_c.specs.declared.in_memory.Run.{Run}
 use Rattle.jillapun_c.specs.declared.losses.Loss.{Loss}
 use Rattle.jillapun_c.specs.declared.report.Report.{Report}
-use Rattle.jillapun_c.specs.declared.status.TheConstants.{LOSSY, NO_MEMORY, OK, ROOM, STOPPED, TOO_LONG}
+use Rattle.jillapun_c.specs.declared.status.TheConstants.{LOSSY, OK, ROOM, STOPPED, TOO_LONG}
 
 -- some bytes and some records are what a job makes of an input: all, or, if its policy stops, all up to there
 pub record IsMadeOf (j : Job) (input output : List ℕ) (losses : List Loss) : Type 0 where
@@ -87,24 +89,35 @@ pub record IsHandedOver (j : Job) (input : List ℕ) (dst dst' : List ℕ) (loss
   pub kept : drop report.written dst' ≡ drop report.written dst
   pub losses_kept : drop report.losses losses' ≡ drop report.losses losses
 
--- so many bytes and records are wanted as a job makes of an input, and nothing else is reported
-pub record IsWanted (j : Job) (input : List ℕ) (report : Report) : Type 0 where
-  pub written : report.written ≡ length (output_of j input)
-  pub records : (made : List Loss) × (log_of_losses made ≡ log_of j input) × (report.losses ≡ length made)
+-- there is less room than what a job makes of an input takes: both rooms begin with the first part of it, and the report
+-- says how much is wanted, and nothing else
+pub record IsRoomShort (j : Job) (input dst dst' : List ℕ) (losses losses' : List Loss) (report : Report) : Type 0 where
+  pub output : List ℕ
+  pub records : List Loss
+  pub made : IsMadeOf j input output records
+  pub short : (length dst < length output) ⊎ (length losses < length records)
+  pub begins : BeginsWithPart output dst dst'
+  pub losses_begin : BeginsWithPart records losses losses'
+  pub written : IsReported (length output) report.written
+  pub counted : IsReported (length records) report.losses
   pub no_counts : HasNoCounts report
   pub no_character : (report.index ≡ 0) × (report.scalar ≡ 0)
 
--- there is less room than is wanted, and the report says how much is
-pub record IsRoomShort (j : Job) (input dst : List ℕ) (losses : List Loss) (report : Report) : Type 0 where
-  pub wanted : IsWanted j input report
-  pub short : (length dst < report.written) ⊎ (length losses < report.losses)
-
--- an input within the limit is converted, or there is too little room, or memory was refused
+-- an input within the limit is converted, or there is too little room
 abbrev pub ConvertsWithin : Job → (input dst dst' : List ℕ) → (losses losses' : List Loss) → Report → (status : ℕ) → Type 0
 ConvertsWithin j input dst dst' losses losses' report status =
-    (IsDone status × IsHandedOver j input dst dst' losses losses' report status) ⊎ ((status ≡ ROOM) × IsRoomShort j input dst' losses' report) ⊎ (status ≡ NO_MEMORY)
+    (IsDone status × IsHandedOver j input dst dst' losses losses' report status) ⊎ ((status ≡ ROOM) × IsRoomShort j input dst dst' losses losses' report)
 
 -- an input is converted, if the limit of the job allows its length
 abbrev pub ConvertsIfShort : Job → (input dst dst' : List ℕ) → (losses losses' : List Loss) → Report → (status : ℕ) → Type 0
 ConvertsIfShort j input dst dst' losses losses' report status =
     ((length input ≤ j.limit) × ConvertsWithin j input dst dst' losses losses' report status) ⊎ ((j.limit < length input) × (status ≡ TOO_LONG))
+
+-- What a job came to in two rooms: what it made, and how far that was put there.
+pub record ComesTo (j : Job) (input dst dst' : List ℕ) (losses losses' : List Loss) (run : Run) : Type 0 where
+  pub output : List ℕ
+  pub records : List Loss
+  pub converts : ConvertsInMemory j input output records run.report run.status
+  pub written : HoldsFront output dst dst' run.output
+  pub lost : HoldsFront records losses losses' run.records
+  pub done : length input ≤ j.limit → IsDone run.status

@@ -1,7 +1,8 @@
 -- What a call leaves in the room that the caller lends it.
-use Rattle.std.specs.Prelude.{◌≡◌, ◌⊎◌, ℕ, ◌≤◌, List, [], ◌++◌, length, take, drop}
+use Rattle.std.specs.Prelude.{◌≡◌, ◌⊎◌, ℕ, ◌<◌, ◌≤◌, true, false, List, [], ◌++◌, length, take, drop}
 use Rattle.std.specs.Str.{IsUtf8}
 use Rattle.encoding_mem.specs.calls.TextDestination.{cleared}
+use Rattle.jillapun_c.specs.declared.filled.Filled.{Filled}
 use Rattle.jillapun_c.specs.declared.status.TheConstants.{REFUSED}
 
 -- a text of so many elements was put at the start of the room, and nothing after them has changed
@@ -44,3 +45,27 @@ pub record FillsRoom {X : Type 0} (held held' old new : List X) (at to : ℕ) : 
   pub is : take at old ++ held ≡ take to new ++ held'
   pub after : drop to new ≡ drop to old
   pub full : (held' ≡ []) ⊎ (to ≡ length new)
+
+-- a length is reported: as SIZE_MAX, if it is that or more
+abbrev pub IsReported : (size reported : ℕ) → Type 0
+IsReported size reported = (reported ≡ size) ⊎ ((reported ≡ REFUSED) × (REFUSED ≤ size))
+
+-- a room begins with the first part of something, and is as it was behind that
+pub record BeginsWithPart {X : Type 0} (all old new : List X) : Type 0 where
+  pub front : List X
+  pub rest : List X
+  pub parts : all ≡ front ++ rest
+  pub fits : length front ≤ length new
+  pub is : take (length front) new ≡ front
+  pub behind : drop (length front) new ≡ drop (length front) old
+
+-- Of something that is made part by part, the first part was put at the start of a room, as it is said how far: all of
+-- it, unless it is longer than the room.
+pub record HoldsFront {X : Type 0} (made old new : List X) (filled : Filled) : Type 0 where
+  pub rest : List X
+  pub parts : made ≡ take filled.put new ++ rest
+  pub fits : filled.put ≤ length new
+  pub behind : drop filled.put new ≡ drop filled.put old
+  pub length_is : IsReported (length made) filled.length
+  pub whole : filled.is_whole ≡ true → (rest ≡ []) × (filled.length ≡ filled.put)
+  pub cut : filled.is_whole ≡ false → length old < length made

@@ -17,10 +17,10 @@ use Rattle.encoding_front.specs.declared.encoding.Encoding.{Encoding}
 use Rattle.encoding_front.specs.declared.mark.Mark.{Mark}
 use Rattle.jillapun_c.specs.EncodingNumbers.{encoding_at, mark_at}
 use Rattle.jillapun_c.specs.Openings.{IfReady}
-use Rattle.jillapun_c.specs.Room.{IsPut}
+use Rattle.jillapun_c.specs.Room.{HoldsFront, IsPut, IsReported}
 use Rattle.jillapun_c.specs.declared.decoded.Decoded.{Decoded}
 use Rattle.jillapun_c.specs.declared.filled.Filled.{Filled}
-use Rattle.jillapun_c.specs.declared.status.TheConstants.{OK, LOSSY, REFUSED, UNKNOWN, NOT_WELL_FORMED, ROOM}
+use Rattle.jillapun_c.specs.declared.status.TheConstants.{OK, LOSSY, UNKNOWN, NOT_WELL_FORMED, ROOM}
 use Rattle.jillapun_c.specs.declared.whole.decoding.Whole.{Whole}
 use Rattle.jillapun_c.specs.declared.whole.decoding.Part.{Part}
 use Rattle.jillapun_c.specs.declared.whole.decoding.End.{End}
@@ -29,10 +29,6 @@ use Rattle.jillapun_c.specs.declared.whole.decoding.End.TheVariants.{Ended, Malf
 -- the status of a call that made all of its output
 abbrev pub verdict_of : (is_lossy : Bool) → ℕ
 verdict_of is_lossy = if is_lossy then LOSSY else OK
-
--- a length is reported: as SIZE_MAX, if it is that or more
-abbrev pub IsReported : (size reported : ℕ) → Type 0
-IsReported size reported = (reported ≡ size) ⊎ ((reported ≡ REFUSED) × (REFUSED ≤ size))
 
 -- The room begins with the output, and the status says whether something was lost. Puts says what becomes of the rest
 -- of the room: it stays, or is a text again.
@@ -85,17 +81,6 @@ DecodesWellFormed t src old new told status e mark =
     ((malformed ≡ 0) × DecodesWhole IsPut t e mark src old new told status) ⊎ ((0 < malformed) × (status ≡ NOT_WELL_FORMED))
 
 -- ---- part by part
-
--- Of an output that is made so, the first part was put at the start of a room, as it is said how far: all of it, unless
--- it is longer than the room.
-pub record HoldsFront (made old new : List ℕ) (filled : Filled) : Type 0 where
-  pub rest : List ℕ
-  pub parts : made ≡ take filled.put new ++ rest
-  pub fits : filled.put ≤ length new
-  pub behind : drop filled.put new ≡ drop filled.put old
-  pub length_is : IsReported (length made) filled.length
-  pub whole : filled.is_whole ≡ true → (rest ≡ []) × (filled.length ≡ filled.put)
-  pub cut : filled.is_whole ≡ false → length old < length made
 
 -- the status of a call that made all of an output: whether it was put into the room, and whether something was lost
 abbrev pub filled_status : Filled → (is_lossy : Bool) → ℕ

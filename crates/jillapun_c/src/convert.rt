@@ -12,7 +12,6 @@ use crate::report::Report;
 use crate::request::Request;
 use crate::status::CLOSED;
 use crate::tables_handle::TablesHandle;
-use std::alloc::Global;
 
 /// Converts a text in memory: the bytes of `src`, from the encoding with the number `from` to the
 /// output encoding of that with the number `to`, at the start of `dst`, with a record of each loss
@@ -26,21 +25,21 @@ use std::alloc::Global;
 /// - `OK`: nothing was malformed, and the output, read again, is the text of the input.
 /// - `LOSSY`: all was converted, and something was lost. `losses` may be empty even so: some
 ///   encodings write a character as bytes that read back as another.
-/// - `ROOM`: `written` bytes and `losses` records are wanted; nothing was written. Call again.
+/// - `ROOM`: `written` bytes and `losses` records are wanted, and both rooms begin with the first
+///   of them. Call again.
 /// - `STOPPED`: the policy is `STOP`, and the character that has no bytes is in the report. What is
 ///   before it was converted, with the escape that would come before a reference, and its record
 ///   is the last.
-/// - `TOO_LONG`: `src` is longer than the limit. `NO_MEMORY`: memory was refused.
+/// - `TOO_LONG`: `src` is longer than the limit.
 /// - `UNKNOWN`: a number stands for nothing. `NOT_READY`: an index that one of the encodings needs
 ///   is not in the tables. `CLOSED`: the handle has no tables.
 ///
-/// At the last five nothing is written, and all of the report is 0.
+/// At the last four nothing is written, and all of the report is 0.
 ///
-/// It takes memory from the heap for the output, for the records and for a room as large as `src`,
-/// of 64 bytes at least and 16 KiB at most, and frees it before it returns.
+/// No memory is taken. What does not fit into `dst` and `losses` is converted all the same, for its
+/// length.
 #[unsafe(no_mangle)]
 pub extern "C" fn jillapun_convert(
-    alloc: Global,
     tables: TablesHandle,
     from: u8,
     to: u8,
@@ -55,7 +54,8 @@ pub extern "C" fn jillapun_convert(
     ensures converts { IfAsked tables.tables from to mark policy limit
         (λ j. ConvertsIfShort j src.now dst.old dst.new losses.old losses.new report.new result)
         result }
-    ensures kept { ¬ (IsDone result) → (dst.new ≡ dst.old) × (losses.new ≡ losses.old) }
+    ensures kept { ¬ (IsDone result) → result ≢ ROOM
+        → (dst.new ≡ dst.old) × (losses.new ≡ losses.old) }
     ensures nothing { ¬ (IsDone result) → result ≢ ROOM → report.new ≡ NONE }
 {
     *report = Report::NONE;
@@ -71,7 +71,7 @@ pub extern "C" fn jillapun_convert(
     };
     match request.job(tables) {
         Err(status) => status,
-        Ok(job) => convert_job(alloc, job, src, dst, losses, report),
+        Ok(job) => convert_job(job, src, dst, losses, report),
     }
 }
 
@@ -83,7 +83,7 @@ mod tests {
     };
     use encoding_index::load;
     use encoding_tables::{IndexKind, Tables};
-    use std::alloc::AllocError;
+    use std::alloc::{AllocError, Global};
 
     const BIG5: u8 = 0;
 
@@ -126,7 +126,6 @@ mod tests {
             report: Report::NONE,
         };
         left.status = jillapun_convert(
-            alloc,
             TablesHandle::of(tables(alloc)?),
             from,
             to,
@@ -197,7 +196,8 @@ mod tests {
         assert_eq!(rt; left.status, ROOM);
         assert_eq!(rt; left.report.written, 18);
         assert_eq!(rt; left.report.losses, 3);
-        assert_eq!(rt; left.dst, *b"............");
+        assert!(rt; left.dst.starts_with(b"&#232;"));
+        assert_eq!(rt; left.losses[0].number, 232);
         Ok(())
     }
 

@@ -1,23 +1,24 @@
-//! A room that an output is put into as far as it fits, and how long the output is.
+//! A room that something is put into as far as it fits, and how long that is.
 
 ghost use Rattle.std.specs.Prelude.{◌≡◌, ◌≤◌, ◌++◌, List, ℕ, length, take, false, true};
-ghost use Rattle.jillapun_c.specs.Whole.{HoldsFront, filled_status};
+ghost use Rattle.jillapun_c.specs.Room.{HoldsFront};
+ghost use Rattle.jillapun_c.specs.Whole.{filled_status};
 
 use crate::status::{LOSSY, OK, ROOM};
 
-/// How far an output that is made part by part was put into a room.
+/// How far an output, or records, made part by part, were put into a room.
 #[derive(Clone, Copy)]
 pub struct Filled {
-    /// How many bytes of it stand at the start of the room.
+    /// How many elements stand at the start of the room.
     pub put: usize,
-    /// How many bytes it has so far; `usize::MAX` if it has more.
+    /// How many there are so far; `usize::MAX` if there are more.
     pub length: usize,
     /// Whether all that was made was put.
     pub is_whole: bool,
 }
 
 impl Filled {
-    /// After the first part, of so many bytes, which was made in the room.
+    /// After the first part, of so many elements, which was made in the room.
     pub(crate) fn first(written: usize) -> Filled
         ensures put { result.put ≡ written }
         ensures length { result.length ≡ written }
@@ -31,9 +32,9 @@ impl Filled {
     }
 
     /// Puts the next part behind all before it, if these were put, and it fits.
-    pub(crate) fn add(&mut self, part: &[u8], room: &mut [u8])
+    pub(crate) fn add<T: Copy>(&mut self, part: &[T], room: &mut [T])
         requires { self.old.put ≤ length room.old }
-        ensures holds { (made old : List ℕ) → length old ≡ length room.old
+        ensures holds { (made old : List T) → length old ≡ length room.old
             → HoldsFront made old room.old self.old
             → HoldsFront (made ++ part.now) old room.new self.new }
         ensures kept { self.new.is_whole ≡ false

@@ -26,8 +26,8 @@ pub const FINISHED: u8 = 8;
 /// The text is not UTF-8, or what is left of it begins with a malformed sequence. Nothing was read
 /// or written.
 pub const NOT_UTF8: u8 = 9;
-/// The room is too small, and the report, or `written`, says how much is wanted. A call that
-/// decodes or encodes has put the first part there, one that converts nothing.
+/// The room is too small, and begins with the first part of what was made. The report, or
+/// `written`, says how much is wanted.
 pub const ROOM: u8 = 10;
 /// The conversion goes on: call again, with the bytes that follow, or with room for what is left.
 pub const GOES_ON: u8 = 11;

@@ -6,7 +6,7 @@ ghost use Rattle.std.specs.Str.{chars};
 ghost use Rattle.encoding_mem.specs.Coding.{lost_count, whole_from};
 ghost use Rattle.encoding_mem.specs.declared.codec.reference.Reference.TheVariants.{Decimal};
 ghost use Rattle.encoding_front.specs.calls.Encoder.{coding_in};
-ghost use Rattle.jillapun_c.specs.Whole.{HoldsFront};
+ghost use Rattle.jillapun_c.specs.Room.{HoldsFront};
 
 use crate::filled::Filled;
 use encoding_front::{CoderResult, Encoder};
