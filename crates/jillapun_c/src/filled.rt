@@ -6,6 +6,9 @@ ghost use Rattle.jillapun_c.specs.Whole.{filled_status};
 
 use crate::status::{LOSSY, OK, ROOM};
 
+/// How many bytes are made at a time that find no room with the caller.
+pub(crate) const PART: usize = 1024;
+
 /// How far an output, or records, made part by part, were put into a room.
 #[derive(Clone, Copy)]
 pub struct Filled {

@@ -8,17 +8,14 @@ ghost use Rattle.jillapun_c.specs.declared.report.TheConstants.Report.{NONE};
 ghost use Rattle.jillapun_c.specs.declared.status.TheConstants.{ROOM};
 
 use crate::converter::Converter;
-use crate::filled::Filled;
+use crate::filled::{Filled, PART};
 use crate::losses::Loss;
 use crate::report::Report;
 use crate::status::{ROOM, TOO_LONG};
 use recode::Job;
 use recode::laws::stops_at_first_loss;
 
-// How many bytes, and how many records, are made at a time that do not fit into the rooms of the
-// caller.
-const PART: usize = 1024;
-
+// How many records of losses are made at a time that find no room with the caller.
 const PART_LOSSES: usize = 16;
 
 /// What a conversion came to.

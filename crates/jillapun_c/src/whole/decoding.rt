@@ -8,11 +8,8 @@ ghost use Rattle.encoding_front.specs.calls.DecoderViews.{decoder_view};
 ghost use Rattle.jillapun_c.specs.Whole.{DecodesPart, HasLeft, TextIsMade};
 ghost use Rattle.jillapun_c.specs.declared.whole.decoding.End.TheVariants as end_;
 
-use crate::filled::Filled;
+use crate::filled::{Filled, PART};
 use encoding_front::{CoderResult, Decoder, DecoderResult};
-
-// How many bytes of text are made at a time that do not fit into the room of the caller.
-const PART: usize = 1024;
 
 /// How a call of a decoder ended.
 #[derive(Clone, Copy)]

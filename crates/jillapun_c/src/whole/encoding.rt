@@ -8,11 +8,8 @@ ghost use Rattle.encoding_mem.specs.declared.codec.reference.Reference.TheVarian
 ghost use Rattle.encoding_front.specs.calls.Encoder.{coding_in};
 ghost use Rattle.jillapun_c.specs.Room.{HoldsFront};
 
-use crate::filled::Filled;
+use crate::filled::{Filled, PART};
 use encoding_front::{CoderResult, Encoder};
-
-// How many bytes are made at a time that do not fit into the room of the caller.
-const PART: usize = 1024;
 
 /// Encodes all of a text, at the start of `dst` as far as it fits. Returns how far it was put
 /// there, and whether a reference was written.
