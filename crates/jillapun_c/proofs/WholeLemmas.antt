@@ -1,7 +1,7 @@
 -- An output that is put into a room part by part. A whole input, decoded so, and a whole text, encoded so.
 use Rattle.std.proofs.Common.{◌≡◌, ◌≢◌, ◌+◌, ◌<◌, ◌≤◌, ◌↔◌, ◌||◌, ◌==◌, ℕ, Bool, Bor, true, false, inl, inr, IsTrue, Option, None, Some, List, [], ◌∷◌, ◌++◌, length, take, drop, refl, sym, ◌∙◌, ap, subst, arith, append_assoc, length-append, length-drop, length-take, encode_utf8_all, ◌&&◌}
 use Rattle.std.specs.Prelude.{◌⊎◌, MatchOption}
-use Rattle.std.specs.Str.{all_scalars, chars}
+use Rattle.std.specs.Str.{IsUtf8, all_scalars, chars}
 use Rattle.std.proofs.lemmas.Bool.{cases_lt, eqb-true, and_parts}
 use Rattle.std.proofs.lemmas.List.{append-nil, append_cancel_left, drop_at, drop-drop, take_at}
 use Rattle.std.proofs.lemmas.Str.{encodes-append}
@@ -22,7 +22,7 @@ use Rattle.encoding_front.specs.calls.Encoder.{EncoderState, Replaces, Replacing
 use Rattle.encoding_front.specs.calls.Stream.{DecoderView, IsNewDecoder}
 use Rattle.encoding_front.specs.declared.coder_result.CoderResult.{CoderResult}
 use Rattle.encoding_front.specs.laws.Encoder.{coding_laws, kept_few, need_few, output_twice}
-use Rattle.jillapun_c.specs.Whole.{DecodesPart, HasLeft, TextIsMade, end_of, is_malformed, DecodesIfReady, DecodesWellFormed, DecodesWhole, EncodesIfReady, HasDecoded, HasNotDecoded, IfCanDecode, PutsIfRoom, filled_status}
+use Rattle.jillapun_c.specs.Whole.{BeginsWithText, DecodesPart, HasLeft, TextIsMade, end_of, is_malformed, DecodesIfReady, DecodesWellFormed, DecodesWhole, EncodesIfReady, HasDecoded, HasNotDecoded, IfCanDecode, PutsIfRoom, filled_status}
 use Rattle.jillapun_c.specs.declared.filled.Filled.{Filled}
 use Rattle.jillapun_c.specs.declared.whole.decoding.End.{End}
 use Rattle.jillapun_c.specs.declared.whole.decoding.End.TheVariants.{Ended, Malformed, More}
@@ -35,6 +35,7 @@ use Rattle.encoding_front.specs.Marks.{marked_pieces, source_of}
 use Rattle.encoding_front.specs.declared.encoding.Encoding.{Encoding}
 use Rattle.encoding_front.specs.declared.mark.Mark.{Mark}
 use Rattle.encoding_front.specs.laws.Input.{marked_scalars}
+use Rattle.jillapun_c.specs.Conversions.{IsVerdict}
 use Rattle.jillapun_c.specs.EncodingNumbers.{encoding_at, mark_at}
 use Rattle.jillapun_c.specs.Openings.{IfReady}
 use Rattle.jillapun_c.specs.Room.{HoldsFront, IsPut}
@@ -561,6 +562,19 @@ front_scalars (c ∷ a) b h = let parts = and_parts _ _ h in ap (λ y. y && all_
 pub put_scalars : (t : IndexLists) (encoding mark : ℕ) (src old new : List ℕ) (told : Decoded) (whole : Whole) (h : HasDecoded t encoding mark src old new told whole) → all_scalars (text h.made.front) ≡ true
 put_scalars t encoding mark src old new told whole h =
     front_scalars (text h.made.front) (text h.made.after) (ap all_scalars (sym (text-append h.made.front h.made.after) ∙ ap text (sym h.made.parts)) ∙ marked_scalars t h.m h.e src h.accepted)
+
+-- if all was put, the room begins with a text
+pub whole_text : (t : IndexLists) (encoding mark : ℕ) (src old new : List ℕ) (told : Decoded) (whole : Whole) → HasDecoded t encoding mark src old new told whole → IsVerdict (filled_status whole.filled whole.had_errors) → BeginsWithText new told.written
+whole_text t encoding mark src old new told whole h verdict = by (either_way whole.filled.is_whole)
+  where
+    by : (whole.filled.is_whole ≡ true) ⊎ (whole.filled.is_whole ≡ false) → BeginsWithText new told.written
+    by (inl all) =
+        let size : told.written ≡ whole.filled.put = h.length_is ∙ (h.made.filled.whole all).1 in
+        record {
+          within = omega (arith, size, h.made.filled.fits);
+          utf8 = subst (λ (n : ℕ). IsUtf8 (take n new)) (sym size) (subst IsUtf8 (sym h.made.is) (text h.made.front, (put_scalars t encoding mark src old new told whole h, refl)));
+        }
+    by (inr cut) = elim (rw cut at verdict) [ inl ok ↦ absurd (cc ok) | inr lossy ↦ absurd (cc lossy) ]
 
 -- ---- a text is encoded
 

@@ -1,7 +1,7 @@
 -- What a call makes of a whole input, or of a whole text.
 use Rattle.std.specs.Prelude.{◌≡◌, ◌≢◌, ◌↔◌, ◌⊎◌, ℕ, ◌+◌, ◌<◌, ◌≤◌, Bool, true, false, IsTrue, if◌then◌else◌, List, [], ◌++◌, length, take, drop, Option, None, Some, MatchOption, encode_utf8_all}
 use Rattle.std.specs.Borrow.{Bor}
-use Rattle.std.specs.Str.{chars}
+use Rattle.std.specs.Str.{IsUtf8, chars}
 use Rattle.encoding_mem.specs.Coding.{lost_count, output}
 use Rattle.encoding_mem.specs.Piece.{Piece, malformed_count, text}
 use Rattle.encoding_mem.specs.calls.Writing.{Adds}
@@ -79,6 +79,11 @@ abbrev pub DecodesWellFormed : IndexLists → (src old new : List ℕ) (told : D
 DecodesWellFormed t src old new told status e mark =
     let malformed = malformed_count (marked_pieces t mark e src) in
     ((malformed ≡ 0) × DecodesWhole IsPut t e mark src old new told status) ⊎ ((0 < malformed) × (status ≡ NOT_WELL_FORMED))
+
+-- bytes begin with a text of so many
+pub record BeginsWithText (bytes : List ℕ) (size : ℕ) : Type 0 where
+  pub within : size ≤ length bytes
+  pub utf8 : IsUtf8 (take size bytes)
 
 -- ---- part by part
 

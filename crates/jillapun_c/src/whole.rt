@@ -2,10 +2,11 @@
 
 ghost use Rattle.std.specs.Prelude.{◌≡◌, ◌≢◌, IfErr, IfOk, MatchResult, OnErr, false};
 ghost use Rattle.std.specs.Str.{IsUtf8};
+ghost use Rattle.jillapun_c.specs.Conversions.{IsVerdict};
 ghost use Rattle.jillapun_c.specs.HeldTables.{held_lists};
 ghost use Rattle.jillapun_c.specs.Room.{IsPut, TextIsPut};
-ghost use Rattle.jillapun_c.specs.Whole.{DecodesIfReady, DecodesWellFormed, EncodesIfReady};
-ghost use Rattle.jillapun_c.specs.Whole.{HasDecoded, HasNotDecoded, IfCanDecode};
+ghost use Rattle.jillapun_c.specs.Whole.{BeginsWithText, DecodesIfReady, DecodesWellFormed};
+ghost use Rattle.jillapun_c.specs.Whole.{EncodesIfReady, HasDecoded, HasNotDecoded, IfCanDecode};
 ghost use Rattle.jillapun_c.specs.declared.decoded.TheConstants.Decoded.{NONE};
 ghost use Rattle.jillapun_c.specs.declared.status.TheConstants.{LOSSY, NOT_UTF8};
 ghost use Rattle.jillapun_c.specs.declared.status.TheConstants.{NOT_WELL_FORMED, OK, ROOM};
@@ -47,6 +48,7 @@ pub extern "C" fn jillapun_decode(
 ) -> u8
     ensures decodes { DecodesIfReady IsPut (held_lists tables.tables) encoding mark src.now dst.old
         dst.new decoded.new result }
+    ensures text { IsVerdict result → BeginsWithText dst.new decoded.new.written }
     ensures kept { result ≢ OK → result ≢ LOSSY → result ≢ ROOM → dst.new ≡ dst.old }
     ensures nothing { result ≢ OK → result ≢ LOSSY → result ≢ ROOM → decoded.new ≡ NONE }
 {
@@ -126,6 +128,7 @@ fn decode_input(
         (HasDecoded (held_lists tables.tables) encoding mark src.now dst.old dst.new decoded.new)
         (HasNotDecoded (held_lists tables.tables) encoding mark replaces src.now) }
     ensures lossless { replaces ≡ false → IfOk result (λ whole. whole.had_errors ≡ false) }
+    ensures refused { IfErr result (λ status. ¬ (IsVerdict status)) }
     ensures kept { IfErr result (λ status. status ≢ NOT_WELL_FORMED → dst.new ≡ dst.old) }
     ensures nothing { OnErr result (decoded.new ≡ NONE) }
 {

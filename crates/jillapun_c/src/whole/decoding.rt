@@ -128,19 +128,19 @@ fn is_all(left: Option<&[u8]>) -> bool
 }
 
 /// Decodes all that comes, of an input that ends with `src`, at the start of `dst` as far as it
-/// fits. `None` if nothing is to be replaced and a sequence is malformed. `own` is what the text is
+/// fits. `None` if nothing is to be replaced and a sequence is malformed. `expected` is what the text is
 /// compared with.
 pub(crate) fn decode_whole(
     decoder: &mut Decoder<'_>,
     replaces: bool,
     src: &[u8],
-    own: &[u8],
+    expected: &[u8],
     dst: &mut [u8],
 ) -> Option<Whole>
     requires { (decoder_view decoder.old).finished ≡ false }
     ensures made { MatchOption result
         (0 < malformed_count ((decoder_view decoder.old).state.pieces src.now))
-        (TextIsMade ((decoder_view decoder.old).state.pieces src.now) own.now dst.old dst.new) }
+        (TextIsMade ((decoder_view decoder.old).state.pieces src.now) expected.now dst.old dst.new) }
     ensures replaced { replaces ≡ true → IsSome result }
     ensures stopped { replaces ≡ false → IfSome result (λ whole. whole.had_errors ≡ false) }
 {
@@ -148,7 +148,7 @@ pub(crate) fn decode_whole(
     let mut read = part.read;
     let mut had_errors = part.had_errors;
     let mut filled = Filled::first(part.written);
-    let mut left = left_behind(Some(own), &dst[..part.written]);
+    let mut left = left_behind(Some(expected), &dst[..part.written]);
     let mut room = [0; PART];
     'parts: while let End::More = part.end {
         part = decode_part(decoder, replaces, &src[read..], &mut room);

@@ -5,7 +5,7 @@ use Rattle.jillapun_c.proofs.whole.decoding.decode_whole.Given as goal
 
 abbrev pub invariant-parts : goal.invariant-parts
 invariant-parts l = record {
-  so_far : DecodedSoFar (decoder_view l.fn.decoder) (decoder_view l.decoder) l.src l.own l.fn.dst l.dst l.replaces l.read l.part.end l.had_errors l.filled l.left;
+  so_far : DecodedSoFar (decoder_view l.fn.decoder) (decoder_view l.decoder) l.src l.expected l.fn.dst l.dst l.replaces l.read l.part.end l.had_errors l.filled l.left;
   size : length l.room ≡ 1024;
 }
 
