@@ -137,20 +137,18 @@ raw_part v v' src old new (DecoderResult.Malformed a b) read w same call =
 
 -- ---- what was put so far
 
+take_added : (made old new : List ℕ) (w : ℕ) → Adds old 0 made new w → take w new ≡ made
+take_added made old new w adds = ap (take w) adds.list ∙ take_at made (drop w old) w (omega (arith, adds.counted))
+
 -- after the first part, which was made in the room
 pub first_put : (made old new : List ℕ) (w : ℕ) (filled : Filled) → Adds old 0 made new w → length new ≡ length old → filled.put ≡ w → filled.length ≡ w → filled.is_whole ≡ true → HoldsFront made old new filled
 first_put made old new w filled adds same put size whole =
-    let is : take w new ≡ made = ap (take w) adds.list ∙ take_at made (drop w old) w (omega (arith, adds.counted)) in
     let behind : drop w new ≡ drop w old = ap (drop w) adds.list ∙ drop_at made (drop w old) w (omega (arith, adds.counted)) in
-    record {
-      rest = [];
-      parts = sym is ∙ ap (λ (n : ℕ). take n new) (sym put) ∙ sym (append-nil (take filled.put new));
-      fits = omega (arith, put, adds.within, same);
-      behind = ap (λ (n : ℕ). drop n new) put ∙ behind ∙ ap (λ (n : ℕ). drop n old) (sym put);
-      length_is = inl (omega (arith, size, adds.counted));
-      whole = λ _. (refl, size ∙ sym put);
-      cut = λ not. absurd (cc (sym whole ∙ not));
-    }
+    subst (λ (l : List ℕ). HoldsFront l old new filled) (take_added made old new w adds) (first_filled old new w filled (omega (arith, adds.within, same)) behind put size whole)
+
+-- if all was put, it is the front
+front_of : (made old now : List ℕ) (filled : Filled) → HoldsFront made old now filled → filled.is_whole ≡ true → take filled.put now ≡ made
+front_of made old now filled holds whole = sym (holds.parts ∙ ap (λ (r : List ℕ). take filled.put now ++ r) ((holds.whole whole).0) ∙ append-nil (take filled.put now))
 
 -- The text of the pieces that were taken was put into a room as far as it fits, up to the end of a piece; and this is
 -- left of the bytes that it is compared with.
@@ -164,10 +162,6 @@ pub record PutSoFar (taken : List Piece) (own old now : List ℕ) (filled : Fill
 
 pub text_more : (a b : List Piece) → encode_utf8_all (text a) ++ encode_utf8_all (text b) ≡ encode_utf8_all (text (a ++ b))
 text_more a b = sym (ap encode_utf8_all (text-append a b) ∙ encodes-append (text a) (text b))
-
--- of the room, if all was put, the text of all pieces is the front
-front_of : (taken : List Piece) (old now : List ℕ) (filled : Filled) → HoldsFront (encode_utf8_all (text taken)) old now filled → filled.is_whole ≡ true → take filled.put now ≡ encode_utf8_all (text taken)
-front_of taken old now filled holds whole = sym (holds.parts ∙ ap (λ (r : List ℕ). take filled.put now ++ r) ((holds.whole whole).0) ∙ append-nil (take filled.put now))
 
 either_way : (b : Bool) → (b ≡ true) ⊎ (b ≡ false)
 either_way true = inl refl
@@ -183,8 +177,8 @@ put_first v v' src own old new part filled left d fine same put size whole is_le
       front = d.taken;
       after = [];
       parts = sym (append-nil d.taken);
-      is = front_of d.taken old new filled holds whole;
-      is_left = subst (λ (l : List ℕ). HasLeft own l left) (ap (λ (n : ℕ). take n new) (sym put) ∙ front_of d.taken old new filled holds whole) is_left;
+      is = front_of (encode_utf8_all (text d.taken)) old new filled holds whole;
+      is_left = subst (λ (l : List ℕ). HasLeft own l left) (ap (λ (n : ℕ). take n new) (sym put) ∙ front_of (encode_utf8_all (text d.taken)) old new filled holds whole) is_left;
     }
 
 -- a part more
@@ -200,7 +194,7 @@ put_more taken more own old now now' made filled filled' left left' so is adds k
     by holds is_left (either_way filled'.is_whole)
   where
     by : HoldsFront (encode_utf8_all (text (taken ++ more))) old now' filled' → HasLeft own (encode_utf8_all (text (taken ++ more))) left' → (filled'.is_whole ≡ true) ⊎ (filled'.is_whole ≡ false) → PutSoFar (taken ++ more) own old now' filled' left'
-    by holds is_left (inl whole) = record { holds = holds; front = taken ++ more; after = []; parts = sym (append-nil (taken ++ more)); is = front_of (taken ++ more) old now' filled' holds whole; is_left = is_left }
+    by holds is_left (inl whole) = record { holds = holds; front = taken ++ more; after = []; parts = sym (append-nil (taken ++ more)); is = front_of (encode_utf8_all (text (taken ++ more))) old now' filled' holds whole; is_left = is_left }
     by holds is_left (inr cut) = record { holds = holds; front = so.front; after = so.after ++ more; parts = ap (λ (ps : List Piece). ps ++ more) so.parts ∙ append_assoc so.front so.after more; is = kept cut ∙ so.is; is_left = is_left }
 
 -- ---- what is left of the bytes that a text is compared with
@@ -253,9 +247,6 @@ or_some false q m n k is_p is_q sum = (λ yes. omega (arith, is_q.0 yes, sum), �
     by : (0 < m) ⊎ (m ≤ 0) → 0 < k → 0 < n
     by (inl more) some = absurd (cc (is_p.1 more))
     by (inr none) some = omega (arith, none, some, sum)
-
-take_added : (made old new : List ℕ) (w : ℕ) → Adds old 0 made new w → take w new ≡ made
-take_added made old new w adds = ap (take w) adds.list ∙ take_at made (drop w old) w (omega (arith, adds.counted))
 
 -- after the first call
 pub decoded_first : (v u : DecoderView) (src own old new : List ℕ) (replaces : Bool) (part : Part) (filled : Filled) (left : Option (Bor (List ℕ))) → DecodesPart v u src old new part → length new ≡ length old
@@ -445,7 +436,7 @@ puts_if_room Puts made old mid new filled is_lossy holds put = by (either_way fi
   where
     by : (filled.is_whole ≡ true) ⊎ (filled.is_whole ≡ false) → PutsIfRoom Puts made old new is_lossy filled.length (filled_status filled is_lossy)
     by (inl whole) =
-        let all : take filled.put mid ≡ made = sym (holds.parts ∙ ap (λ (r : List ℕ). take filled.put mid ++ r) ((holds.whole whole).0) ∙ append-nil (take filled.put mid)) in
+        let all : take filled.put mid ≡ made = front_of made old mid filled holds whole in
         let size : filled.length ≡ filled.put = (holds.whole whole).1 in
         inl (record {
           put = subst (λ (n : ℕ). Puts old made new n) (sym size) (subst (λ (l : List ℕ). Puts old l new filled.put) all put);

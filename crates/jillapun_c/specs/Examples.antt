@@ -21,9 +21,9 @@ use Rattle.jillapun_c.specs.EncodingNumbers.{encoding_at, mark_at, needed_file}
 use Rattle.jillapun_c.specs.HeldDecoders.{saved_as, saved_in}
 use Rattle.encoding_front.specs.Encodings.{no_lists}
 use Rattle.jillapun_c.specs.IndexFiles.{told_of}
-use Rattle.jillapun_c.specs.Room.{rest_cleared}
+use Rattle.jillapun_c.specs.Room.{HoldsFront, rest_cleared}
 use Rattle.jillapun_c.specs.TextParts.{IsLookedAt, most_read, told_outcome}
-use Rattle.jillapun_c.specs.Whole.{TellsOfInput}
+use Rattle.jillapun_c.specs.Whole.{TellsOfInput, filled_status}
 use Rattle.jillapun_c.specs.declared.decoder.words.DecoderWords.{DecoderWords}
 use Rattle.jillapun_c.specs.declared.converter.Stage.TheVariants.{Open, Stopped}
 use Rattle.jillapun_c.specs.declared.index_files.FileFault.TheVariants as told
@@ -32,7 +32,7 @@ use Rattle.jillapun_c.specs.declared.decoded.TheConstants.Decoded as decoded_
 use Rattle.jillapun_c.specs.declared.encoder_progress.TheConstants.EncoderProgress as encoder_
 use Rattle.jillapun_c.specs.declared.progress.TheConstants.Progress as decoder_
 use Rattle.jillapun_c.specs.declared.report.TheConstants.Report as report_
-use Rattle.jillapun_c.specs.declared.status.TheConstants.{SNIFF, REMOVE, KEEP, DECIMAL, HEXADECIMAL, STOP, NO_ENCODING, INPUT_EMPTY, OUTPUT_FULL, UNMAPPABLE}
+use Rattle.jillapun_c.specs.declared.status.TheConstants.{LOSSY, ROOM, SNIFF, REMOVE, KEEP, DECIMAL, HEXADECIMAL, STOP, NO_ENCODING, INPUT_EMPTY, OUTPUT_FULL, UNMAPPABLE}
 
 -- the numbers of encodings: the first, the last, and none after it
 pub first_encoding : encoding_at 0 ≡ Some Encoding.Big5
@@ -247,3 +247,14 @@ no_decoder_without_encoding = refl
 
 pub words_hold_a_decoder : saved_in (words_of true 25) ≡ Some (saved_as (words_of true 25) Encoding.Utf8)
 words_hold_a_decoder = refl
+
+-- an output of three bytes in a room of two: its first byte is there, and its length is told
+pub cut_output : HoldsFront {X = ℕ} (1 ∷ 2 ∷ 3 ∷ []) (9 ∷ 9 ∷ []) (1 ∷ 9 ∷ []) (record { put = 1; length = 3; is_whole = false })
+cut_output = record { rest = 2 ∷ 3 ∷ []; parts = refl; fits = omega arith; behind = refl; length_is = inl refl; whole = λ is. absurd (cc is); cut = λ _. omega arith }
+
+-- such a call returns that there is too little room, and one whose output fits the verdict
+pub cut_is_told : filled_status (record { put = 1; length = 3; is_whole = false }) true ≡ ROOM
+cut_is_told = refl
+
+pub whole_is_told : filled_status (record { put = 3; length = 3; is_whole = true }) true ≡ LOSSY
+whole_is_told = refl

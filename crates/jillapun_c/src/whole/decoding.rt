@@ -128,8 +128,8 @@ fn is_all(left: Option<&[u8]>) -> bool
 }
 
 /// Decodes all that comes, of an input that ends with `src`, at the start of `dst` as far as it
-/// fits. `None` if nothing is to be replaced and a sequence is malformed. `expected` is what the text is
-/// compared with.
+/// fits. `None` if nothing is to be replaced and a sequence is malformed. `expected` is what the
+/// text is compared with.
 pub(crate) fn decode_whole(
     decoder: &mut Decoder<'_>,
     replaces: bool,
@@ -140,7 +140,8 @@ pub(crate) fn decode_whole(
     requires { (decoder_view decoder.old).finished ≡ false }
     ensures made { MatchOption result
         (0 < malformed_count ((decoder_view decoder.old).state.pieces src.now))
-        (TextIsMade ((decoder_view decoder.old).state.pieces src.now) expected.now dst.old dst.new) }
+        (TextIsMade ((decoder_view decoder.old).state.pieces src.now) expected.now dst.old
+        dst.new) }
     ensures replaced { replaces ≡ true → IsSome result }
     ensures stopped { replaces ≡ false → IfSome result (λ whole. whole.had_errors ≡ false) }
 {
