@@ -10,3 +10,4 @@ pub mod LatencyLemmas
 pub mod LoadLemmas
 pub mod TurnLemmas
 pub mod ShellLemmas
+pub mod SavedLemmas

@@ -8,7 +8,7 @@ use Rattle.encoding_mem.specs.calls.Writing.{encode_utf16_all}
 use Rattle.encoding_mem.specs.declared.codec.reference.Reference.{Reference}
 use Rattle.recode_log.specs.declared.line.LogLine.{LogLine}
 use Rattle.recode_log.specs.declared.line.LogLine.TheVariants.{Bad, Lost}
-use Rattle.recode.specs.Converter.{found_items, ConverterView, ConvertsPart, ConverterEndsWith, is_all_converted, owed_after}
+use Rattle.recode.specs.Converter.{found_items, ConverterView, ConvertsPart, ConverterEndsWith, is_all_converted, owed_after, saved_job}
 use Rattle.recode.specs.Policy.{reference_form}
 use Rattle.recode.specs.State.{State, to_write}
 use Rattle.recode.specs.TaggedByte.{Wrote, tagged}
@@ -188,7 +188,7 @@ holds_kept (Utf16 units) text from to form same h = absurd (cc)
 
 -- a converter whose engine stands so
 abbrev pub view_at : Job → Standing → (ended over : Bool) → ConverterView
-view_at j c ended over = record { job = j; state = c.state; waiting = waiting c; ended = ended; over = over }
+view_at j c ended over = record { job = saved_job j; lists = j.tables.now; state = c.state; waiting = waiting c; ended = ended; over = over }
 
 -- ---- when a call can be made
 
@@ -226,7 +226,7 @@ abbrev pub after_call : Standing → Bool → Standing
 after_call c last = record { state = c.state; answer = settled c.answer last; text = c.text }
 
 pub view_after : (j : Job) (c : Standing) (last e o : Bool) → view_at j (after_call c last) e o ≡ view_at j c e o
-view_after j c last e o = ap (λ (ps : List Piece). record { job = j; state = c.state; waiting = pieces_of_text c.text ++ ps; ended = e; over = o }) (settles c.answer last).reported
+view_after j c last e o = ap (λ (ps : List Piece). record { job = saved_job j; lists = j.tables.now; state = c.state; waiting = pieces_of_text c.text ++ ps; ended = e; over = o }) (settles c.answer last).reported
 
 -- what a call may go on with
 finished_open : (o : Option DecoderResult) (c : Standing) (x : List ℕ) (last : Bool) → IsOpenFor o c x last → c.state.finished ≡ is_last_text o last

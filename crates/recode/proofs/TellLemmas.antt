@@ -1,6 +1,6 @@
 -- What the devices of a conversion say of their bytes after calls in a row, which call was the last, and what the clauses of
 -- a run say of devices that do.
-use Rattle.std.proofs.Common.{◌≡◌, ◌<◌, ◌≤◌, ◌+◌, ℕ, Bool, true, false, is_err, List, [], ◌∷◌, ◌++◌, Option, Some, None, Result, Ok, Err, OnOk, OnErr, IfErr, IsErrAnd, sym, ap, subst, ◌∙◌, append_assoc, append-nil, length, arith, rules}
+use Rattle.std.proofs.Common.{◌≡◌, ◌<◌, ◌+◌, ℕ, is_err, List, [], ◌∷◌, ◌++◌, Option, Some, None, Result, Ok, Err, OnOk, OnErr, IfErr, IsErrAnd, sym, ap, subst, ◌∙◌, append_assoc, append-nil, length, arith, rules}
 use Rattle.std.specs.Io.KnownBytes.{Appends, Consumes, IsAtEnd}
 use Rattle.std.specs.List.{All, concat}
 use Rattle.std.proofs.lemmas.List.{append_cancel_left, same_from_push}

@@ -4,6 +4,7 @@ use Rattle.encoding_mem.specs.Coding.{lost_count, reference_bytes}
 use Rattle.encoding_mem.specs.Items.{Byte, Item, LostAt, MalformedAt, trace_from}
 use Rattle.encoding_mem.specs.Piece.{Piece, malformed_count, sizes}
 use Rattle.encoding_mem.specs.declared.codec.reference.Reference.{Reference}
+use Rattle.encoding_tables.specs.IndexLists.{IndexLists}
 use Rattle.recode_log.specs.Line.{IsValid}
 use Rattle.recode_log.specs.declared.line.LogLine.TheVariants.{Bad, Lost}
 use Rattle.recode.specs.Job.{Faithful, input_pieces, input_text, source_in, target_of, whole_trace}
@@ -14,8 +15,13 @@ use Rattle.recode.specs.WrittenItems.{AreCounted}
 use Rattle.recode.specs.calls.Verdict.{IsFaithfulFor}
 use Rattle.recode.specs.declared.converter.ConverterResult.{ConverterResult}
 use Rattle.recode.specs.declared.converter.ConverterResult.TheVariants.{Found, InputEmpty, OutputFull}
+use Rattle.recode.specs.declared.converter.saved_converter.SavedJob.{SavedJob}
 use Rattle.recode.specs.declared.job.Job.{Job}
 use Rattle.recode.specs.declared.job.Report.{Report}
+
+-- what a job says, without its tables
+abbrev pub saved_job : Job → SavedJob
+saved_job j = record { from = j.from; to = j.to; mark = j.mark; policy = j.policy; limit = j.limit }
 
 -- ---- what is owed
 
@@ -27,10 +33,11 @@ owed_after waiting s r = trace_from (reference_form s.policy) s.coding s.set (s.
 abbrev pub WillBeKeptAfter : List Piece → State → List ℕ → Type 0
 WillBeKeptAfter waiting s r = IsFaithfulFor (reference_form s.policy) s.verdict s.coding s.set (waiting ++ s.decoder.pieces r)
 
--- A converter as its callers know it: its job; where the conversion stands; the pieces that are decoded and wait to be
+-- A converter as its callers know it: what its job says, and the indexes of that; where the conversion stands; the pieces that are decoded and wait to be
 -- written; whether the end was read, and all that is left is to write what waits; and whether all is written.
 pub record ConverterView : Type 0 where
-  pub job : Job
+  pub job : SavedJob
+  pub lists : IndexLists
   pub state : State
   pub waiting : List Piece
   pub ended : Bool
@@ -52,7 +59,8 @@ characters_of v = characters_after v.waiting v.state
 
 -- a converter of a job that has read nothing
 pub record IsFreshConverter (v : ConverterView) (j : Job) : Type 0 where
-  pub job : v.job ≡ j
+  pub job : v.job ≡ saved_job j
+  pub lists : v.lists ≡ j.tables.now
   pub owes_trace : (x : List ℕ) → owes v x ≡ whole_trace j x
   pub verdict : (x : List ℕ) → WillKeep v x ↔ Faithful j x
   pub source : (x : List ℕ) → v.state.source x ≡ source_in j x
@@ -81,6 +89,7 @@ is_all_converted (Found line) = false
 -- items, then what is owed now.
 pub record ConvertsPart (v v' : ConverterView) (last : Bool) (bytes rest : List ℕ) (items : List Item) : Type 0 where
   pub job : v'.job ≡ v.job
+  pub lists : v'.lists ≡ v.lists
   pub owed : (r : List ℕ) → (last ≡ true → r ≡ []) → owes v (bytes ++ r) ≡ items ++ owes v' (rest ++ r)
   pub verdict : (r : List ℕ) → (last ≡ true → r ≡ []) → WillKeep v (bytes ++ r) ↔ WillKeep v' (rest ++ r)
   pub source : (r : List ℕ) → (last ≡ true → r ≡ []) → v.state.source (bytes ++ r) ≡ v'.state.source (rest ++ r)

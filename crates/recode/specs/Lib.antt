@@ -10,6 +10,7 @@ pub mod Job
 pub mod Step
 pub mod Session
 pub mod Converter
+pub mod SavedConverters
 pub mod ReadBackJobs
 pub mod Runs
 pub mod Parts

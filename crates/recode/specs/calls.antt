@@ -13,5 +13,6 @@ pub mod Verdict
 pub mod VerdictView
 pub mod Writers
 pub mod Turns
+pub mod EngineCodecs
 pub mod EngineView
 pub mod ConverterView

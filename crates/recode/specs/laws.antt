@@ -2,3 +2,4 @@
 pub mod Items
 pub mod Calls
 pub mod Parts
+pub mod SavedConverters

@@ -8,7 +8,8 @@ ghost use Rattle.encoding_mem.specs.calls.Decoding.{StateLaw};
 ghost use Rattle.encoding_mem.specs.calls.EncoderRule.{EncoderCall, WritesBytes};
 ghost use Rattle.encoding_mem.specs.calls.Writing.{Adds, encode_utf16_all};
 ghost use Rattle.encoding_front.specs.calls.DecoderCall.{DecoderCall, free_bytes, free_units};
-ghost use Rattle.encoding_front.specs.calls.Stream.{finishes};
+ghost use Rattle.encoding_front.specs.calls.Stream.{IsMadeFrom, finishes};
+ghost use Rattle.encoding_tables.specs.IndexLists.{IndexLists};
 ghost use Rattle.recode.specs.calls.Buffers.{HoldsAnyCharacter, KeepsRoom, is_wide};
 ghost use Rattle.recode.specs.calls.CodecCalls.{DecodeCallEndsWith};
 ghost use Rattle.recode.specs.Work.{IsCounted};
@@ -216,6 +217,8 @@ pub fn decode_to_pivot<D: StreamDecoder>(
         → (D.view decoder.old).source (src.now ++ r)
         ≡ (D.view decoder.new).source (drop result.read src.now ++ r) }
     ensures finished { (D.view decoder.new).finished ≡ finishes last result.answer }
+    ensures made { (t : IndexLists) → IsMadeFrom t (D.view decoder.old)
+        → IsMadeFrom t (D.view decoder.new) }
     ensures pivot { KeepsRoom pivot.old pivot.new }
     ensures calls { IsCounted 1 1 calls.old calls.new }
 {

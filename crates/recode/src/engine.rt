@@ -33,6 +33,7 @@ impl<'t> Engine<Decoder<'t>, VariantEncoder<'t>> {
     ghost use Rattle.recode.specs.Session.{IsNewSession, ReportsOn};
     ghost use Rattle.recode.specs.declared.job.Policy.{Policy};
     ghost use Rattle.recode.specs.calls.Chunk.{CanConvert};
+    ghost use Rattle.recode.specs.calls.EngineCodecs.{AreCodecsOf};
     ghost use Rattle.recode.specs.calls.EngineView.{engine_state};
     ghost use Rattle.recode.specs.declared.session.Phase.TheVariants.{Open};
 
@@ -47,6 +48,8 @@ impl<'t> Engine<Decoder<'t>, VariantEncoder<'t>> {
         }) job.entry }
         ensures ready { CanConvert (engine_state ⟦<Decoder<'t> as StreamDecoder>⟧.view
             ⟦<VariantEncoder<'t> as RawEncoder>⟧.parts job.entry.policy result) }
+        ensures codecs { AreCodecsOf ⟦<Decoder<'t> as StreamDecoder>⟧.view
+            ⟦<VariantEncoder<'t> as RawEncoder>⟧.parts job.entry result }
         ensures none { result.answer ≡ None }
         ensures from { result.from ≡ 0 }
         ensures to { result.to ≡ 0 }
@@ -97,6 +100,7 @@ impl<D: StreamDecoder, E: RawEncoder> Engine<D, E> {
     ghost use Rattle.recode.specs.Policy.{reference_form};
     ghost use Rattle.recode.specs.calls.Buffers.{HoldsAnyCharacter, KeepsRoom, is_wide};
     ghost use Rattle.recode.specs.calls.CodecCalls.{writes_all};
+    ghost use Rattle.recode.specs.calls.EngineCodecs.{AreCodecsOf};
     ghost use Rattle.recode.specs.calls.EngineView.{HoldsBetween, chars_between, standing};
     ghost use Rattle.recode.specs.calls.EngineView.{engine_state, engine_target, replacing};
     ghost use Rattle.recode.specs.calls.Lent.{AreLent, KeepsLent};
@@ -105,6 +109,7 @@ impl<D: StreamDecoder, E: RawEncoder> Engine<D, E> {
     ghost use Rattle.recode.specs.Converter.{found_items};
     ghost use Rattle.recode.specs.calls.Turns.{end_count, is_last_text, settled, stop_count};
     ghost use Rattle.recode.specs.calls.Turns.{stop_items, waits};
+    ghost use Rattle.recode.specs.declared.job.Job.{Job};
     ghost use Rattle.recode.specs.declared.job.Policy.{Policy};
 
     // One call of the encoder, on the text that waits. What it writes is read back.
@@ -134,6 +139,8 @@ impl<D: StreamDecoder, E: RawEncoder> Engine<D, E> {
         ensures decoder { self.new.decoder ≡ self.old.decoder }
         ensures answer { self.new.answer ≡ self.old.answer }
         ensures check { KeepsRoom check.old check.new }
+        ensures codecs { (j : Job) → AreCodecsOf D.view E.parts j self.old
+            → AreCodecsOf D.view E.parts j self.new }
     {
         let text = text_between(pivot, self.from, self.to);
         let calls = &mut self.counts.calls;
@@ -219,6 +226,8 @@ impl<D: StreamDecoder, E: RawEncoder> Engine<D, E> {
         ensures within { result ≤ length src.now }
         ensures holds { HoldsBetween pivot.new self.new.from self.new.to }
         ensures pivot { KeepsRoom pivot.old pivot.new }
+        ensures codecs { (j : Job) → AreCodecsOf D.view E.parts j self.old
+            → AreCodecsOf D.view E.parts j self.new }
     {
         if self.answer.is_some() {
             return 0;
@@ -265,6 +274,8 @@ impl<D: StreamDecoder, E: RawEncoder> Engine<D, E> {
         ensures wrote { WritesBytes dst.old dst.new result.2 }
         ensures holds { HoldsBetween pivot.new self.new.from self.new.to }
         ensures lent { KeepsLent pivot.old check.old pivot.new check.new }
+        ensures codecs { (j : Job) → AreCodecsOf D.view E.parts j self.old
+            → AreCodecsOf D.view E.parts j self.new }
     {
         let read = self.fill(src, pivot, last);
         if dst.len() < 4 {
@@ -327,6 +338,8 @@ impl<D: StreamDecoder, E: RawEncoder> Engine<D, E> {
         ensures wrote { WritesBytes dst.old dst.new result.2 }
         ensures holds { HoldsBetween pivot.new self.new.from self.new.to }
         ensures lent { KeepsLent pivot.old check.old pivot.new check.new }
+        ensures codecs { (j : Job) → AreCodecsOf D.view E.parts j self.old
+            → AreCodecsOf D.view E.parts j self.new }
     {
         let mut read = 0;
         let mut written = 0;

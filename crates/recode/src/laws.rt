@@ -33,6 +33,8 @@ ghost use Rattle.recode.specs.Converter.{IsFreshConverter, IsReportButCalls, IsW
 ghost use Rattle.recode.specs.Converter.{characters_of, owes};
 ghost use Rattle.recode.specs.Job.{trace, whole_trace};
 ghost use Rattle.recode.specs.Job.{RunsThrough, lines_up_to_loss};
+ghost use Rattle.recode.specs.SavedConverters.{SavesConverter};
+ghost use Rattle.recode.specs.declared.converter.saved_converter.SavedConverter.{SavedConverter};
 ghost use Rattle.recode.specs.Parts.{AddsUp, AreFaithful, AreOfWhole, AreParts, CanBeCut, later};
 ghost use Rattle.recode.specs.Parts.{later_lines, lines_of, moved, moved_line, unwritten};
 ghost use Rattle.recode.specs.Policy.{reference_form};
@@ -392,6 +394,14 @@ pub fn calls_are_a_conversion()
     ensures characters { (j : Job) (bytes : List ℕ) (items : List Item) (v : ConverterView)
         → ConvertedSoFar j true bytes [] items v → IsWhole v
         → v.state.counts.index ≡ length (input_text j bytes) }
+{}
+
+/// Two converters of which the same was saved, and whose jobs have the same indexes, are the same
+/// to their callers. So one that was resumed (`Converter::resumed`) goes on as the saved one would
+/// have.
+pub fn resumed_converters_go_on()
+    ensures { (w : SavedConverter) (v u : ConverterView) → v.lists ≡ u.lists
+        → SavesConverter w v → SavesConverter w u → v ≡ u }
 {}
 
 /// An input is cut behind a byte below 30, as a line feed is, if its encoding and the output

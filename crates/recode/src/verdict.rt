@@ -20,6 +20,8 @@ pub struct Verdict<D> {
 
 impl<D: StreamDecoder> Verdict<D> {
     ghost use Rattle.std.specs.Prelude.{◌≡◌, ◌+◌, false, length};
+    ghost use Rattle.encoding_front.specs.calls.Stream.{IsMadeFrom};
+    ghost use Rattle.encoding_tables.specs.IndexLists.{IndexLists};
     ghost use Rattle.recode.specs.calls.Buffers.{HoldsAnyCharacter, KeepsRoom, is_wide};
     ghost use Rattle.recode.specs.calls.PivotText.{is_in_units, pivot_chars, IsWholeText};
     ghost use Rattle.recode.specs.calls.Verdict.{IsCompared, IsReadBack, NeedsForm};
@@ -44,6 +46,8 @@ impl<D: StreamDecoder> Verdict<D> {
         ensures verdict { IsCompared (verdict_view D.view self.old) (verdict_view D.view self.new)
             written.now (pivot_chars text.entry) }
         ensures calls { IsCounted 1 (length (pivot_chars text.entry) + 1) calls.old calls.new }
+        ensures made { (t : IndexLists) → IsMadeFrom t (D.view self.old.reader)
+            → IsMadeFrom t (D.view self.new.reader) }
         ensures check { KeepsRoom check.old check.new }
     {
         let mut left = written;
@@ -87,6 +91,8 @@ impl<D: StreamDecoder> Verdict<D> {
         ensures verdict { IsReadBack (verdict_view D.view self.old) (verdict_view D.view self.new)
             written.now (pivot_chars text.entry) }
         ensures calls { IsCounted 0 (length (pivot_chars text.entry) + 1) calls.old calls.new }
+        ensures made { (t : IndexLists) → IsMadeFrom t (D.view self.old.reader)
+            → IsMadeFrom t (D.view self.new.reader) }
         ensures check { KeepsRoom check.old check.new }
     {
         if !self.by_log && self.faithful {

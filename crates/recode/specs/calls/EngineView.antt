@@ -6,7 +6,7 @@ use Rattle.encoding_front.specs.calls.Stream.{DecoderView}
 use Rattle.encoding_mem.specs.calls.EncoderRule.{EncoderParts}
 use Rattle.encoding_mem.specs.declared.codec.decoder_result.DecoderResult.TheVariants.{OutputFull}
 use Rattle.encoding_mem.specs.calls.Writing.{encode_utf16_all}
-use Rattle.recode.specs.Converter.{ConverterView}
+use Rattle.recode.specs.Converter.{ConverterView, saved_job}
 use Rattle.recode.specs.State.{State}
 use Rattle.recode.specs.calls.Buffers.{capacity}
 use Rattle.recode.specs.calls.Text.{TargetState}
@@ -65,4 +65,4 @@ pivot_bytes (Utf16 units) = []
 -- a converter with these parts
 abbrev pub converter_of_parts : {D E : Type 0} → (D → DecoderView) → (E → EncoderParts) → Job → Engine D E → (bytes : List ℕ) → (ended over : Bool) → ConverterView
 converter_of_parts view parts job engine bytes ended over =
-    let c = standing view parts job.policy engine (over_text bytes) in record { job = job; state = c.state; waiting = waiting c; ended = ended; over = over }
+    let c = standing view parts job.policy engine (over_text bytes) in record { job = saved_job job; lists = job.tables.now; state = c.state; waiting = waiting c; ended = ended; over = over }

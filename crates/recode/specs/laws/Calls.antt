@@ -15,6 +15,7 @@ use Rattle.recode.specs.laws.Items.{AreCounted-trans, bad_line_count-trace, lost
 pub part_none : (v : ConverterView) (last : Bool) (src : List ℕ) → (v.ended ≡ true → (last ≡ true) × (src ≡ [])) → ConvertsPart v v last src src []
 part_none v last src ended = record {
   job = refl;
+  lists = refl;
   owed = λ r none. refl;
   verdict = λ r none. ((λ k. k), (λ k. k));
   source = λ r none. refl;
@@ -29,6 +30,7 @@ pub part_then : (v v1 v2 : ConverterView) (last last' : Bool) (bytes rest more r
     → ConvertsPart v v1 last bytes rest items → ConvertsPart v1 v2 last' (rest ++ more) rest' items' → ConvertsPart v v2 last' (bytes ++ more) rest' (items ++ items')
 part_then v v1 v2 last last' bytes rest more rest' items items' end p q = record {
   job = q.job ∙ p.job;
+  lists = q.lists ∙ p.lists;
   owed = λ r none. ap (owes v) (append_assoc bytes more r) ∙ p.owed (more ++ r) (nothing r none) ∙ ap (λ x. items ++ owes v1 x) (sym (append_assoc rest more r))
       ∙ ap (λ x. items ++ x) (q.owed r none) ∙ sym (append_assoc items items' (owes v2 (rest' ++ r)));
   verdict = λ r none.

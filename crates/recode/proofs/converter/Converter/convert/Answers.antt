@@ -7,6 +7,7 @@ use Rattle.recode.specs.Policy.{reference_form}
 use Rattle.recode.specs.calls.EngineView.{over_text, standing}
 use Rattle.recode.specs.calls.Turns.{ConvertEndsWith, TakesTurns, end_count}
 use Rattle.recode.specs.declared.job.Policy.{Policy}
+use Rattle.recode.proofs.SavedLemmas.{answered_codecs}
 use Rattle.recode.proofs.ShellLemmas.{can_go_on, ends_of, holds_kept, part_of, rests_of, standing_kept}
 use Rattle.recode.proofs.converter.Converter.convert.Goals as goal
 
@@ -55,3 +56,8 @@ invariant_of-self-clause-rests c = λ open_.
     (omega (arith, c.requires.limit, (k.ensures.law Policy.Decimal).counted, c.args.self.now.small))
     (subst (λ z. ConvertEndsWith z (drop k.result.1 c.args.src.now) c.args.last (length k.new.dst - k.result.2) k.result.0) kept (k.ensures.ends Policy.Decimal))
     c.settle-self.ensures.ends c.ends-self.ensures open_)
+
+pub invariant_of-self-clause-codecs : goal.invariant_of-self-clause-codecs
+invariant_of-self-clause-codecs c =
+    let own = c.args.self.now in
+    rw (c.settle-self.ensures.same) (answered_codecs view-value.it parts-value.it own.job c.convert-result.new.self _ (c.convert-result.ensures.codecs own.job own.codecs))

@@ -41,6 +41,7 @@ turns-preserved g c =
       wrote = written g at;
       holds = t.holds;
       lent = lent_on c.turns.invariant.lent t.lent;
+      codecs = λ j h. t.codecs j (c.turns.invariant.codecs j h);
     }
 
 pub turns-smaller : goal.turns-smaller

@@ -2,8 +2,10 @@ use Rattle.std.proofs.Common.{◌+◌, ◌*◌, ◌≤◌, length, drop, take, m
 use Rattle.encoding_mem.specs.Items.{Byte}
 use Rattle.encoding_mem.specs.calls.EncoderRule.{WritesBytes}
 use Rattle.recode.specs.calls.Lent.{KeepsLent}
+use Rattle.recode.specs.calls.EngineCodecs.{AreCodecsOf}
 use Rattle.recode.specs.calls.EngineView.{HoldsBetween, standing}
 use Rattle.recode.specs.calls.Turns.{CanGoOn, TakesTurns, waits}
+use Rattle.recode.specs.declared.job.Job.{Job}
 use Rattle.recode.specs.declared.job.Policy.{Policy}
 use Rattle.recode.proofs.engine.Engine.convert.Given as goal
 
@@ -18,6 +20,7 @@ invariant-turns g l =
       wrote : WritesBytes l.initial.dst l.dst l.written;
       holds : HoldsBetween l.pivot l.self.from l.self.to;
       lent : KeepsLent l.initial.pivot l.initial.check l.pivot l.check;
+      codecs : (j : Job) → AreCodecsOf view parts j l.initial.self → AreCodecsOf view parts j l.self;
     }
 
 abbrev pub decreases-turns : goal.decreases-turns

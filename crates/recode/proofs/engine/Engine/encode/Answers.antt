@@ -14,6 +14,7 @@ use Rattle.recode.specs.calls.CodecCalls.{writes_all}
 use Rattle.recode.specs.calls.EngineView.{HoldsBetween, chars_between}
 use Rattle.recode.specs.calls.PivotText.{element_count, pivot_chars}
 use Rattle.recode.specs.calls.VerdictView.{verdict_view}
+use Rattle.recode.proofs.SavedLemmas.{encoded_codecs}
 use Rattle.recode.proofs.VerdictLemmas.{end_tells, lost_tells, read_keeps, still_tells, unmapped_keeps}
 use Rattle.recode.proofs.engine.Engine.encode.Goals.{After-encode_from_pivot-call}
 use Rattle.recode.proofs.engine.Engine.encode.Given.{Over}
@@ -98,6 +99,7 @@ returns-in-InputEmpty g c =
       decoder = refl;
       answer = refl;
       check = back.check;
+      codecs = λ j h. encoded_codecs g.D.StreamDecoder.view g.E.RawEncoder.parts j c.args.self.now _ c.args.last o _ _ _ _ call.ensures.call refl (λ t m. back.made t m) h;
       full = λ f. omega (arith, (rw f at call.ensures.call.ends).0, laws.few, call.ensures.wrote.room);
     }
 
@@ -138,3 +140,8 @@ returns-in-Unmappable-clause-once g c = λ p.
 
 pub returns-in-Unmappable-clause-holds : goal.returns-in-Unmappable-clause-holds
 returns-in-Unmappable-clause-holds g c = rw (sym c.len.ensures) at (left g (goal.at.returns-in-Unmappable-clause-holds g c).After-encode_from_pivot-call).2
+
+pub returns-in-Unmappable-clause-codecs : goal.returns-in-Unmappable-clause-codecs
+returns-in-Unmappable-clause-codecs g c = λ j h.
+    let call = c.encode_from_pivot-call in
+    encoded_codecs g.D.StreamDecoder.view g.E.RawEncoder.parts j c.args.self.now _ c.args.last call.result.answer _ _ _ _ call.ensures.call refl (λ t m. m) h

@@ -9,6 +9,7 @@ use Rattle.recode.specs.calls.Turns.{TakesTurns, is_last_text}
 use Rattle.recode.specs.declared.job.Policy.{Policy}
 use Rattle.recode.proofs.TurnLemmas.{finish_turn, replace_turn, replaced_state, Encoded, done_in, encoded, lost_some, offset_fits, text_fits}
 use Rattle.recode.proofs.VerdictLemmas.{lost_tells}
+use Rattle.recode.proofs.SavedLemmas.{replaced_codecs}
 use Rattle.recode.proofs.engine.Engine.turn.Goals.{After-encode-answer}
 use Rattle.recode.proofs.engine.Engine.turn.Given.{Over}
 use Rattle.recode.proofs.engine.Engine.turn.Goals as goal
@@ -115,3 +116,7 @@ returns-in-Malformed-clause-ends g c = λ p.
       rw r.line (omega (arith, text_fits _ k.turned.sound, k.limit), open_.1, open_.2),
       record { sound = (returns-in-Malformed-clause-law g c p).sound; limit = rw r.same k.limit; tells = rw (r.same, r.text) (lost_tells s.coding s.verdict s.set [] s.set (0xFFFD ∷ []) ((k.done refl).1.tells ended)); open_ = rw r.same open_.0 },
     )
+
+pub returns-in-Malformed-clause-codecs : goal.returns-in-Malformed-clause-codecs
+returns-in-Malformed-clause-codecs g c = λ j h.
+    rw c.replace-line.ensures.same (replaced_codecs g.D.StreamDecoder.view g.E.RawEncoder.parts j c.encode-answer.new.self _ (c.encode-answer.ensures.codecs j (c.fill-read.ensures.codecs j h)))

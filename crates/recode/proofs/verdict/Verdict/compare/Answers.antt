@@ -18,7 +18,7 @@ some : (g : Over) (c : After-text_in-part g) → c.decode_to_pivot-call.result.a
 some g c full = let d = c.decode_to_pivot-call in written_some (g.D.StreamDecoder.view c.parts.self.reader).state (g.D.StreamDecoder.view d.new.decoder).state _ _ _ _ _ d.result.answer d.ensures.law c.text_in-part.ensures.chars (λ t w. holds_some d.new.pivot d.result.written t w (rw full at d.ensures.ends))
 
 pub parts-init : goal.parts-init
-parts-init g c = record { compared = compares_start _ _ _; open_ = c.requires.open_; by_log = refl; expected = c.requires.text; form = c.requires.form; check = room_start _ c.requires.check; least = λ under. omega arith; most = omega arith }
+parts-init g c = record { compared = compares_start _ _ _; open_ = c.requires.open_; by_log = refl; made = λ t m. m; expected = c.requires.text; form = c.requires.form; check = room_start _ c.requires.check; least = λ under. omega arith; most = omega arith }
 
 pub decode_to_pivot-call-requires-clause-pivot : goal.decode_to_pivot-call-requires-clause-pivot
 decode_to_pivot-call-requires-clause-pivot g c = c.parts.invariant.check.roomy
@@ -40,14 +40,14 @@ returns-in_default g c =
     let d = c.decode_to_pivot-call.ensures in
     let i = c.parts.invariant in
     let differs = compares_differing _ _ _ _ _ _ _ _ c.decode_to_pivot-call.result.answer _ i.compared (took g (goal.at.returns-in_default g c).After-text_in-part) c.in_default.ensures in
-    record { open_ = d.finished; by_log = i.by_log; verdict = differs; calls = counted_more _ _ _ _ _ i.least i.most d.calls; check = room_on i.check d.pivot }
+    record { open_ = d.finished; by_log = i.by_log; made = λ t m. d.made t (i.made t m); verdict = differs; calls = counted_more _ _ _ _ _ i.least i.most d.calls; check = room_on i.check d.pivot }
 
 pub returns-in-Malformed : goal.returns-in-Malformed
 returns-in-Malformed g c =
     let d = c.decode_to_pivot-call.ensures in
     let i = c.parts.invariant in
     let differs = compares_malformed _ _ _ _ _ _ _ _ _ _ i.compared (took g (goal.at.returns-in-Malformed g c).After-text_in-part) _ _ c.in-Malformed.is in
-    record { open_ = d.finished; by_log = i.by_log; verdict = differs; calls = counted_more _ _ _ _ _ i.least i.most d.calls; check = room_on i.check d.pivot }
+    record { open_ = d.finished; by_log = i.by_log; made = λ t m. d.made t (i.made t m); verdict = differs; calls = counted_more _ _ _ _ _ i.least i.most d.calls; check = room_on i.check d.pivot }
 
 pub returns-in-InputEmpty : goal.returns-in-InputEmpty
 returns-in-InputEmpty g c =
@@ -55,7 +55,7 @@ returns-in-InputEmpty g c =
     let i = c.parts.invariant in
     let more = compares_more _ _ _ _ _ _ _ _ _ _ i.compared (took g (goal.at.returns-in-InputEmpty g c).After-text_in-part) (rw c.in-InputEmpty.is refl) _ c.in-Some.ensures.parts in
     let ends = compares_end _ (g.D.StreamDecoder.view c.decode_to_pivot-call.new.decoder).state _ _ _ _ _ c.is_empty-self.ensures more (rw c.in-InputEmpty.is at d.ends) in
-    record { open_ = d.finished; by_log = i.by_log; verdict = ends; calls = counted_more _ _ _ _ _ i.least i.most d.calls; check = room_on i.check d.pivot }
+    record { open_ = d.finished; by_log = i.by_log; made = λ t m. d.made t (i.made t m); verdict = ends; calls = counted_more _ _ _ _ _ i.least i.most d.calls; check = room_on i.check d.pivot }
 
 pub parts-smaller : goal.parts-smaller
 parts-smaller g c =
@@ -71,6 +71,7 @@ parts-preserved g c =
       compared = compares_more _ _ _ _ _ _ _ _ _ _ i.compared (took g at) (rw c.in-OutputFull.is refl) _ c.in-Some.ensures.parts;
       open_ = d.finished;
       by_log = i.by_log;
+      made = λ t m. d.made t (i.made t m);
       expected = c.in-Some.ensures.text;
       form = d.pivot.kind ∙ i.form ∙ sym c.in-Some.ensures.form;
       check = room_on i.check d.pivot;

@@ -1,4 +1,6 @@
 use Rattle.std.proofs.Common.{◌≡◌, ◌≤◌, ◌<◌, ◌+◌, ◌-◌, ◌^◌, false, length}
+use Rattle.encoding_tables.specs.IndexLists.{IndexLists}
+use Rattle.encoding_front.specs.calls.Stream.{IsMadeFrom}
 use Rattle.recode.specs.calls.Buffers.{KeepsRoom, is_wide}
 use Rattle.recode.specs.calls.PivotText.{is_in_units, pivot_chars, IsWholeText}
 use Rattle.recode.proofs.VerdictLemmas.{HasCompared}
@@ -9,6 +11,7 @@ invariant-parts g l = record {
   compared : HasCompared (g.D.StreamDecoder.view l.initial.self.reader).state.pieces (g.D.StreamDecoder.view l.self.reader).state.pieces l.written l.left (pivot_chars l.text) (pivot_chars l.expected);
   open_ : (g.D.StreamDecoder.view l.self.reader).finished ≡ false;
   by_log : l.self.by_log ≡ l.initial.self.by_log;
+  made : (t : IndexLists) → IsMadeFrom t (g.D.StreamDecoder.view l.initial.self.reader) → IsMadeFrom t (g.D.StreamDecoder.view l.self.reader);
   expected : IsWholeText l.expected;
   form : is_wide l.check ≡ is_in_units l.expected;
   check : KeepsRoom l.initial.check l.check;
