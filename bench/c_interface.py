@@ -77,7 +77,7 @@ class Steps:
     SIZE, RECORDS = 1 << 16, 1 << 10
 
     def __init__(self, data, source, target):
-        self.data, self.handle = data, library.Handle()
+        self.data, self.handle = data, library.Converter()
         words = number_of(source), number_of(target), library.MARKS["keep"], library.POLICIES["decimal"]
         self.words = (handle_of(None), *words, library.NO_LIMIT, ctypes.byref(self.handle))
         self.room, self.losses = ctypes.create_string_buffer(self.SIZE), (library.Loss * self.RECORDS)()
@@ -93,7 +93,6 @@ class Steps:
             status = library.library.jillapun_converter_step(handle, start + at, size - at, True, *lent)
             at += self.progress.read
             yield status
-        library.library.jillapun_converter_free(handle)
 
     def made(self):
         return b"".join(self.room[: self.progress.written] for _ in self.calls())

@@ -16,13 +16,12 @@
  *
  * Handles. A handle, a struct with members that begin with `private_`, begins as `{0}` (in C++, as
  * `{}`), and is filled by a function with `_new` in its name. Its members are left alone: nothing
- * but calls of this library writes to them. A converter has memory of its own: it is emptied by
- * `jillapun_converter_free`, and never copied. Tables, decoders and encoders have nothing to free.
- * They may be moved, and copied within the process: a copy of a decoder or an encoder is at the
- * same place of its stream, and independent of the original. Two threads may use two handles at
- * once, but not the same one, unless its type says that they may. A call that takes a handle by a
- * pointer to `const` writes nothing to it: any number of such calls may be made with one handle at
- * once, while no other call is, and nothing else writes to it.
+ * but calls of this library writes to them. There is nothing to free. A handle may be moved, and
+ * copied within the process: a copy of a decoder, an encoder or a converter is at the same place of
+ * its stream, and independent of the original. Two threads may use two handles at once, but not the
+ * same one, unless its type says that they may. A call that takes a handle by a pointer to `const`
+ * writes nothing to it: any number of such calls may be made with one handle at once, while no
+ * other call is, and nothing else writes to it.
  *
  * Lengths. A function that writes and returns a length has written nothing if that is greater than
  * the room: so much is wanted. SIZE_MAX stands in place of a length if there is none.
@@ -453,16 +452,79 @@ typedef struct {
     uint32_t scalar;
 } jillapun_report;
 
+/** What a conversion has come to, for calls of this library alone. */
+typedef struct {
+    uint64_t private_index;
+    uint32_t private_scalar;
+    uint8_t private_stage;
+} jillapun_stage_words;
+
+/** A job in numbers, for calls of this library alone. */
+typedef struct {
+    uint64_t private_limit;
+    uint8_t private_from;
+    uint8_t private_to;
+    uint8_t private_mark;
+    uint8_t private_policy;
+} jillapun_job_words;
+
+/** What is known of whether the output reads back as the text, for calls of this library alone. */
+typedef struct {
+    jillapun_decoder_words private_reader;
+    bool private_by_log;
+    bool private_faithful;
+} jillapun_verdict_words;
+
+/** The text that waits to be encoded, for calls of this library alone. */
+typedef struct {
+    size_t private_from;
+    size_t private_to;
+    uint8_t private_answer;
+    uint8_t private_size;
+    uint8_t private_after;
+    uint8_t private_bytes[1024];
+} jillapun_text_words;
+
+/** What a conversion keeps, for calls of this library alone. */
+typedef struct {
+    uint64_t private_read;
+    uint64_t private_index;
+    uint64_t private_bad;
+    uint64_t private_lost;
+    uint64_t private_calls;
+    jillapun_job_words private_job;
+    jillapun_decoder_words private_decoder;
+    jillapun_verdict_words private_verdict;
+    uint8_t private_set;
+    bool private_ended;
+    bool private_over;
+    jillapun_text_words private_text;
+} jillapun_stream_words;
+
+/** What a converter keeps between calls, for calls of this library alone. */
+typedef struct {
+    bool private_is_there;
+    bool private_is_finished;
+    bool private_has_loss;
+    uint8_t private_policy;
+    jillapun_loss private_loss;
+    jillapun_stage_words private_stage;
+    size_t private_held_len;
+    uint8_t private_held[32];
+    jillapun_stream_words private_stream;
+} jillapun_converter_words;
+
 /**
- * A conversion by steps. Begin with `{0}`, which holds none; `jillapun_converter_new` fills it,
- * and `jillapun_converter_free` empties it. Never copy it: only one of the copies may be used.
- * One thread at a time.
+ * A conversion by steps. Begin with `{0}`, which holds none; `jillapun_converter_new` fills it.
+ * All that it keeps stands in it: it may be moved, a copy is a converter of its own that goes
+ * on from here, and nothing has to be freed. Nothing but this library, or a copy of what it
+ * wrote, may be written into it. One thread at a time.
  *
- * It takes 16 bytes.
+ * It takes 1248 bytes.
  */
 typedef struct {
-    void *private_at;
-    bool private_is_open;
+    jillapun_tables private_tables;
+    jillapun_converter_words private_words;
 } jillapun_converter;
 
 /** What a call of a converter did. */
@@ -485,12 +547,12 @@ typedef struct {
 static_assert(sizeof(jillapun_tables) == 16, "the size of jillapun_tables");
 static_assert(sizeof(jillapun_decoder) == 40, "the size of jillapun_decoder");
 static_assert(sizeof(jillapun_encoder) == 24, "the size of jillapun_encoder");
-static_assert(sizeof(jillapun_converter) == 16, "the size of jillapun_converter");
+static_assert(sizeof(jillapun_converter) == 1248, "the size of jillapun_converter");
 #elif defined(__STDC_VERSION__) && __STDC_VERSION__ >= 201112L
 _Static_assert(sizeof(jillapun_tables) == 16, "the size of jillapun_tables");
 _Static_assert(sizeof(jillapun_decoder) == 40, "the size of jillapun_decoder");
 _Static_assert(sizeof(jillapun_encoder) == 24, "the size of jillapun_encoder");
-_Static_assert(sizeof(jillapun_converter) == 16, "the size of jillapun_converter");
+_Static_assert(sizeof(jillapun_converter) == 1248, "the size of jillapun_converter");
 #endif
 
 /**
@@ -1020,18 +1082,14 @@ uint8_t jillapun_convert(jillapun_tables tables, uint8_t from, uint8_t to, uint8
 /**
  * Makes a converter of a new input, from the encoding with the number `from` to the output
  * encoding of that with the number `to`. `mark`, `policy` and `limit` are as for
- * `jillapun_convert`.
+ * `jillapun_convert`. What `out` held is overwritten, whether or not its end was reported.
  *
- * Returns `JILLAPUN_OK`, and `out` holds the converter. Else nothing is made:
- * `JILLAPUN_IN_USE`, `out` holds one already; `JILLAPUN_CLOSED`, there are no tables;
- * `JILLAPUN_UNKNOWN`, a number stands for nothing; `JILLAPUN_NOT_READY`, an index that one of
- * the encodings needs is not in the tables; `JILLAPUN_NO_MEMORY`, memory was refused.
+ * Returns `JILLAPUN_OK`, and `out` holds the converter. Else nothing is made, and `out` stays
+ * as it is: `JILLAPUN_CLOSED`, there are no tables; `JILLAPUN_UNKNOWN`, a number stands for
+ * nothing; `JILLAPUN_NOT_READY`, an index that one of the encodings needs is not in the tables.
  */
 uint8_t jillapun_converter_new(jillapun_tables tables, uint8_t from, uint8_t to, uint8_t mark,
     uint8_t policy, uint64_t limit, jillapun_converter *out);
-
-/** Ends a converter, and empties its handle. Nothing is done with one that holds none. */
-void jillapun_converter_free(jillapun_converter *converter);
 
 /* The export that makes a step of a conversion. */
 

@@ -56,11 +56,6 @@ CRATES = os.path.join(TOP, "crates")
 
 # The functions that are proved by hand: they make a history, or handles for C.
 HAND_PROOFS = [
-    "jillapun_c/proofs/converter/handle/ConverterHandle/closed",
-    "jillapun_c/proofs/converter/handle/ConverterHandle/into_loose",
-    "jillapun_c/proofs/converter/handle/ConverterHandle/of_loose",
-    "jillapun_c/proofs/loose/Loose/into_box",
-    "jillapun_c/proofs/loose/Loose/of",
     "jillapun_c/proofs/tables_handle/TablesHandle/closed",
     "jillapun_c/proofs/tables_handle/TablesHandle/copied",
     "jillapun_c/proofs/tables_handle/TablesHandle/get",

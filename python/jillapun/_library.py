@@ -44,14 +44,17 @@ class IndexFault(ctypes.Structure):
     _fields_ = [("file", Size), ("line", Size)]
 
 
-class Handle(ctypes.Structure):
-    """What the library keeps behind an address is its own; a converter's handle is never copied."""
+class Tables(ctypes.Structure):
+    """Loaded tables: of these a copy is as good."""
 
     _fields_ = [("at", ctypes.c_void_p), ("is_open", ctypes.c_bool)]
 
 
-class Tables(Handle):
-    """Loaded tables: of these a copy is as good."""
+class Converter(ctypes.Structure):
+    """A conversion by steps: there is nothing to free. What it keeps is the library's own; `include/jillapun.h` says how
+    many bytes that is."""
+
+    _fields_ = [("tables", Tables), ("words", Long * 154)]
 
 
 class Loss(ctypes.Structure):
@@ -113,7 +116,7 @@ def _declare(name: str, result: Optional[type], *parameters: type) -> None:
 
 _LENT = (ctypes.c_char_p, Size)
 _ROOM = (ctypes.c_void_p, Size)
-_HANDLE = ctypes.POINTER(Handle)
+_CONVERTER = ctypes.POINTER(Converter)
 _REPORT = ctypes.POINTER(Report)
 
 _declare("jillapun_for_label", Byte, *_LENT)
@@ -129,9 +132,8 @@ _declare("jillapun_convert", Byte, Tables, Byte, Byte, Byte, Byte, Long, *_LENT,
 def streams() -> ctypes.CDLL:
     """The library, with the calls of conversions by steps declared, those of parts, and the one that finds a mark."""
     told = (ctypes.POINTER(ConverterProgress), _REPORT)
-    _declare("jillapun_converter_new", Byte, Tables, Byte, Byte, Byte, Byte, Long, _HANDLE)
-    _declare("jillapun_converter_step", Byte, _HANDLE, *_ROOM, ctypes.c_bool, *_ROOM, *_ROOM, *told)
-    _declare("jillapun_converter_free", None, _HANDLE)
+    _declare("jillapun_converter_new", Byte, Tables, Byte, Byte, Byte, Byte, Long, _CONVERTER)
+    _declare("jillapun_converter_step", Byte, _CONVERTER, *_ROOM, ctypes.c_bool, *_ROOM, *_ROOM, *told)
     _declare("jillapun_for_bom", Byte, *_LENT, ctypes.POINTER(Size))
     _declare("jillapun_part_encoding", Byte, Byte, Byte, Byte, *_LENT)
     _declare("jillapun_join_loss", ctypes.c_bool, _REPORT, ctypes.POINTER(Loss))

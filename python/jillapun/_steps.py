@@ -19,11 +19,11 @@ class Conversion:
 
     def __init__(self, source: str, target: str, mark: str, unmappable: str, limit: int, indexes: Optional[Indexes]):
         words = number_of(source), number_of(target), c.MARKS[mark], c.POLICIES[unmappable], limit
-        handle, self._progress, self._told = c.Handle(), c.ConverterProgress(), c.Report()
-        status = c.streams().jillapun_converter_new(handle_of(indexes), *words, ctypes.byref(handle))
+        self._converter, self._progress, self._told = c.Converter(), c.ConverterProgress(), c.Report()
+        status = c.streams().jillapun_converter_new(handle_of(indexes), *words, ctypes.byref(self._converter))
         if status != c.OK:
             refuse(status)
-        self._handle, self._lent = handle, (ctypes.byref(self._progress), ctypes.byref(self._told))
+        self._lent = ctypes.byref(self._progress), ctypes.byref(self._told)
         self._lock, self.is_over = threading.RLock(), False
         self.report: Optional[Report] = None
 
@@ -46,7 +46,7 @@ class Conversion:
         while status == c.GOES_ON and (at < len(data) or last or progress.wants_room):
             left = c.address_of(data) + at if at else data
             status = c.library.jillapun_converter_step(
-                ctypes.byref(self._handle), left, len(data) - at, last, *room.words, *self._lent
+                ctypes.byref(self._converter), left, len(data) - at, last, *room.words, *self._lent
             )
             at += progress.read
             if progress.losses:
@@ -65,10 +65,6 @@ class Conversion:
             raise Stopped(lost, output, losses.up_to(lost))
         elif status != c.GOES_ON:
             refuse(status)
-
-    def __del__(self) -> None:
-        if hasattr(self, "_handle"):
-            c.library.jillapun_converter_free(ctypes.byref(self._handle))
 
 
 def chunk_of(file: BinaryIO) -> bytes:

@@ -591,13 +591,14 @@ class Streams:
         new, step, loss = self.library.jillapun_converter_new, self.library.jillapun_converter_step, self.library.struct("Loss")
         handle, report = self.library.struct("ConverterHandle")(), self.library.struct("Report")()
         self.must("converter_new", new(self.tables, *numbers, limit, handle))
-        self.must("converter_new twice", new(self.tables, *numbers, limit, handle), "IN_USE")
         progress, most, losses = self.library.struct("ConverterProgress")(), self.random.choice((1, 9, 5000)), []
         # The end comes with the last bytes, or after them.
         output, parts = bytearray(), [*parts, b""] if not parts or self.random.random() < 0.5 else [*parts]
         for _ in range(MOST_CALLS):
             room, filled = bytearray(b"\x5a" * self.random.randint(0, most)), (loss * self.random.randint(0, 2))()
             last = len(parts) == 1
+            if self.random.random() < 0.2:
+                handle = moved(handle)
             status = step(handle, parts[0], last, room, filled, progress, report)
             within = progress.read <= len(parts[0]), progress.written <= len(room), progress.losses <= len(filled)
             self.same("told within", (numbers, parts), within, (True, True, True))
@@ -613,8 +614,8 @@ class Streams:
             raise Wrong("a conversion by steps does not end")
         got = status, bytes(output), losses, told_in(report)
         self.must("after the end", step(handle, b"a", True, room, filled, progress, report), "FINISHED")
-        self.library.jillapun_converter_free(handle)
-        self.must("after it is freed", step(handle, b"a", True, room, filled, progress, report), "CLOSED")
+        none = self.library.struct("ConverterHandle")()
+        self.must("without a converter", step(none, b"a", True, room, filled, progress, report), "CLOSED")
         return got
 
     def by_steps(self, job, data, run, wanted, numbers):
@@ -659,6 +660,13 @@ class Streams:
             front = os.path.commonprefix([got, losses])
             wanted = NUMBERS["ROOM"], len(run.output), len(losses), [(0, 0, 0)] * (len(got) - len(front))
             self.same("too few records", (job, data), (status, report.written, report.losses, got[len(front) :]), wanted)
+
+
+def moved(handle):
+    """A handle at another address; where it stood is wiped."""
+    copy = type(handle).from_buffer_copy(handle)
+    ctypes.memset(ctypes.addressof(handle), 0xFF, ctypes.sizeof(handle))
+    return copy
 
 
 def told_in(report):

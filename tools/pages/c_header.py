@@ -72,13 +72,12 @@ HEAD = """/*
  *
  * Handles. A handle, a struct with members that begin with `private_`, begins as `{0}` (in C++, as
  * `{}`), and is filled by a function with `_new` in its name. Its members are left alone: nothing
- * but calls of this library writes to them. A converter has memory of its own: it is emptied by
- * `jillapun_converter_free`, and never copied. Tables, decoders and encoders have nothing to free.
- * They may be moved, and copied within the process: a copy of a decoder or an encoder is at the
- * same place of its stream, and independent of the original. Two threads may use two handles at
- * once, but not the same one, unless its type says that they may. A call that takes a handle by a
- * pointer to `const` writes nothing to it: any number of such calls may be made with one handle at
- * once, while no other call is, and nothing else writes to it.
+ * but calls of this library writes to them. There is nothing to free. A handle may be moved, and
+ * copied within the process: a copy of a decoder, an encoder or a converter is at the same place of
+ * its stream, and independent of the original. Two threads may use two handles at once, but not the
+ * same one, unless its type says that they may. A call that takes a handle by a pointer to `const`
+ * writes nothing to it: any number of such calls may be made with one handle at once, while no
+ * other call is, and nothing else writes to it.
  *
  * Lengths. A function that writes and returns a length has written nothing if that is greater than
  * the room: so much is wanted. SIZE_MAX stands in place of a length if there is none.

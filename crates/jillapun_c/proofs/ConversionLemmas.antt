@@ -2,10 +2,9 @@
 use Rattle.std.proofs.Common.{◌≡◌, ◌+◌, ◌<◌, ◌≤◌, ℕ, Bool, true, false, List, length, inl, inr, refl, arith}
 use Rattle.recode.specs.declared.job.Job.{Job}
 use Rattle.jillapun_c.specs.ConverterRuns.{HasConverted, IsAtStage}
-use Rattle.jillapun_c.specs.Converters.{ConvertsAll, HoldsNothing, TellsStage, TellsStatus, view_in}
+use Rattle.jillapun_c.specs.Converters.{StepView, ConvertsAll, HoldsNothing, TellsStage, TellsStatus, view_in}
 use Rattle.jillapun_c.specs.Conversions.{IsDone}
 use Rattle.jillapun_c.specs.Room.{HoldsFront}
-use Rattle.jillapun_c.specs.declared.converter.Converter.{Converter}
 use Rattle.jillapun_c.specs.declared.converter.Stage.{Stage}
 use Rattle.jillapun_c.specs.declared.converter.Stage.TheVariants.{Open, Stopped, TooLong}
 use Rattle.jillapun_c.specs.declared.converter.progress.ConverterProgress.{ConverterProgress}
@@ -25,7 +24,7 @@ fewer_steps false owed before fewer = omega arith
 
 -- Of a job in two rooms: what its converter handed out stands there, as far as it fits; and if no room is wanted, the
 -- conversion has come to its end.
-pub record RunSoFar (j : Job) (input rest dst dst' : List ℕ) (losses losses' : List Loss) (c : Converter) (wants_room : Bool) (output records : Filled) : Type 0 where
+pub record RunSoFar (j : Job) (input rest dst dst' : List ℕ) (losses losses' : List Loss) (c : StepView) (wants_room : Bool) (output records : Filled) : Type 0 where
   pub out : List ℕ
   pub lines : List Loss
   pub so_far : HasConverted j true input rest out lines c
@@ -39,13 +38,13 @@ is_over : (b : Bool) → (b ≡ false → ⊥) → b ≡ true
 is_over true other = refl
 is_over false other = absurd (other refl)
 
-pub at_its_end : (c : Converter) (unread dst : List ℕ) (losses : List Loss) (p : ConverterProgress) → ConvertsAll c true unread dst losses p → p.wants_room ≡ false → HoldsNothing c × (c.stage ≡ Open → (view_in c).over ≡ true)
+pub at_its_end : (c : StepView) (unread dst : List ℕ) (losses : List Loss) (p : ConverterProgress) → ConvertsAll c true unread dst losses p → p.wants_room ≡ false → HoldsNothing c × (c.stage ≡ Open → (view_in c).over ≡ true)
 at_its_end c unread dst losses p k is =
     let empty = k.wants_room.0 is in
     (empty, λ open_. is_over (view_in c).over (λ goes_on. absurd (cc ((k.all empty open_ goes_on).0))))
 
 -- an end that nothing but the verdict or the policy made
-is_done : (s : Stage) (j : Job) (c : Converter) (input rest out : List ℕ) (lines : List Loss) (report : Report) (status : ℕ) (h : HasConverted j true input rest out lines c)
+is_done : (s : Stage) (j : Job) (c : StepView) (input rest out : List ℕ) (lines : List Loss) (report : Report) (status : ℕ) (h : HasConverted j true input rest out lines c)
     → IsAtStage s j (view_in c) input h.items → TellsStage s (view_in c) report status → (s ≡ Open → (view_in c).over ≡ true) → length input ≤ j.limit → IsDone status
 is_done Open j c input rest out lines report status h stage tells over short =
     let told = tells.done (over refl) in by told.0.faithful told.2.faithful told.2.lossy
@@ -56,7 +55,7 @@ is_done Open j c input rest out lines report status h stage tells over short =
 is_done (Stopped index scalar) j c input rest out lines report status h stage tells over short = inr tells.stopped
 is_done TooLong j c input rest out lines report status h stage tells over short = absurd (omega (arith, stage.1.long, short))
 
-pub run_done : (j : Job) (input rest dst dst' : List ℕ) (losses losses' : List Loss) (c : Converter) (wants_room : Bool) (output records : Filled) (report : Report) (status : ℕ) → RunSoFar j input rest dst dst' losses losses' c wants_room output records
+pub run_done : (j : Job) (input rest dst dst' : List ℕ) (losses losses' : List Loss) (c : StepView) (wants_room : Bool) (output records : Filled) (report : Report) (status : ℕ) → RunSoFar j input rest dst dst' losses losses' c wants_room output records
     → wants_room ≡ false → TellsStatus c report status → length input ≤ j.limit → IsDone status
 run_done j input rest dst dst' losses losses' c wants_room output records report status so none tells short =
     let ended = so.ended none in is_done c.stage j c input rest so.out so.lines report status so.so_far so.so_far.stage (tells.empty ended.0) ended.1 short

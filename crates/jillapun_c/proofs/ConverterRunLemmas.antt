@@ -8,13 +8,14 @@ use Rattle.encoding_mem.specs.declared.codec.reference.Reference.{Reference}
 use Rattle.recode_log.specs.Line.{line_bytes}
 use Rattle.recode_log.specs.declared.line.LogLine.{LogLine}
 use Rattle.recode_log.specs.declared.line.LogLine.TheVariants.{Bad, Lost}
-use Rattle.recode.specs.Converter.{AllIsConverted, ConverterView, ConvertsPart, ConvertedSoFar, IsReportButCalls, found_items, owes}
+use Rattle.recode.specs.Converter.{AllIsConverted, ConverterView, ConvertsPart, ConvertedSoFar, IsReportButCalls, found_items, owes, saved_job}
 use Rattle.recode.specs.Job.{input_text, lost_log_lines, target_of, trace, whole_trace}
 use Rattle.recode.specs.Policy.{reference_form, up_to_loss, written_under}
 use Rattle.recode.specs.TaggedByte.{TaggedByte, log_bytes, output_bytes, tagged, tagged_item}
 use Rattle.recode.specs.WrittenItems.{IsSpared, StopsAtLoss, lost_line_count}
 use Rattle.recode.specs.declared.converter.ConverterResult.{ConverterResult}
 use Rattle.recode.specs.declared.converter.ConverterResult.TheVariants.{Found, InputEmpty, OutputFull}
+use Rattle.recode.specs.declared.converter.saved_converter.SavedJob.{SavedJob}
 use Rattle.recode.specs.declared.job.Job.{Job}
 use Rattle.recode.specs.declared.job.Policy.{Policy}
 use Rattle.recode.specs.declared.job.Report.{Report as RunReport}
@@ -24,10 +25,9 @@ use Rattle.jillapun_c.proofs.ConverterTurnLemmas.{length_none, owes_split}
 use Rattle.jillapun_c.specs.ConverterRuns.{Carries, HasConverted, IsFirstPartOf, IsOverWith, JoinsToCalls, IsAtStage, EndsAtLoss, WritesUnder}
 use Rattle.jillapun_c.specs.ConverterTurns.{CanTurn, TurnEnds, MakesTurn, found_log, found_reference, stage_at}
 use Rattle.jillapun_c.specs.Conversions.{ConvertsInMemory, IsMadeOf, IsToldReport, IsToldStop}
-use Rattle.jillapun_c.specs.Converters.{ConvertsAll, HandsOut, HoldsNothing, IsNewConverter, TellsStage, TellsStatus, held_losses, listed, view_in}
+use Rattle.jillapun_c.specs.Converters.{StepView, ConvertsAll, HandsOut, HoldsNothing, IsNewConverter, TellsStage, TellsStatus, held_losses, listed, view_in}
 use Rattle.jillapun_c.specs.Losses.{log_of_losses, loss_bytes}
 use Rattle.jillapun_c.specs.Room.{FillsRoom, IsFilled}
-use Rattle.jillapun_c.specs.declared.converter.Converter.{Converter}
 use Rattle.jillapun_c.specs.declared.converter.Stage.{Stage}
 use Rattle.jillapun_c.specs.declared.converter.Stage.TheVariants.{Open, Stopped, TooLong}
 use Rattle.jillapun_c.specs.declared.converter.progress.ConverterProgress.{ConverterProgress}
@@ -82,7 +82,7 @@ under_found Policy.Stop (Found (Lost index scalar)) =
 
 -- ---- before the first turn
 
-pub begun : (j : Job) (c : Converter) → IsNewConverter c j → HasConverted j false [] [] [] [] c
+pub begun : (j : Job) (c : StepView) → IsNewConverter c j → HasConverted j false [] [] [] [] c
 begun j c new = record {
   items = [];
   taken = taken_first j (view_in c) new.fresh;
@@ -93,7 +93,7 @@ begun j c new = record {
 }
 
 -- more is handed in
-pub handed_in : (j : Job) (before last : Bool) (input rest more out : List ℕ) (records : List Loss) (c : Converter) → (before ≡ true → (last ≡ true) × (more ≡ []))
+pub handed_in : (j : Job) (before last : Bool) (input rest more out : List ℕ) (records : List Loss) (c : StepView) → (before ≡ true → (last ≡ true) × (more ≡ []))
     → HasConverted j before input rest out records c → HasConverted j last (input ++ more) (rest ++ more) out records c
 handed_in j before last input rest more out records c end h = record {
   items = h.items;
@@ -117,23 +117,23 @@ log_of_more : (records more : List Loss) → log_of_losses (records ++ more) ≡
 log_of_more records more = flat_map-append loss_bytes records more
 
 -- a converter hands out what it holds
-pub handed_out : (j : Job) (last : Bool) (input rest out : List ℕ) (records : List Loss) (c c' : Converter) (dst dst' : List ℕ) (losses losses' : List Loss) (p p' : ConverterProgress)
+pub handed_out : (j : Job) (last : Bool) (input rest out : List ℕ) (records : List Loss) (c c' : StepView) (dst dst' : List ℕ) (losses losses' : List Loss) (p p' : ConverterProgress)
     → HandsOut c c' dst dst' losses losses' p p' → HasConverted j last input rest (out ++ take p.written dst) (records ++ take p.losses losses) c
     → HasConverted j last input rest (out ++ take p'.written dst') (records ++ take p'.losses losses') c'
 handed_out j last input rest out records c c' dst dst' losses losses' p p' hands h = record {
   items = h.items;
   taken = subst (λ v. ConvertedSoFar j last input rest h.items v) view h.taken;
-  policy = ap (λ (z : Converter). z.policy) hands.rest ∙ h.policy;
+  policy = ap (λ (z : StepView). z.policy) hands.rest ∙ h.policy;
   written = record {
     is_output = given out (take p.written dst) (take p'.written dst') c.held c'.held hands.output.is ∙ h.written.is_output;
     is_log = ap log_of_losses (given records (take p.losses losses) (take p'.losses losses') (held_losses c) (held_losses c') hands.lost.is) ∙ h.written.is_log;
   };
-  stage = subst (λ v. IsAtStage c'.stage j v input h.items) view (subst (λ s. IsAtStage s j (view_in c) input h.items) (sym (ap (λ (z : Converter). z.stage) hands.rest)) h.stage);
+  stage = subst (λ v. IsAtStage c'.stage j v input h.items) view (subst (λ s. IsAtStage s j (view_in c) input h.items) (sym (ap (λ (z : StepView). z.stage) hands.rest)) h.stage);
   over = λ is. subst (λ v. IsOverWith v last rest) view (h.over (ap (λ v. v.over) view ∙ is));
 }
   where
     view : view_in c ≡ view_in c'
-    view = ap (λ (z : Converter). view_in z) (sym hands.rest)
+    view = ap (λ (z : StepView). view_in z) (sym hands.rest)
 
     given : {X : Type 0} (before old new held held' : List X) → old ++ held ≡ new ++ held' → (before ++ new) ++ held' ≡ (before ++ old) ++ held
     given before old new held held' is = append_assoc before new held' ∙ ap (λ x. before ++ x) (sym is) ∙ sym (append_assoc before old held)
@@ -164,12 +164,12 @@ found_stands Policy.Stop (Lost index scalar) j v input items bytes is spared = r
 }
 
 -- the stage after a turn
-stands_after : (j : Job) (c c' : Converter) (last : Bool) (input src rest : List ℕ) (items : List Item) (bytes : List ℕ) (r : ConverterResult) → TurnEnds c c' last src rest r
-    → c.policy ≡ j.policy → (view_in c).job ≡ j → IsSpared j.policy items → (view_in c).state.counts.read + length src ≡ length input
+stands_after : (j : Job) (c c' : StepView) (last : Bool) (input src rest : List ℕ) (items : List Item) (bytes : List ℕ) (r : ConverterResult) → TurnEnds c c' last src rest r
+    → c.policy ≡ j.policy → (view_in c).job ≡ saved_job j → IsSpared j.policy items → (view_in c).state.counts.read + length src ≡ length input
     → IsAtStage c'.stage j (view_in c') input (items ++ turn_items j.policy bytes r)
 stands_after j c c' last input src rest items bytes InputEmpty ends policy job spared counted = elim ends [
   | inl e ↦ subst (λ s. IsAtStage s j (view_in c') input (items ++ turn_items j.policy bytes InputEmpty)) (sym e.0) (spared_turn j.policy items bytes spared)
-  | inr e ↦ let limit : (view_in c).job.limit ≡ j.limit = ap (λ (k : Job). k.limit) job in
+  | inr e ↦ let limit : (view_in c).job.limit ≡ j.limit = ap (λ (k : SavedJob). k.limit) job in
       subst (λ s. IsAtStage s j (view_in c') input (items ++ turn_items j.policy bytes InputEmpty)) (sym e.stage)
       (spared_turn j.policy items bytes spared, record { long = omega (arith, e.long, limit, counted); read = e.read ∙ limit; all = e.all })
 ]
@@ -179,7 +179,7 @@ stands_after j c c' last input src rest items bytes (Found line) ends policy job
     subst (λ s. IsAtStage s j (view_in c') input (items ++ turn_items j.policy bytes (Found line))) (sym (ends.0 ∙ ap (λ p. stage_at p line) policy))
     (found_stands j.policy line j (view_in c') input items bytes refl spared)
 
-over_after : (c c' : Converter) (last : Bool) (src rest : List ℕ) (r : ConverterResult) → TurnEnds c c' last src rest r → (view_in c').over ≡ true → IsOverWith (view_in c') last rest
+over_after : (c c' : StepView) (last : Bool) (src rest : List ℕ) (r : ConverterResult) → TurnEnds c c' last src rest r → (view_in c').over ≡ true → IsOverWith (view_in c') last rest
 over_after c c' last src rest InputEmpty ends over = elim ends [
   | inl e ↦ record { last_ = sym e.1.over ∙ over; none = e.1.all; whole = e.1.whole (sym e.1.over ∙ over) }
   | inr e ↦ absurd (cc (sym over ∙ e.all.over))
@@ -188,7 +188,7 @@ over_after c c' last src rest OutputFull ends over = absurd (cc (sym over ∙ en
 over_after c c' last src rest (Found line) ends over = absurd (cc (sym over ∙ ends.1))
 
 -- what was written was handed out if nothing is held
-given_all : (p : Policy) (items : List Item) (out : List ℕ) (records : List Loss) (c : Converter) → HoldsNothing c → WritesUnder p items (out ++ c.held) (log_of_losses (records ++ held_losses c))
+given_all : (p : Policy) (items : List Item) (out : List ℕ) (records : List Loss) (c : StepView) → HoldsNothing c → WritesUnder p items (out ++ c.held) (log_of_losses (records ++ held_losses c))
     → WritesUnder p items out (log_of_losses records)
 given_all p items out records c empty w = record {
   is_output = sym (append-nil out) ∙ ap (λ x. out ++ x) (sym empty.0) ∙ w.is_output;
@@ -196,13 +196,13 @@ given_all p items out records c empty w = record {
 }
 
 -- a turn goes on with what was converted before it
-pub turned_on : (j : Job) (last : Bool) (input src rest out : List ℕ) (records : List Loss) (c c' : Converter) (dst dst' : List ℕ) (at to : ℕ) (r : ConverterResult) → CanTurn c
+pub turned_on : (j : Job) (last : Bool) (input src rest out : List ℕ) (records : List Loss) (c c' : StepView) (dst dst' : List ℕ) (at to : ℕ) (r : ConverterResult) → CanTurn c
     → MakesTurn c c' last src rest dst dst' at to r → HasConverted j last input src (out ++ take at dst) records c → HasConverted j last input rest (out ++ take to dst') records c'
 turned_on j last input src rest out records c c' dst dst' at to r ready t h =
-    let job : (view_in c).job ≡ j = h.taken.law.job ∙ h.taken.fresh.job in
+    let job : (view_in c).job ≡ saved_job j = h.taken.law.job ∙ h.taken.fresh.job in
     let spared : IsSpared j.policy h.items = subst (λ s. IsAtStage s j (view_in c) input h.items) ready.stage h.stage in
     let law : ConvertsPart (view_in c) (view_in c') last src rest (turn_items j.policy t.bytes r) =
-    subst (λ (k : Job). ConvertsPart (view_in c) (view_in c') last src rest (turn_items k.policy t.bytes r)) job t.law in
+    subst (λ (k : SavedJob). ConvertsPart (view_in c) (view_in c') last src rest (turn_items k.policy t.bytes r)) job t.law in
     let before : WritesUnder j.policy h.items (out ++ take at dst) (log_of_losses records) = given_all j.policy h.items (out ++ take at dst) records c ready.empty h.written in
     let turn = under_then j.policy h.items (turn_items j.policy t.bytes r) (out ++ take at dst) (t.bytes ++ found_reference j.policy r) (log_of_losses records) (found_log r) spared before
     (under_then j.policy (map Byte t.bytes) (found_items (reference_form j.policy) r) t.bytes (found_reference j.policy r) [] (found_log r) (spared_bytes j.policy t.bytes) (under_bytes j.policy t.bytes) (under_found j.policy r)) in
@@ -236,7 +236,7 @@ under_front Policy.Decimal s t = (t, refl)
 under_front Policy.Hexadecimal s t = (t, refl)
 under_front Policy.Stop s t = cut_front s t
 
-pub first_part : (j : Job) (last : Bool) (input rest out : List ℕ) (records : List Loss) (c : Converter) → HasConverted j last input rest out records c → IsFirstPartOf j last input out records
+pub first_part : (j : Job) (last : Bool) (input rest out : List ℕ) (records : List Loss) (c : StepView) → HasConverted j last input rest out records c → IsFirstPartOf j last input out records
 first_part j last input rest out records c h = record {
   first_bytes = λ r none. let m = more r none in (
     c.held ++ output_bytes (tagged m.0),
@@ -358,14 +358,14 @@ nil_or_not : {X : Type 0} (xs : List X) → (xs ≡ []) ⊎ (xs ≢ [])
 nil_or_not [] = inl refl
 nil_or_not (x ∷ xs) = inr (λ e. cc)
 
-nothing_held : (c : Converter) → (HoldsNothing c) ⊎ (¬ (HoldsNothing c))
+nothing_held : (c : StepView) → (HoldsNothing c) ⊎ (¬ (HoldsNothing c))
 nothing_held c = elim (nil_or_not c.held) [
   | inr some ↦ inr (λ h. some h.0)
   | inl none ↦ elim (nil_or_not (held_losses c)) [ inr some ↦ inr (λ h. some h.1) | inl quiet ↦ inl (none, quiet) ]
 ]
 
 -- what a converter tells, whether it holds something or not
-pub told_so_far : FirstLaw → (j : Job) (last : Bool) (x rest y : List ℕ) (records : List Loss) (c : Converter) (report : Report) (status : ℕ) → HasConverted j last x rest y records c
+pub told_so_far : FirstLaw → (j : Job) (last : Bool) (x rest y : List ℕ) (records : List Loss) (c : StepView) (report : Report) (status : ℕ) → HasConverted j last x rest y records c
     → TellsStatus c report status → ConvertsInMemory j x y records report status
 told_so_far law j last x rest y records c report status h tells = elim (nothing_held c) [
   | inl empty ↦ stage_told law c.stage j last x rest y records (view_in c) h.items report status h.taken
@@ -377,8 +377,9 @@ told_so_far law j last x rest y records c report status h tells = elim (nothing_
 
 -- a call has made some turns: what it has handed out goes on from where the converter was, and what is owed has become
 -- less if it wants room that was not short at the start
-pub record RunsTo (c0 c : Converter) (last : Bool) (src dst0 dst : List ℕ) (losses0 losses : List Loss) (p : ConverterProgress) : Type 0 where
+pub record RunsTo (c0 c : StepView) (last : Bool) (src dst0 dst : List ℕ) (losses0 losses : List Loss) (p : ConverterProgress) : Type 0 where
   pub carried : Carries c0 c last src (drop p.read src) (take p.written dst) (take p.losses losses)
+  pub lists : c.stream.lists ≡ c0.stream.lists
   pub read : p.read ≤ length src
   pub output : IsFilled dst0 dst p.written
   pub lost : IsFilled losses0 losses p.losses
@@ -389,8 +390,8 @@ pub record RunsTo (c0 c : Converter) (last : Bool) (src dst0 dst : List ℕ) (lo
   pub at_most : length (owes (view_in c) (drop p.read src)) ≤ length (owes (view_in c0) src)
   pub fewer : p.wants_room ≡ true → 32 ≤ length dst → 0 < length losses → length (owes (view_in c) (drop p.read src)) < length (owes (view_in c0) src)
 
-view_out : (c c' : Converter) (dst dst' : List ℕ) (losses losses' : List Loss) (p p' : ConverterProgress) → HandsOut c c' dst dst' losses losses' p p' → view_in c' ≡ view_in c
-view_out c c' dst dst' losses losses' p p' hands = ap (λ (z : Converter). view_in z) hands.rest
+view_out : (c c' : StepView) (dst dst' : List ℕ) (losses losses' : List Loss) (p p' : ConverterProgress) → HandsOut c c' dst dst' losses losses' p p' → view_in c' ≡ view_in c
+view_out c c' dst dst' losses losses' p p' hands = ap (λ (z : StepView). view_in z) hands.rest
 
 -- all that is held finds room if there is enough
 all_given : {X : Type 0} (held held' old new : List X) (to : ℕ) → FillsRoom held held' old new 0 to → length held ≤ length new → held' ≡ []
@@ -404,13 +405,14 @@ listed_one None = omega arith
 listed_one (Some loss) = omega arith
 
 -- before the first turn
-pub started : (c0 c : Converter) (last : Bool) (src dst0 dst : List ℕ) (losses0 losses : List Loss) (p : ConverterProgress) → ((view_in c0).ended ≡ true → (src ≡ []) × (last ≡ true))
+pub started : (c0 c : StepView) (last : Bool) (src dst0 dst : List ℕ) (losses0 losses : List Loss) (p : ConverterProgress) → ((view_in c0).ended ≡ true → (src ≡ []) × (last ≡ true))
     → HandsOut c0 c dst0 dst losses0 losses NONE p → RunsTo c0 c last src dst0 dst losses0 losses p
 started c0 c last src dst0 dst losses0 losses p end hands = record {
   carried = λ j input out records h. subst (λ n. HasConverted j last input (drop n src) (out ++ take p.written dst) (records ++ take p.losses losses) c) (sym hands.read)
       (handed_out j last input src out records c0 c dst0 dst losses0 losses NONE p hands
       (subst (λ (x : List ℕ). HasConverted j last input src x (records ++ take 0 losses0) c0) (sym (append-nil out))
       (subst (λ (x : List Loss). HasConverted j last input src out x c0) (sym (append-nil records)) h)));
+  lists = ap (λ v. v.lists) view;
   read = omega (arith, hands.read);
   output = record { fits = hands.output.fits; after = hands.output.after };
   lost = record { fits = hands.lost.fits; after = hands.lost.after };
@@ -445,13 +447,13 @@ nothing_more : {X : Type 0} (held held' old new : List X) (at to : ℕ) → Fill
 nothing_more held held' old new at to f none = length_none held' (omega (arith, ap length f.is, ap length none, length-append (take at old) held, length-append (take to new) held', length-take at old, length-take-le to new f.fits, f.from))
 
 -- a turn, and what it leaves is handed out
-pub record Iterates (c m c' : Converter) (last : Bool) (src dst dst1 dst' : List ℕ) (losses losses' : List Loss) (read to : ℕ) (r : ConverterResult) (p p' : ConverterProgress) : Type 0 where
+pub record Iterates (c m c' : StepView) (last : Bool) (src dst dst1 dst' : List ℕ) (losses losses' : List Loss) (read to : ℕ) (r : ConverterResult) (p p' : ConverterProgress) : Type 0 where
   pub ready : CanTurn c
   pub turns : MakesTurn c m last (drop p.read src) (drop read (drop p.read src)) dst dst1 p.written to r
   pub within : read ≤ length (drop p.read src)
   pub hands : HandsOut m c' dst1 dst' losses losses' (record p { read = p.read + read; written = to }) p'
 
-pub smaller : (c m c' : Converter) (last : Bool) (src dst dst1 dst' : List ℕ) (losses losses' : List Loss) (read to : ℕ) (r : ConverterResult) (p p' : ConverterProgress)
+pub smaller : (c m c' : StepView) (last : Bool) (src dst dst1 dst' : List ℕ) (losses losses' : List Loss) (read to : ℕ) (r : ConverterResult) (p p' : ConverterProgress)
     → Iterates c m c' last src dst dst1 dst' losses losses' read to r p p' → ((r ≡ InputEmpty) × HoldsNothing c') ⊎ (length (owes (view_in c') (drop p'.read src)) < length (owes (view_in c) (drop p.read src)))
 smaller c m c' last src dst dst1 dst' losses losses' read to r p p' i = elim i.turns.less [
   | inl none ↦ inl (none.0, (nothing_more m.held c'.held dst1 dst' to p'.written i.hands.output none.1.0, nothing_more (held_losses m) (held_losses c') losses losses' p.losses p'.losses i.hands.lost none.1.1))
@@ -459,12 +461,13 @@ smaller c m c' last src dst dst1 dst' losses losses' read to r p p' i = elim i.t
       (subst (λ (x : List ℕ). length (owes (view_in m) x) < length (owes (view_in c) (drop p.read src))) (drop-drop read p.read src ∙ ap (λ n. drop n src) (omega (arith, i.hands.read))) less))
 ]
 
-pub iterated : (c0 c m c' : Converter) (last : Bool) (src dst0 dst dst1 dst' : List ℕ) (losses0 losses losses' : List Loss) (read to : ℕ) (r : ConverterResult) (p p' : ConverterProgress)
+pub iterated : (c0 c m c' : StepView) (last : Bool) (src dst0 dst dst1 dst' : List ℕ) (losses0 losses losses' : List Loss) (read to : ℕ) (r : ConverterResult) (p p' : ConverterProgress)
     → RunsTo c0 c last src dst0 dst losses0 losses p → Iterates c m c' last src dst dst1 dst' losses losses' read to r p p' → RunsTo c0 c' last src dst0 dst' losses0 losses' p'
 iterated c0 c m c' last src dst0 dst dst1 dst' losses0 losses losses' read to r p p' k i = record {
   carried = λ j input out records h. subst (λ (x : List ℕ). HasConverted j last input x (out ++ take p'.written dst') (records ++ take p'.losses losses') c') rest
       (handed_out j last input (drop read (drop p.read src)) out records m c' dst1 dst' losses losses' (record p { read = p.read + read; written = to }) p' i.hands
       (turned_on j last input (drop p.read src) (drop read (drop p.read src)) out (records ++ take p.losses losses) c m dst dst1 p.written to r i.ready i.turns (k.carried j input out records h)));
+  lists = ap (λ v. v.lists) view ∙ i.turns.law.lists ∙ k.lists;
   read = omega (arith, i.hands.read, i.within, length-drop p.read src, k.read);
   output = filled_on dst0 dst dst1 dst' m.held c'.held p.written to p'.written k.output i.turns.from i.turns.behind i.hands.output;
   lost = filled_on losses0 losses losses losses' (held_losses m) (held_losses c') p.losses p.losses p'.losses k.lost (omega arith) refl i.hands.lost;
@@ -497,7 +500,7 @@ iterated c0 c m c' last src dst0 dst dst1 dst' losses0 losses losses' read to r 
         omega (arith, split, same, k.at_most)
 
 -- a turn that ended since its bytes were converted leaves nothing to be converted, or there is more than the limit allows
-pub all_converted : (c0 c m c' : Converter) (last : Bool) (src dst0 dst dst1 dst' : List ℕ) (losses0 losses losses' : List Loss) (read to : ℕ) (r : ConverterResult) (p p' : ConverterProgress) → r ≡ InputEmpty
+pub all_converted : (c0 c m c' : StepView) (last : Bool) (src dst0 dst dst1 dst' : List ℕ) (losses0 losses losses' : List Loss) (read to : ℕ) (r : ConverterResult) (p p' : ConverterProgress) → r ≡ InputEmpty
     → RunsTo c0 c last src dst0 dst losses0 losses p → Iterates c m c' last src dst dst1 dst' losses losses' read to r p p' → ConvertsAll c' last (drop p'.read src) dst' losses' p'
 all_converted c0 c m c' last src dst0 dst dst1 dst' losses0 losses losses' read to r p p' is k i = record {
   wants_room = i.hands.wants_room;
@@ -509,7 +512,7 @@ all_converted c0 c m c' last src dst0 dst dst1 dst' losses0 losses losses' read 
           none,
           subst (λ v. AllIsConverted v (drop p'.read src) false) (sym view) (subst (λ b. AllIsConverted (view_in m) (drop p'.read src) b) none (subst (λ (x : List ℕ). AllIsConverted (view_in m) x last) rest e.1)),
         )
-    | inr e ↦ absurd (other (sym e.stage ∙ ap (λ (z : Converter). z.stage) (sym i.hands.rest) ∙ open_))
+    | inr e ↦ absurd (other (sym e.stage ∙ ap (λ (z : StepView). z.stage) (sym i.hands.rest) ∙ open_))
   ];
 }
   where
@@ -523,7 +526,7 @@ all_converted c0 c m c' last src dst0 dst dst1 dst' losses0 losses losses' read 
     other same = cc
 
 -- a turn over a slice of the rest, and what it leaves is handed out
-pub iterates : (c m c' : Converter) (last : Bool) (src rest dst dst1 dst' : List ℕ) (losses losses' : List Loss) (read to : ℕ) (r : ConverterResult) (p p' : ConverterProgress) → rest ≡ drop p.read src → CanTurn c
+pub iterates : (c m c' : StepView) (last : Bool) (src rest dst dst1 dst' : List ℕ) (losses losses' : List Loss) (read to : ℕ) (r : ConverterResult) (p p' : ConverterProgress) → rest ≡ drop p.read src → CanTurn c
     → MakesTurn c m last rest (drop read rest) dst dst1 p.written to r → read ≤ length rest → HandsOut m c' dst1 dst' losses losses' (record p { read = p.read + read; written = to }) p'
     → Iterates c m c' last src dst dst1 dst' losses losses' read to r p p'
 iterates c m c' last src rest dst dst1 dst' losses losses' read to r p p' is ready turns within hands = record {
@@ -536,7 +539,7 @@ iterates c m c' last src rest dst dst1 dst' losses losses' read to r p p' is rea
 -- ---- calls together
 
 -- that the end was told changes nothing of what was converted
-told_as : (j : Job) (last : Bool) (input rest out : List ℕ) (records : List Loss) (c : Converter) (finished : Bool) → HasConverted j last input rest out records c
+told_as : (j : Job) (last : Bool) (input rest out : List ℕ) (records : List Loss) (c : StepView) (finished : Bool) → HasConverted j last input rest out records c
     → HasConverted j last input rest out records (record c { is_finished = finished })
 told_as j last input rest out records c finished h = record {
   items = h.items;
@@ -548,12 +551,12 @@ told_as j last input rest out records c finished h = record {
 }
 
 -- what a call is to read: what it was handed, and after the end nothing but the end
-pub record IsToRead (c : Converter) (src : List ℕ) (last : Bool) (src' : List ℕ) (last' : Bool) : Type 0 where
+pub record IsToRead (c : StepView) (src : List ℕ) (last : Bool) (src' : List ℕ) (last' : Bool) : Type 0 where
   pub ended : (view_in c).ended ≡ true → (src' ≡ []) × (last' ≡ true)
   pub open_ : (view_in c).ended ≡ false → (src' ≡ src) × (last' ≡ last)
 
 -- after lawful calls that is what it was handed
-reads_handed : (j : Job) (last : Bool) (input src out : List ℕ) (records : List Loss) (c : Converter) (src' : List ℕ) (last' : Bool) → HasConverted j last input src out records c
+reads_handed : (j : Job) (last : Bool) (input src out : List ℕ) (records : List Loss) (c : StepView) (src' : List ℕ) (last' : Bool) → HasConverted j last input src out records c
     → IsToRead c src last src' last' → (src' ≡ src) × (last' ≡ last)
 reads_handed j last input src out records c src' last' h r = elim (over_or_not (view_in c).ended) [
   | inl is ↦ let e = h.taken.law.ended is in let k = r.ended is in (k.0 ∙ sym e.1, k.1 ∙ sym e.0)
@@ -561,10 +564,10 @@ reads_handed j last input src out records c src' last' h r = elim (over_or_not (
 ]
 
 -- a call goes on with those before it
-pub joins : FirstLaw → (c c' : Converter) (after : Option Converter) (finished : Bool) (src src' dst : List ℕ) (last last' : Bool) (losses : List Loss) (p : ConverterProgress) (report : Report) (status : ℕ)
-    → after ≡ Some (record c' { is_finished = finished }) → IsToRead c src last src' last'
-    → Carries c c' last' src' (drop p.read src') (take p.written dst) (take p.losses losses) → TellsStatus c' report status → JoinsToCalls c after src last dst losses p report status
-joins law c c' after finished src src' dst last last' losses p report status held_is reads carries tells = λ j before input rest more out records h is end.
+pub joins : FirstLaw → (c c' : StepView) (finished : Bool) (src src' dst : List ℕ) (last last' : Bool) (losses : List Loss) (p : ConverterProgress) (report : Report) (status : ℕ)
+    → IsToRead c src last src' last'
+    → Carries c c' last' src' (drop p.read src') (take p.written dst) (take p.losses losses) → TellsStatus c' report status → JoinsToCalls c (record c' { is_finished = finished }) src last dst losses p report status
+joins law c c' finished src src' dst last last' losses p report status reads carries tells = λ j before input rest more out records h is end.
     let handed : HasConverted j last (input ++ more) src out records c =
     subst (λ (x : List ℕ). HasConverted j last (input ++ more) x out records c) (sym is) (handed_in j before last input rest more out records c end h) in
     let same = reads_handed j last (input ++ more) src out records c src' last' handed reads in
@@ -573,15 +576,13 @@ joins law c c' after finished src src' dst last last' losses p report status hel
     (subst (λ (x : List ℕ). Carries c c' last' x (drop p.read x) (take p.written dst) (take p.losses losses)) same.0 carries) in
     let so_far : HasConverted j last (input ++ more) (drop p.read src) (out ++ take p.written dst) (records ++ take p.losses losses) c' = carried j (input ++ more) out records handed in
     record {
-      converter = record c' { is_finished = finished };
-      held_is = held_is;
       so_far = told_as j last (input ++ more) (drop p.read src) (out ++ take p.written dst) (records ++ take p.losses losses) c' finished so_far;
       part = first_part j last (input ++ more) (drop p.read src) (out ++ take p.written dst) (records ++ take p.losses losses) c' so_far;
       told = told_so_far law j last (input ++ more) (drop p.read src) (out ++ take p.written dst) (records ++ take p.losses losses) c' report status so_far tells;
     }
 
 -- what a call converts of what it is to read it converts of what it was handed
-pub converts_handed : (c c' : Converter) (finished : Bool) (src src' dst : List ℕ) (last last' : Bool) (losses : List Loss) (p : ConverterProgress) → IsToRead c src last src' last'
+pub converts_handed : (c c' : StepView) (finished : Bool) (src src' dst : List ℕ) (last last' : Bool) (losses : List Loss) (p : ConverterProgress) → IsToRead c src last src' last'
     → ConvertsAll c' last' (drop p.read src') dst losses p → ConvertsAll (record c' { is_finished = finished }) last (drop p.read src) dst losses p
 converts_handed c c' finished src src' dst last last' losses p reads k = record {
   wants_room = k.wants_room;
@@ -594,7 +595,7 @@ converts_handed c c' finished src src' dst last last' losses p reads k = record 
 }
 
 -- and reads no more than that
-pub reads_within : (c : Converter) (src src' : List ℕ) (last last' : Bool) (read : ℕ) → IsToRead c src last src' last' → read ≤ length src' → read ≤ length src
+pub reads_within : (c : StepView) (src src' : List ℕ) (last last' : Bool) (read : ℕ) → IsToRead c src last src' last' → read ≤ length src' → read ≤ length src
 reads_within c src src' last last' read reads within = elim (over_or_not (view_in c).ended) [
   | inl is ↦ omega (arith, within, ap length (reads.ended is).0)
   | inr is ↦ omega (arith, within, ap length (reads.open_ is).0)

@@ -7,14 +7,12 @@ use Rattle.recode_log.specs.declared.line.LogLine.{LogLine}
 use Rattle.recode_log.specs.declared.line.LogLine.TheVariants.{Bad, Lost}
 use Rattle.recode.specs.Converter.{AllIsConverted, ConverterView, ConvertsPart, found_items, owes}
 use Rattle.recode.specs.Policy.{reference_form}
-use Rattle.recode.specs.calls.ConverterView.{converter_view}
 use Rattle.recode.specs.declared.converter.ConverterResult.{ConverterResult}
 use Rattle.recode.specs.declared.converter.ConverterResult.TheVariants.{Found, InputEmpty, OutputFull}
 use Rattle.recode.specs.laws.Calls.{part_none, part_then}
 use Rattle.jillapun_c.specs.ConverterTurns.{ConvertsInto, CanTurn, PassesLimit, TakesEnd, TurnEnds, MakesTurn, found_log, found_reference, line_reference, stage_at}
-use Rattle.jillapun_c.specs.Converters.{HoldsNothing, held_losses, view_in}
+use Rattle.jillapun_c.specs.Converters.{StepView, HoldsNothing, held_losses, view_in}
 use Rattle.jillapun_c.specs.Losses.{log_of_losses}
-use Rattle.jillapun_c.specs.declared.converter.Converter.{Converter}
 use Rattle.jillapun_c.specs.declared.converter.Stage.TheVariants.{TooLong}
 
 -- a call for a first part of some bytes, which was not the last, is one for all of them
@@ -56,21 +54,21 @@ owes_fewer v v' last src rest bytes found law some =
     omega (arith, owes_split v v' last src rest (map Byte bytes ++ found) law, length-append (map Byte bytes) found, length-map bytes Byte, some)
 
 -- what holds of a turn, however it ended
-turn_of : (c m c' : Converter) (last : Bool) (src rest dst dst' bytes more : List ℕ) (at to : ℕ) (result : ConverterResult)
+turn_of : (c m c' : StepView) (last : Bool) (src rest dst dst' bytes more : List ℕ) (at to : ℕ) (result : ConverterResult)
     → ConvertsPart (view_in c) (view_in m) last src rest (map Byte bytes ++ found_items (reference_form (view_in c).job.policy) result)
     → take to dst' ++ m.held ≡ take at dst ++ bytes → at ≤ to → to ≤ length dst' → drop to dst' ≡ drop to dst → m.policy ≡ c.policy
     → c'.stream ≡ m.stream → c'.policy ≡ m.policy → c'.held ≡ m.held ++ more → more ≡ found_reference c.policy result → log_of_losses (held_losses c') ≡ found_log result
     → TurnEnds c c' last src rest result → ((result ≡ InputEmpty) × HoldsNothing c') ⊎ (0 < length bytes + length (found_items (reference_form (view_in c).job.policy) result)) → MakesTurn c c' last src rest dst dst' at to result
 turn_of c m c' last src rest dst dst' bytes more at to result law written from fits behind policy stream same held reference logged ends some = record {
   bytes = bytes;
-  law = subst (λ s. ConvertsPart (view_in c) (converter_view s) last src rest (map Byte bytes ++ found_items (reference_form (view_in c).job.policy) result)) (sym stream) law;
+  law = subst (λ s. ConvertsPart (view_in c) s last src rest (map Byte bytes ++ found_items (reference_form (view_in c).job.policy) result)) (sym stream) law;
   written = ap (λ x. take to dst' ++ x) held ∙ sym (append_assoc (take to dst') m.held more) ∙ ap (λ x. x ++ more) written ∙ append_assoc (take at dst) bytes more
       ∙ ap (λ x. take at dst ++ (bytes ++ x)) reference;
   logged = logged;
   ends = ends;
   less = elim some [
     | inl none ↦ inl none
-    | inr more ↦ inr (subst (λ s. length (owes (converter_view s) rest) < length (owes (view_in c) src)) (sym stream) (owes_fewer (view_in c) (view_in m) last src rest bytes _ law more))
+    | inr more ↦ inr (subst (λ s. length (owes s rest) < length (owes (view_in c) src)) (sym stream) (owes_fewer (view_in c) (view_in m) last src rest bytes _ law more))
   ];
   policy = same ∙ policy;
   from = from;
@@ -79,7 +77,7 @@ turn_of c m c' last src rest dst dst' bytes more at to result law written from f
 }
 
 -- the call that a turn makes, for what the limit allows of some bytes
-pub record Calls (c m : Converter) (last a all : Bool) (src : List ℕ) (count read : ℕ) (dst dst' : List ℕ) (at to : ℕ) (result : ConverterResult) : Type 0 where
+pub record Calls (c m : StepView) (last a all : Bool) (src : List ℕ) (count read : ℕ) (dst dst' : List ℕ) (at to : ℕ) (result : ConverterResult) : Type 0 where
   pub ready : CanTurn c
   pub within : read ≤ length (take count src)
   pub most : count < length src → (view_in c).state.counts.read + count ≡ (view_in c).job.limit
@@ -87,24 +85,24 @@ pub record Calls (c m : Converter) (last a all : Bool) (src : List ℕ) (count r
   pub part : all ≡ false → (count < length src) × (a ≡ false)
   pub into : ConvertsInto c m a (take count src) (drop read (take count src)) dst dst' at to result
 
-law_of : (c m : Converter) (last a all : Bool) (src : List ℕ) (count read : ℕ) (dst dst' : List ℕ) (at to : ℕ) (result : ConverterResult)
+law_of : (c m : StepView) (last a all : Bool) (src : List ℕ) (count read : ℕ) (dst dst' : List ℕ) (at to : ℕ) (result : ConverterResult)
     → (k : Calls c m last a all src count read dst dst' at to result)
     → ConvertsPart (view_in c) (view_in m) last src (drop read src) (map Byte k.into.bytes ++ found_items (reference_form (view_in c).job.policy) result)
 law_of c m last a all src count read dst dst' at to result k =
     whole_law (view_in c) (view_in m) last a all src count read _ k.within k.whole (λ is. (k.part is).1) k.into.law
 
-no_record : (c m : Converter) → CanTurn c → m ≡ record c { stream = m.stream; held = m.held } → log_of_losses (held_losses m) ≡ []
-no_record c m ready same = ap (λ (z : Converter). log_of_losses (held_losses z)) same ∙ ap log_of_losses ready.empty.1
+no_record : (c m : StepView) → CanTurn c → m ≡ record c { stream = m.stream; held = m.held } → log_of_losses (held_losses m) ≡ []
+no_record c m ready same = ap (λ (z : StepView). log_of_losses (held_losses z)) same ∙ ap log_of_losses ready.empty.1
 
 -- all that was handed in is converted
-all_of : (c m : Converter) (last a : Bool) (src : List ℕ) (count read : ℕ) (dst dst' : List ℕ) (at to : ℕ) → Calls c m last a true src count read dst dst' at to InputEmpty
+all_of : (c m : StepView) (last a : Bool) (src : List ℕ) (count read : ℕ) (dst dst' : List ℕ) (at to : ℕ) → Calls c m last a true src count read dst dst' at to InputEmpty
     → AllIsConverted (view_in m) (drop read src) last
 all_of c m last a src count read dst dst' at to k =
     let all : take count src ≡ src = take_all count src (omega (arith, (k.whole refl).0)) in
     subst (λ b. AllIsConverted (view_in m) (drop read src) b) (k.whole refl).1 (subst (λ x. AllIsConverted (view_in m) (drop read x) a) all k.into.ends)
 
 -- all that the limit allows is converted
-limit_of : (c m : Converter) (last a : Bool) (src : List ℕ) (count read : ℕ) (dst dst' : List ℕ) (at to : ℕ) → Calls c m last a false src count read dst dst' at to InputEmpty
+limit_of : (c m : StepView) (last a : Bool) (src : List ℕ) (count read : ℕ) (dst dst' : List ℕ) (at to : ℕ) → Calls c m last a false src count read dst dst' at to InputEmpty
     → PassesLimit c (record m { stage = TooLong }) src
 limit_of c m last a src count read dst dst' at to k =
     let part = k.part refl in
@@ -117,15 +115,15 @@ limit_of c m last a src count read dst dst' at to k =
     }
 
 -- a call that wrote nothing and found nothing leaves nothing that waits
-none_held : (c m : Converter) (last a all : Bool) (src : List ℕ) (count read : ℕ) (dst dst' : List ℕ) (at to : ℕ) (bytes : List ℕ) → (k : Calls c m last a all src count read dst dst' at to InputEmpty)
+none_held : (c m : StepView) (last a all : Bool) (src : List ℕ) (count read : ℕ) (dst dst' : List ℕ) (at to : ℕ) (bytes : List ℕ) → (k : Calls c m last a all src count read dst dst' at to InputEmpty)
     → bytes ≡ k.into.bytes → (HoldsNothing m) ⊎ (0 < length bytes)
 none_held c m last a all src count read dst dst' at to [] k none = inl (
   length_none m.held (omega (arith, ap length k.into.written, length-append (take to dst') m.held, length-append (take at dst) k.into.bytes, ap length none, length-take-le to dst' k.into.fits, length-take at dst, k.into.from)),
-  ap (λ (z : Converter). held_losses z) k.into.same ∙ k.ready.empty.1,
+  ap (λ (z : StepView). held_losses z) k.into.same ∙ k.ready.empty.1,
 )
 none_held c m last a all src count read dst dst' at to (b ∷ bytes) k some = inr (omega arith)
 
-ends_empty : (c m c' : Converter) (last a all : Bool) (src : List ℕ) (count read : ℕ) (dst dst' : List ℕ) (at to : ℕ) (ref : Reference) → (k : Calls c m last a all src count read dst dst' at to InputEmpty)
+ends_empty : (c m c' : StepView) (last a all : Bool) (src : List ℕ) (count read : ℕ) (dst dst' : List ℕ) (at to : ℕ) (ref : Reference) → (k : Calls c m last a all src count read dst dst' at to InputEmpty)
     → c'.held ≡ m.held → held_losses c' ≡ held_losses m → ((InputEmpty ≡ InputEmpty) × HoldsNothing c') ⊎ (0 < length k.into.bytes + length (found_items ref InputEmpty))
 ends_empty c m c' last a all src count read dst dst' at to ref k held losses = elim (none_held c m last a all src count read dst dst' at to k.into.bytes k refl) [
   | inl none ↦ inl (refl, (held ∙ none.0, losses ∙ none.1))
@@ -138,30 +136,30 @@ found_some ref (Bad offset size) = omega arith
 found_some ref (Lost index scalar) = omega arith
 
 -- a turn: the call, and what is done about how it ended
-pub turned : (c m c' : Converter) (last a all : Bool) (src : List ℕ) (count read : ℕ) (dst dst' : List ℕ) (at to : ℕ) (result : ConverterResult)
+pub turned : (c m c' : StepView) (last a all : Bool) (src : List ℕ) (count read : ℕ) (dst dst' : List ℕ) (at to : ℕ) (result : ConverterResult)
     → Calls c m last a all src count read dst dst' at to result → TakesEnd m c' result all → MakesTurn c c' last src (drop read src) dst dst' at to result
 turned c m c' last a true src count read dst dst' at to InputEmpty k takes =
     turn_of c m c' last src (drop read src) dst dst' k.into.bytes [] at to InputEmpty (law_of c m last a true src count read dst dst' at to InputEmpty k) k.into.written k.into.from k.into.fits k.into.behind
-    (ap (λ (z : Converter). z.policy) k.into.same) (ap (λ (z : Converter). z.stream) takes) (ap (λ (z : Converter). z.policy) takes) (ap (λ (z : Converter). z.held) takes ∙ sym (append-nil m.held)) refl
-    (ap (λ (z : Converter). log_of_losses (held_losses z)) takes ∙ no_record c m k.ready k.into.same)
-    (inl (ap (λ (z : Converter). z.stage) takes ∙ ap (λ (z : Converter). z.stage) k.into.same ∙ k.ready.stage, subst (λ (z : Converter). AllIsConverted (view_in z) (drop read src) last) (sym takes) (all_of c m last a src count read dst dst' at to k)))
-    (ends_empty c m c' last a true src count read dst dst' at to (reference_form (view_in c).job.policy) k (ap (λ (z : Converter). z.held) takes) (ap (λ (z : Converter). held_losses z) takes))
+    (ap (λ (z : StepView). z.policy) k.into.same) (ap (λ (z : StepView). z.stream) takes) (ap (λ (z : StepView). z.policy) takes) (ap (λ (z : StepView). z.held) takes ∙ sym (append-nil m.held)) refl
+    (ap (λ (z : StepView). log_of_losses (held_losses z)) takes ∙ no_record c m k.ready k.into.same)
+    (inl (ap (λ (z : StepView). z.stage) takes ∙ ap (λ (z : StepView). z.stage) k.into.same ∙ k.ready.stage, subst (λ (z : StepView). AllIsConverted (view_in z) (drop read src) last) (sym takes) (all_of c m last a src count read dst dst' at to k)))
+    (ends_empty c m c' last a true src count read dst dst' at to (reference_form (view_in c).job.policy) k (ap (λ (z : StepView). z.held) takes) (ap (λ (z : StepView). held_losses z) takes))
 turned c m c' last a false src count read dst dst' at to InputEmpty k takes =
     turn_of c m c' last src (drop read src) dst dst' k.into.bytes [] at to InputEmpty (law_of c m last a false src count read dst dst' at to InputEmpty k) k.into.written k.into.from k.into.fits k.into.behind
-    (ap (λ (z : Converter). z.policy) k.into.same) (ap (λ (z : Converter). z.stream) takes) (ap (λ (z : Converter). z.policy) takes) (ap (λ (z : Converter). z.held) takes ∙ sym (append-nil m.held)) refl
-    (ap (λ (z : Converter). log_of_losses (held_losses z)) takes ∙ no_record c m k.ready k.into.same)
-    (inr (subst (λ (z : Converter). PassesLimit c z src) (sym takes) (limit_of c m last a src count read dst dst' at to k)))
-    (ends_empty c m c' last a false src count read dst dst' at to (reference_form (view_in c).job.policy) k (ap (λ (z : Converter). z.held) takes) (ap (λ (z : Converter). held_losses z) takes))
+    (ap (λ (z : StepView). z.policy) k.into.same) (ap (λ (z : StepView). z.stream) takes) (ap (λ (z : StepView). z.policy) takes) (ap (λ (z : StepView). z.held) takes ∙ sym (append-nil m.held)) refl
+    (ap (λ (z : StepView). log_of_losses (held_losses z)) takes ∙ no_record c m k.ready k.into.same)
+    (inr (subst (λ (z : StepView). PassesLimit c z src) (sym takes) (limit_of c m last a src count read dst dst' at to k)))
+    (ends_empty c m c' last a false src count read dst dst' at to (reference_form (view_in c).job.policy) k (ap (λ (z : StepView). z.held) takes) (ap (λ (z : StepView). held_losses z) takes))
 turned c m c' last a all src count read dst dst' at to OutputFull k takes =
     turn_of c m c' last src (drop read src) dst dst' k.into.bytes [] at to OutputFull (law_of c m last a all src count read dst dst' at to OutputFull k) k.into.written k.into.from k.into.fits k.into.behind
-    (ap (λ (z : Converter). z.policy) k.into.same) (ap (λ (z : Converter). z.stream) takes) (ap (λ (z : Converter). z.policy) takes) (ap (λ (z : Converter). z.held) takes ∙ sym (append-nil m.held)) refl
-    (ap (λ (z : Converter). log_of_losses (held_losses z)) takes ∙ no_record c m k.ready k.into.same)
-    (ap (λ (z : Converter). z.stage) takes ∙ ap (λ (z : Converter). z.stage) k.into.same ∙ k.ready.stage, subst (λ (z : Converter). (view_in z).over ≡ false) (sym takes) k.into.ends.1)
+    (ap (λ (z : StepView). z.policy) k.into.same) (ap (λ (z : StepView). z.stream) takes) (ap (λ (z : StepView). z.policy) takes) (ap (λ (z : StepView). z.held) takes ∙ sym (append-nil m.held)) refl
+    (ap (λ (z : StepView). log_of_losses (held_losses z)) takes ∙ no_record c m k.ready k.into.same)
+    (ap (λ (z : StepView). z.stage) takes ∙ ap (λ (z : StepView). z.stage) k.into.same ∙ k.ready.stage, subst (λ (z : StepView). (view_in z).over ≡ false) (sym takes) k.into.ends.1)
     (inr (omega (arith, k.into.ends.0, k.into.room)))
 turned c m c' last a all src count read dst dst' at to (Found line) k takes =
-    let policy : m.policy ≡ c.policy = ap (λ (z : Converter). z.policy) k.into.same in
-    let stream : c'.stream ≡ m.stream = ap (λ (z : Converter). z.stream) takes.same in
+    let policy : m.policy ≡ c.policy = ap (λ (z : StepView). z.policy) k.into.same in
+    let stream : c'.stream ≡ m.stream = ap (λ (z : StepView). z.stream) takes.same in
     turn_of c m c' last src (drop read src) dst dst' k.into.bytes (line_reference m.policy line) at to (Found line) (law_of c m last a all src count read dst dst' at to (Found line) k) k.into.written k.into.from k.into.fits
-    k.into.behind policy stream (ap (λ (z : Converter). z.policy) takes.same) takes.held (ap (λ p. line_reference p line) policy) takes.logged
-    (takes.stage ∙ ap (λ p. stage_at p line) policy, ap (λ s. (converter_view s).over) stream ∙ k.into.ends.1)
+    k.into.behind policy stream (ap (λ (z : StepView). z.policy) takes.same) takes.held (ap (λ p. line_reference p line) policy) takes.logged
+    (takes.stage ∙ ap (λ p. stage_at p line) policy, ap (λ s. s.over) stream ∙ k.into.ends.1)
     (inr (omega (arith, found_some (reference_form (view_in c).job.policy) line)))

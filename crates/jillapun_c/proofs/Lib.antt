@@ -7,6 +7,7 @@ mod DecodedLemmas
 mod EncoderHandleLemmas
 mod EncoderPartLemmas
 mod EncodingNumberLemmas
+mod HeldConverterLemmas
 mod HeldDecoderLemmas
 mod FrontPartLemmas
 mod IndexFileLemmas

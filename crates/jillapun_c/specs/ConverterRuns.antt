@@ -1,7 +1,6 @@
 -- What the calls of a converter make together.
-use Rattle.std.specs.Prelude.{◌≡◌, ◌⊎◌, ◌<◌, ℕ, Bool, true, false, List, [], ◌++◌, drop, length, take, MatchOption, Option, Some}
+use Rattle.std.specs.Prelude.{◌≡◌, ◌<◌, ℕ, Bool, true, false, List, [], ◌++◌, drop, length, take}
 use Rattle.encoding_mem.specs.Items.{Item}
-use Rattle.encoding_tables.specs.IndexLists.{IndexLists}
 use Rattle.recode_log.specs.declared.line.LogLine.TheVariants.{Lost}
 use Rattle.recode.specs.Converter.{AllIsConverted, ConverterView, ConvertedSoFar, IsWhole, found_items}
 use Rattle.recode.specs.Job.{log_of, output_of}
@@ -11,17 +10,14 @@ use Rattle.recode.specs.WrittenItems.{IsSpared, lost_line_count}
 use Rattle.recode.specs.declared.converter.ConverterResult.TheVariants.{Found}
 use Rattle.recode.specs.declared.job.Job.{Job}
 use Rattle.recode.specs.declared.job.Policy.{Policy}
-use Rattle.jillapun_c.specs.Asked.{IfAsked}
 use Rattle.jillapun_c.specs.Conversions.{ConvertsInMemory}
-use Rattle.jillapun_c.specs.Converters.{IsNewConverter, held_losses, view_in}
+use Rattle.jillapun_c.specs.Converters.{StepView, held_losses, view_in}
 use Rattle.jillapun_c.specs.Losses.{log_of_losses}
-use Rattle.jillapun_c.specs.declared.converter.Converter.{Converter}
 use Rattle.jillapun_c.specs.declared.converter.Stage.{Stage}
 use Rattle.jillapun_c.specs.declared.converter.Stage.TheVariants.{Open, Stopped, TooLong}
 use Rattle.jillapun_c.specs.declared.converter.progress.ConverterProgress.{ConverterProgress}
 use Rattle.jillapun_c.specs.declared.losses.Loss.{Loss}
 use Rattle.jillapun_c.specs.declared.report.Report.{Report}
-use Rattle.jillapun_c.specs.declared.status.TheConstants.{IN_USE, NO_MEMORY, OK}
 
 -- the input is longer than the limit, and all that the limit allows is converted
 pub record ExceedsLimit (j : Job) (v : ConverterView) (input : List ℕ) : Type 0 where
@@ -56,7 +52,7 @@ pub record WritesUnder (p : Policy) (items : List Item) (output log : List ℕ) 
 -- The calls of a converter, from a new one of a job on, were handed this input, of which the rest is not read. They handed
 -- out this output and these records: with what the converter still holds, that is what its policy writes of the items that
 -- were converted.
-pub record HasConverted (j : Job) (last : Bool) (input rest output : List ℕ) (losses : List Loss) (c : Converter) : Type 0 where
+pub record HasConverted (j : Job) (last : Bool) (input rest output : List ℕ) (losses : List Loss) (c : StepView) : Type 0 where
   pub items : List Item
   pub taken : ConvertedSoFar j last input rest items (view_in c)
   pub policy : c.policy ≡ j.policy
@@ -65,7 +61,7 @@ pub record HasConverted (j : Job) (last : Bool) (input rest output : List ℕ) (
   pub over : (view_in c).over ≡ true → IsOverWith (view_in c) last rest
 
 -- a converter went on from some bytes to the rest of them, and handed out these bytes and records
-abbrev pub Carries : (before after : Converter) → (last : Bool) → (src rest output : List ℕ) → List Loss → Type 0
+abbrev pub Carries : (before after : StepView) → (last : Bool) → (src rest output : List ℕ) → List Loss → Type 0
 Carries c c' last src rest output losses = (j : Job) (input out : List ℕ) (records : List Loss) → HasConverted j last input src out records c
     → HasConverted j last input rest (out ++ output) (records ++ losses) c'
 
@@ -74,35 +70,16 @@ pub record IsFirstPartOf (j : Job) (last : Bool) (input output : List ℕ) (loss
   pub first_bytes : (r : List ℕ) → (last ≡ true → r ≡ []) → IsPrefix output (output_of j (input ++ r))
   pub first_records : (r : List ℕ) → (last ≡ true → r ≡ []) → IsPrefix (log_of_losses losses) (log_of j (input ++ r))
 
--- a handle holds a converter whose calls were handed this input and handed out this output and these records; these are
--- the first part of what the job makes of it; and a report and a status say of them what those of a conversion in
--- memory do
-pub record HoldsConversion (j : Job) (last : Bool) (input rest output : List ℕ) (losses : List Loss) (held : Option Converter) (report : Report) (status : ℕ) : Type 0 where
-  pub converter : Converter
-  pub held_is : held ≡ Some converter
+-- the calls of a converter were handed this input and handed out this output and these records; these are the first part
+-- of what the job makes of it; and a report and a status say of them what those of a conversion in memory do
+pub record MakesConversion (j : Job) (last : Bool) (input rest output : List ℕ) (losses : List Loss) (converter : StepView) (report : Report) (status : ℕ) : Type 0 where
   pub so_far : HasConverted j last input rest output losses converter
   pub part : IsFirstPartOf j last input output losses
   pub told : ConvertsInMemory j input output losses report status
 
 -- A call of a converter goes on with what the calls before it left and handed out: it is handed first what they have not
 -- read, and nothing else if they were handed the end. What it hands out is joined to that, and what it reports is true of all.
-abbrev pub JoinsToCalls : Converter → (held : Option Converter) (src : List ℕ) (last : Bool) (dst : List ℕ) → List Loss → ConverterProgress → Report → (status : ℕ) → Type 0
-JoinsToCalls c held src last dst losses p report status = (j : Job) (last_before : Bool) (input rest more output : List ℕ) (records : List Loss)
+abbrev pub JoinsToCalls : (before after : StepView) (src : List ℕ) (last : Bool) (dst : List ℕ) → List Loss → ConverterProgress → Report → (status : ℕ) → Type 0
+JoinsToCalls c c' src last dst losses p report status = (j : Job) (last_before : Bool) (input rest more output : List ℕ) (records : List Loss)
     → HasConverted j last_before input rest output records c → src ≡ rest ++ more → (last_before ≡ true → (last ≡ true) × (more ≡ []))
-    → HoldsConversion j last (input ++ more) (drop p.read src) (output ++ take p.written dst) (records ++ take p.losses losses) held report status
-
--- a handle holds a converter of a job that was handed nothing
-pub record HoldsNewConverter (job : Job) (held : Option Converter) : Type 0 where
-  pub converter : Converter
-  pub held_is : held ≡ Some converter
-  pub is_new : IsNewConverter converter job
-  pub so_far : HasConverted job false [] [] [] [] converter
-
--- a converter of a job is made, or memory is refused
-abbrev pub MakesConverter : (new : Option Converter) (status : ℕ) → Job → Type 0
-MakesConverter new status j = ((status ≡ OK) × HoldsNewConverter j new) ⊎ (status ≡ NO_MEMORY)
-
--- a converter is made of the job that the numbers of a call ask for, unless the handle holds something already
-abbrev pub OpensConverter : (held : Option Converter) (tables : Option IndexLists) (from to mark policy limit : ℕ) (new : Option Converter) (status : ℕ) → Type 0
-OpensConverter held tables from to mark policy limit new status =
-    MatchOption held (IfAsked tables from to mark policy limit (MakesConverter new status) status) (λ converter. status ≡ IN_USE)
+    → MakesConversion j last (input ++ more) (drop p.read src) (output ++ take p.written dst) (records ++ take p.losses losses) c' report status

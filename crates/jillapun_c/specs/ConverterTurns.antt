@@ -11,14 +11,13 @@ use Rattle.recode.specs.Policy.{reference_form}
 use Rattle.recode.specs.declared.converter.ConverterResult.{ConverterResult}
 use Rattle.recode.specs.declared.converter.ConverterResult.TheVariants.{Found, InputEmpty, OutputFull}
 use Rattle.recode.specs.declared.job.Policy.{Policy}
-use Rattle.jillapun_c.specs.Converters.{HoldsNothing, held_losses, view_in}
+use Rattle.jillapun_c.specs.Converters.{StepView, HoldsNothing, held_losses, view_in}
 use Rattle.jillapun_c.specs.Losses.{log_of_losses}
-use Rattle.jillapun_c.specs.declared.converter.Converter.{Converter}
 use Rattle.jillapun_c.specs.declared.converter.Stage.{Stage}
 use Rattle.jillapun_c.specs.declared.converter.Stage.TheVariants.{Open, Stopped, TooLong}
 
 -- a converter can make a turn: all that it made was handed out, and its conversion goes on
-pub record CanTurn (c : Converter) : Type 0 where
+pub record CanTurn (c : StepView) : Type 0 where
   pub empty : HoldsNothing c
   pub stage : c.stage ≡ Open
   pub over : (view_in c).over ≡ false
@@ -51,7 +50,7 @@ found_log (Found line) = line_bytes line
 
 -- Bytes were converted: what was written stands in a room from a place on, or waits for room. It ended since all is
 -- converted, since fewer than 4 bytes were free, if none was written then more, or since something was found.
-pub record ConvertsInto (c c' : Converter) (last : Bool) (src rest dst dst' : List ℕ) (at to : ℕ) (result : ConverterResult) : Type 0 where
+pub record ConvertsInto (c c' : StepView) (last : Bool) (src rest dst dst' : List ℕ) (at to : ℕ) (result : ConverterResult) : Type 0 where
   pub bytes : List ℕ
   pub law : ConvertsPart (view_in c) (view_in c') last src rest (map Byte bytes ++ found_items (reference_form (view_in c).job.policy) result)
   pub free : ℕ
@@ -66,7 +65,7 @@ pub record ConvertsInto (c c' : Converter) (last : Bool) (src rest dst dst' : Li
 
 -- a line that was found is taken: its record is held, and its reference after the bytes that are held; or it stops the
 -- conversion
-pub record TakesFound (c c' : Converter) (line : LogLine) : Type 0 where
+pub record TakesFound (c c' : StepView) (line : LogLine) : Type 0 where
   pub held : c'.held ≡ c.held ++ line_reference c.policy line
   pub logged : log_of_losses (held_losses c') ≡ line_bytes line
   pub stage : c'.stage ≡ stage_at c.policy line
@@ -74,28 +73,28 @@ pub record TakesFound (c c' : Converter) (line : LogLine) : Type 0 where
 
 -- what is done about how a call ended: if it was handed less than there is, since the limit allows no more, and has
 -- converted all of that, the input is too long
-abbrev pub TakesEnd : Converter → Converter → ConverterResult → (all : Bool) → Type 0
+abbrev pub TakesEnd : StepView → StepView → ConverterResult → (all : Bool) → Type 0
 TakesEnd c c' InputEmpty true = c' ≡ c
 TakesEnd c c' InputEmpty false = c' ≡ record c { stage = TooLong }
 TakesEnd c c' OutputFull all = c' ≡ c
 TakesEnd c c' (Found line) all = TakesFound c c' line
 
 -- the input is longer than the limit, and all that the limit allows is converted
-pub record PassesLimit (c c' : Converter) (src : List ℕ) : Type 0 where
+pub record PassesLimit (c c' : StepView) (src : List ℕ) : Type 0 where
   pub stage : c'.stage ≡ TooLong
   pub long : (view_in c).job.limit < (view_in c).state.counts.read + length src
   pub read : (view_in c').state.counts.read ≡ (view_in c).job.limit
   pub all : AllIsConverted (view_in c') [] false
 
 -- how a turn ended
-abbrev pub TurnEnds : Converter → Converter → (last : Bool) → (src rest : List ℕ) → ConverterResult → Type 0
+abbrev pub TurnEnds : StepView → StepView → (last : Bool) → (src rest : List ℕ) → ConverterResult → Type 0
 TurnEnds c c' last src rest InputEmpty = ((c'.stage ≡ Open) × AllIsConverted (view_in c') rest last) ⊎ PassesLimit c c' src
 TurnEnds c c' last src rest OutputFull = (c'.stage ≡ Open) × ((view_in c').over ≡ false)
 TurnEnds c c' last src rest (Found line) = (c'.stage ≡ stage_at c.policy line) × ((view_in c').over ≡ false)
 
 -- A turn: of these bytes the rest is left. What was written stands in a room from a place on or waits for room, and so
 -- does the record of what was found. Less is owed then, unless all is converted and nothing waits.
-pub record MakesTurn (c c' : Converter) (last : Bool) (src rest dst dst' : List ℕ) (at to : ℕ) (result : ConverterResult) : Type 0 where
+pub record MakesTurn (c c' : StepView) (last : Bool) (src rest dst dst' : List ℕ) (at to : ℕ) (result : ConverterResult) : Type 0 where
   pub bytes : List ℕ
   pub law : ConvertsPart (view_in c) (view_in c') last src rest (map Byte bytes ++ found_items (reference_form (view_in c).job.policy) result)
   pub written : take to dst' ++ c'.held ≡ take at dst ++ (bytes ++ found_reference c.policy result)

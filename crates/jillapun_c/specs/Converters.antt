@@ -4,6 +4,7 @@ use Rattle.recode.specs.Converter.{AllIsConverted, ConverterView, IsFreshConvert
 use Rattle.recode.specs.Session.{ReportsOn}
 use Rattle.recode.specs.calls.ConverterView.{converter_view}
 use Rattle.recode.specs.declared.job.Job.{Job}
+use Rattle.recode.specs.declared.job.Policy.{Policy}
 use Rattle.recode.specs.declared.job.Report.{Report as RunReport}
 use Rattle.jillapun_c.specs.Conversions.{IsToldReport, IsToldStop}
 use Rattle.jillapun_c.specs.Room.{FillsRoom, IsFilled}
@@ -16,25 +17,39 @@ use Rattle.jillapun_c.specs.declared.report.Report.{Report}
 use Rattle.jillapun_c.specs.declared.report.TheConstants.Report.{NONE}
 use Rattle.jillapun_c.specs.declared.status.TheConstants.{GOES_ON, TOO_LONG}
 
+-- A conversion by steps, as its callers know it: where the conversion stands, and what is done about a character that has
+-- no bytes; the bytes and the record that wait for room; what it has come to, and whether its end was reported.
+pub record StepView : Type 0 where
+  pub stream : ConverterView
+  pub policy : Policy
+  pub held : List ℕ
+  pub loss : Option Loss
+  pub stage : Stage
+  pub is_finished : Bool
+
+-- what a converter of this library is to its callers
+abbrev pub step_view : Converter → StepView
+step_view c = record { stream = converter_view c.stream; policy = c.policy; held = c.held; loss = c.loss; stage = c.stage; is_finished = c.is_finished }
+
 -- a record, if there is one, as a list
 abbrev pub listed : Option Loss → List Loss
 listed None = []
 listed (Some loss) = loss ∷ []
 
 -- the records of losses that a converter made and has not handed out: one at most
-abbrev pub held_losses : Converter → List Loss
+abbrev pub held_losses : StepView → List Loss
 held_losses c = listed c.loss
 
 -- all that it made was handed out
-abbrev pub HoldsNothing : Converter → Type 0
+abbrev pub HoldsNothing : StepView → Type 0
 HoldsNothing c = (c.held ≡ []) × (held_losses c ≡ [])
 
 -- where its conversion stands
-abbrev pub view_in : Converter → ConverterView
-view_in c = converter_view c.stream
+abbrev pub view_in : StepView → ConverterView
+view_in c = c.stream
 
 -- a converter that was handed nothing
-pub record IsNewConverter (c : Converter) (j : Job) : Type 0 where
+pub record IsNewConverter (c : StepView) (j : Job) : Type 0 where
   pub fresh : IsFreshConverter (view_in c) j
   pub policy : c.policy ≡ j.policy
   pub empty : HoldsNothing c
@@ -42,7 +57,7 @@ pub record IsNewConverter (c : Converter) (j : Job) : Type 0 where
   pub open_ : c.is_finished ≡ false
 
 -- a converter handed out what it holds, as far as there is room, after what was handed out before
-pub record HandsOut (c c' : Converter) (dst dst' : List ℕ) (losses losses' : List Loss) (p p' : ConverterProgress) : Type 0 where
+pub record HandsOut (c c' : StepView) (dst dst' : List ℕ) (losses losses' : List Loss) (p p' : ConverterProgress) : Type 0 where
   pub rest : c' ≡ record c { held = c'.held; loss = c'.loss }
   pub small : length c.held ≤ 32
   pub output : FillsRoom c.held c'.held dst dst' p.written p'.written
@@ -67,13 +82,13 @@ TellsStage (Stopped index scalar) v report status = IsToldStop index scalar repo
 TellsStage TooLong v report status = (report ≡ NONE) × (status ≡ TOO_LONG)
 
 -- what they say of a converter: its end, once all that it made was handed out
-pub record TellsStatus (c : Converter) (report : Report) (status : ℕ) : Type 0 where
+pub record TellsStatus (c : StepView) (report : Report) (status : ℕ) : Type 0 where
   pub empty : HoldsNothing c → TellsStage c.stage (view_in c) report status
   pub held : ¬ (HoldsNothing c) → TellsNoEnd report status
 
 -- What a call converts: if something wants room, it wants more than there was. Else the conversion has come to its end,
 -- or all that was handed in is read, all that it decides is written, and the end was not among it.
-pub record ConvertsAll (c : Converter) (last : Bool) (unread dst : List ℕ) (losses : List Loss) (p : ConverterProgress) : Type 0 where
+pub record ConvertsAll (c : StepView) (last : Bool) (unread dst : List ℕ) (losses : List Loss) (p : ConverterProgress) : Type 0 where
   pub wants_room : IsFalse p.wants_room ↔ HoldsNothing c
   pub output : (c.held ≡ []) ⊎ (p.written ≡ length dst)
   pub lost : (held_losses c ≡ []) ⊎ (p.losses ≡ length losses)
@@ -81,17 +96,10 @@ pub record ConvertsAll (c : Converter) (last : Bool) (unread dst : List ℕ) (lo
 
 -- What a call does: it fills the start of both rooms, converts all that it can, and returns the status. If that is an end,
 -- it was the last call.
-pub record ConvertsByStep (after : Option Converter) (src : List ℕ) (last : Bool) (dst dst' : List ℕ) (losses losses' : List Loss) (p : ConverterProgress) (report : Report) (status : ℕ) : Type 0 where
-  pub converter : Converter
-  pub held_is : after ≡ Some converter
+pub record ConvertsByStep (converter : StepView) (src : List ℕ) (last : Bool) (dst dst' : List ℕ) (losses losses' : List Loss) (p : ConverterProgress) (report : Report) (status : ℕ) : Type 0 where
   pub read : p.read ≤ length src
   pub output : IsFilled dst dst' p.written
   pub lost : IsFilled losses losses' p.losses
   pub converts : ConvertsAll converter last (drop p.read src) dst' losses' p
   pub tells : TellsStatus converter report status
   pub finished : IsTrue converter.is_finished ↔ (status ≢ GOES_ON)
-
--- there is nothing to convert: a handle holds no converter, or one whose end was reported
-abbrev pub IsIdle : Option Converter → Type 0
-IsIdle None = Unit {0}
-IsIdle (Some c) = c.is_finished ≡ true

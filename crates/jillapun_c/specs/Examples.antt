@@ -3,6 +3,7 @@ use Rattle.std.proofs.Common.{arith, inl, inr}
 use Rattle.std.specs.Prelude.{◌≡◌, ℕ, Bool, true, false, None, Some, [], ◌∷◌, codes, refl}
 use lib.Utf8.{encode}
 use Rattle.std.specs.Fmt.{digits}
+use Rattle.encoding_mem.specs.declared.codec.decoder_result.DecoderResult.TheVariants as decoded
 use Rattle.encoding_mem.specs.declared.codec.form.EscapeState.TheVariants as set
 use Rattle.encoding_index.specs.declared.fault.IndexFaultKind.TheVariants as fault
 use Rattle.encoding_index.specs.declared.fault.LoadFault.TheVariants.{Text, Table}
@@ -16,6 +17,7 @@ use Rattle.recode.specs.declared.converter.ConverterResult.TheVariants.{Found, O
 use Rattle.recode.specs.declared.job.Policy.{Policy}
 use Rattle.jillapun_c.specs.Asked.{policy_at}
 use Rattle.jillapun_c.specs.ConverterTurns.{found_log, line_reference, stage_at}
+use Rattle.jillapun_c.specs.ConverterWords.{answer_at, saved_job_in, saved_stage_in, saved_step_in}
 use Rattle.jillapun_c.specs.EncoderWords.{encoder_of}
 use Rattle.jillapun_c.specs.EncodingNumbers.{encoding_at, mark_at, needed_file}
 use Rattle.jillapun_c.specs.HeldDecoders.{saved_as, saved_in}
@@ -26,6 +28,7 @@ use Rattle.jillapun_c.specs.TextParts.{IsLookedAt, most_read, told_outcome}
 use Rattle.jillapun_c.specs.Whole.{TellsOfInput, filled_status}
 use Rattle.jillapun_c.specs.declared.decoder.words.DecoderWords.{DecoderWords}
 use Rattle.jillapun_c.specs.declared.converter.Stage.TheVariants.{Open, Stopped}
+use Rattle.jillapun_c.specs.declared.converter.words.ConverterWords.{ConverterWords}
 use Rattle.jillapun_c.specs.declared.index_files.FileFault.TheVariants as told
 use Rattle.jillapun_c.specs.declared.converter.progress.TheConstants.ConverterProgress as converter_
 use Rattle.jillapun_c.specs.declared.decoded.TheConstants.Decoded as decoded_
@@ -247,6 +250,33 @@ no_decoder_without_encoding = refl
 
 pub words_hold_a_decoder : saved_in (words_of true 25) ≡ Some (saved_as (words_of true 25) Encoding.Utf8)
 words_hold_a_decoder = refl
+
+-- and those of a converter: {0} for none; a malformed sequence of two bytes with one byte after it; no text that waits; a
+-- character, with its index and its code point, at which the policy stopped
+pub zeroes_hold_no_converter : (w : ConverterWords) → saved_step_in (record w { is_there = false }) ≡ None
+zeroes_hold_no_converter w = refl
+
+pub malformed_by_number : answer_at 3 2 1 ≡ Some (Some (decoded.Malformed 2 1))
+malformed_by_number = refl
+
+pub none_waits_by_number : answer_at 0 0 0 ≡ Some None
+none_waits_by_number = refl
+
+pub no_answer_by_number : answer_at 4 0 0 ≡ None
+no_answer_by_number = refl
+
+pub stop_by_number : saved_stage_in (record { index = 7; scalar = 0x100; stage = 1 }) ≡ Some (Stopped 7 0x100)
+stop_by_number = refl
+
+pub no_stage_by_number : saved_stage_in (record { index = 0; scalar = 0; stage = 3 }) ≡ None
+no_stage_by_number = refl
+
+pub job_by_numbers : saved_job_in (record { limit = 9; from = 0; to = 25; mark = 2; policy = 1 })
+    ≡ Some (record { from = Encoding.Big5; to = Encoding.Utf8; mark = Mark.Keep; policy = Policy.Hexadecimal; limit = 9 })
+job_by_numbers = refl
+
+pub no_job_by_number : saved_job_in (record { limit = 9; from = 0; to = 40; mark = 2; policy = 1 }) ≡ None
+no_job_by_number = refl
 
 -- an output of three bytes in a room of two: its first byte is there, and its length is told
 pub cut_output : HoldsFront {X = ℕ} (1 ∷ 2 ∷ 3 ∷ []) (9 ∷ 9 ∷ []) (1 ∷ 9 ∷ []) (record { put = 1; length = 3; is_whole = false })

@@ -2,8 +2,10 @@
 pub mod Asked
 pub mod Coders
 pub mod Conversions
+pub mod ConverterCalls
 pub mod ConverterRuns
 pub mod ConverterTurns
+pub mod ConverterWords
 pub mod Converters
 pub mod DecoderCalls
 pub mod EncoderCalls

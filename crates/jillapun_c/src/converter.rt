@@ -1,9 +1,12 @@
 //! The exports that convert by steps.
 
-ghost use Rattle.std.specs.Prelude.{◌≡◌, ◌≢◌, [], None, false};
+ghost use Rattle.std.specs.Prelude.{◌≡◌, ◌≢◌, [], false};
 ghost use Rattle.recode.specs.Job.{IsValidJob};
-ghost use Rattle.jillapun_c.specs.ConverterRuns.{HasConverted, OpensConverter};
-ghost use Rattle.jillapun_c.specs.Converters.{IsNewConverter};
+ghost use Rattle.recode.specs.SavedConverters.{CanGoOnFrom};
+ghost use Rattle.jillapun_c.specs.ConverterCalls.{OpensConverter};
+ghost use Rattle.jillapun_c.specs.ConverterRuns.{HasConverted};
+ghost use Rattle.jillapun_c.specs.ConverterWords.{SavesStep};
+ghost use Rattle.jillapun_c.specs.Converters.{IsNewConverter, step_view};
 ghost use Rattle.jillapun_c.specs.declared.status.TheConstants.{OK};
 
 pub(crate) mod handle;
@@ -12,23 +15,25 @@ pub(crate) mod made;
 pub(crate) mod progress;
 pub(crate) mod step;
 pub(crate) mod turn;
+pub(crate) mod words;
 
 use crate::converter::handle::ConverterHandle;
 use crate::converter::held::Held;
+use crate::converter::words::SavedStep;
 use crate::losses::Loss;
 use crate::request::Request;
-use crate::status::{CLOSED, IN_USE, NO_MEMORY, OK};
+use crate::status::{CLOSED, OK};
 use crate::tables_handle::TablesHandle;
+use encoding_tables::Tables;
 use recode::{Job, Policy};
-use std::alloc::Global;
 
 /// What a conversion has come to.
 #[derive(Clone, Copy)]
 pub enum Stage {
     /// It goes on, or all of it is converted.
     Open,
-    /// The policy stopped it at this character.
-    Stopped { index: u64, scalar: char },
+    /// The policy stopped it at the character with this index and code point.
+    Stopped { index: u64, scalar: u32 },
     /// The input has more bytes than the limit.
     TooLong,
 }
@@ -54,8 +59,8 @@ impl Converter {
     /// One that was handed nothing.
     pub(crate) fn new(job: Job<'static>) -> Converter
         requires { IsValidJob job }
-        ensures is_new { IsNewConverter result job.entry }
-        ensures so_far { HasConverted job.entry false [] [] [] [] result }
+        ensures is_new { IsNewConverter (step_view result) job.entry }
+        ensures so_far { HasConverted job.entry false [] [] [] [] (step_view result) }
     {
         Converter {
             stream: recode::Converter::new(job),
@@ -66,18 +71,49 @@ impl Converter {
             is_finished: false,
         }
     }
+
+    /// What it keeps between calls.
+    pub(crate) fn saved(&self) -> SavedStep
+        ensures { SavesStep result (step_view self.now) }
+    {
+        let (held, held_len) = self.held.parts();
+        SavedStep {
+            stream: self.stream.saved(),
+            policy: self.policy,
+            held,
+            held_len,
+            loss: self.loss,
+            stage: self.stage,
+            is_finished: self.is_finished,
+        }
+    }
+
+    /// One that goes on from what was saved of one whose job had these tables.
+    pub(crate) fn resumed(saved: SavedStep, tables: &'static Tables) -> Converter
+        requires { CanGoOnFrom tables.now saved.stream }
+        ensures saves { SavesStep saved (step_view result) }
+        ensures lists { (step_view result).stream.lists ≡ tables.now }
+    {
+        Converter {
+            stream: recode::Converter::resumed(saved.stream, tables),
+            policy: saved.policy,
+            held: Held::of(saved.held, saved.held_len),
+            loss: saved.loss,
+            stage: saved.stage,
+            is_finished: saved.is_finished,
+        }
+    }
 }
 
 /// Makes a converter of a new input, from the encoding with the number `from` to the output
 /// encoding of that with the number `to`. `mark`, `policy` and `limit` are as for
-/// `jillapun_convert`.
+/// `jillapun_convert`. What `out` held is overwritten, whether or not its end was reported.
 ///
-/// Returns `OK`, and `out` holds the converter. Else nothing is made: `IN_USE`, `out` holds one
-/// already; `CLOSED`, there are no tables; `UNKNOWN`, a number stands for nothing; `NOT_READY`, an
-/// index that one of the encodings needs is not in the tables; `NO_MEMORY`, memory was refused.
+/// Returns `OK`, and `out` holds the converter. Else nothing is made, and `out` stays as it is:
+/// `CLOSED`, there are no tables; `UNKNOWN`, a number stands for nothing; `NOT_READY`, an index
+/// that one of the encodings needs is not in the tables.
 #[unsafe(no_mangle)]
 pub extern "C" fn jillapun_converter_new(
-    alloc: Global,
     tables: TablesHandle,
     from: u8,
     to: u8,
@@ -86,15 +122,10 @@ pub extern "C" fn jillapun_converter_new(
     limit: u64,
     out: &mut ConverterHandle,
 ) -> u8
-    ensures opens { OpensConverter out.old.converter tables.tables from to mark policy limit
-        out.new.converter result }
-    ensures unchanged { result ≢ OK → out.new.converter ≡ out.old.converter }
+    ensures opens { OpensConverter tables.tables from to mark policy limit out.new result }
+    ensures unchanged { result ≢ OK → out.new ≡ out.old }
 {
-    if let Some(held) = out.take(alloc) {
-        out.put(held);
-        return IN_USE;
-    }
-    let Some(tables) = tables.get() else {
+    let Some(lent) = tables.lent() else {
         return CLOSED;
     };
     let request = Request {
@@ -104,23 +135,11 @@ pub extern "C" fn jillapun_converter_new(
         policy,
         limit,
     };
-    let job = match request.job(tables) {
-        Err(status) => return status,
-        Ok(job) => job,
-    };
-    match Box::new(alloc, Converter::new(job)) {
-        Ok(converter) => {
-            out.put(converter);
+    match request.job(lent) {
+        Err(status) => status,
+        Ok(job) => {
+            *out = ConverterHandle::of(tables, &Converter::new(job));
             OK
         }
-        Err(_) => NO_MEMORY,
     }
-}
-
-/// Ends a converter, and empties its handle. Nothing is done with one that holds none.
-#[unsafe(no_mangle)]
-pub extern "C" fn jillapun_converter_free(alloc: Global, converter: &mut ConverterHandle)
-    ensures { converter.new.converter ≡ None }
-{
-    drop(converter.take(alloc));
 }

@@ -16,7 +16,7 @@ pub(crate) mod queries;
 pub(crate) mod text;
 pub(crate) mod utf16;
 pub(crate) mod utf8;
-mod words;
+pub(crate) mod words;
 
 use crate::decoder::words::DecoderWords;
 use crate::encoding_number::{encoding_of, mark_of};

@@ -25,6 +25,13 @@ pub(crate) fn number_of(encoding: Encoding) -> u8
     encoding as u8
 }
 
+/// The number of a handling of byte order marks.
+pub(crate) fn number_of_mark(mark: Mark) -> u8
+    ensures { mark_at result ≡ Some mark }
+{
+    mark as u8
+}
+
 /// What a number says of byte order marks.
 pub(crate) fn mark_of(number: u8) -> Option<Mark>
     ensures { result ≡ mark_at number }

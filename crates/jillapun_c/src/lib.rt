@@ -17,7 +17,6 @@ mod encoding_number;
 mod filled;
 mod in_memory;
 mod index_files;
-mod loose;
 mod losses;
 mod mem;
 mod parts;

@@ -50,12 +50,12 @@ impl Report {
 
 /// The status of a conversion that the policy stopped at this character, and what is reported of
 /// it.
-pub(crate) fn told_stop(index: u64, scalar: char) -> (u8, Report)
+pub(crate) fn told_stop(index: u64, scalar: u32) -> (u8, Report)
     ensures { IsToldStop index scalar result.1 result.0 }
 {
     let report = Report {
         index,
-        scalar: u32::from(scalar),
+        scalar,
         ..Report::NONE
     };
     (STOPPED, report)

@@ -1,6 +1,6 @@
 //! The numbers of a call, and the job that they ask for.
 
-ghost use Rattle.std.specs.Prelude.{◌≡◌, IfErr, IfNone, IfOk, IfSome};
+ghost use Rattle.std.specs.Prelude.{◌≡◌, IfErr, IfNone, IfOk, IfSome, Some};
 ghost use Rattle.jillapun_c.specs.Asked.{AreKnown, EndsAtOnce, IsAskedFor, NamesJob, policy_at};
 
 use crate::encoding_number::{encoding_of, mark_of};
@@ -18,8 +18,15 @@ pub(crate) struct Request {
     pub(crate) limit: u64,
 }
 
-// The policy with a number.
-fn policy_of(number: u8) -> Option<Policy>
+/// The number of a policy.
+pub(crate) fn number_of_policy(policy: Policy) -> u8
+    ensures { policy_at result ≡ Some policy }
+{
+    policy as u8
+}
+
+/// The policy with a number.
+pub(crate) fn policy_of(number: u8) -> Option<Policy>
     ensures { result ≡ policy_at number }
 {
     match number {

@@ -12,7 +12,7 @@ ghost use Rattle.recode.specs.Policy.{reference_form};
 ghost use Rattle.recode.specs.Session.{ReportsOn};
 ghost use Rattle.recode.specs.calls.Buffers.{capacity, is_wide};
 ghost use Rattle.recode.specs.calls.EngineCodecs.{AreCodecsOf};
-ghost use Rattle.recode.specs.laws.SavedConverters.{AreCodecsOf-prop};
+ghost use Rattle.recode.specs.laws.SavedConverters.{codecs-prop};
 ghost use Rattle.recode.specs.calls.EngineView.{HoldsBetween, converter_of_parts, over_text};
 ghost use Rattle.recode.specs.calls.EngineView.{pivot_bytes, standing};
 ghost use Rattle.recode.specs.calls.Turns.{IsBetweenCalls};
@@ -121,7 +121,7 @@ pub struct Converter<'t> {
     // Whether all is written.
     over: bool,
     ghost codecs: { AreCodecsOf ⟦<Decoder<'static> as StreamDecoder>⟧.view
-        ⟦<VariantEncoder<'static> as RawEncoder>⟧.parts job engine } by { AreCodecsOf-prop _ _ job engine },
+        ⟦<VariantEncoder<'static> as RawEncoder>⟧.parts job engine } by { codecs-prop _ _ _ _ },
     ghost small: { job.limit ≤ 2 ^ 48 },
     ghost within: { engine.counts.read ≤ job.limit },
     ghost holds: { HoldsBetween (over_text text) engine.from engine.to },

@@ -73,6 +73,5 @@ int main(int argc, char **argv) {
     if (jillapun_converter_new(tables, from, to, JILLAPUN_SNIFF, JILLAPUN_DECIMAL, UINT64_MAX, &converter))
         return 2;
     uint8_t status = convert(&converter);
-    jillapun_converter_free(&converter);
     return status == JILLAPUN_OK ? 0 : status == JILLAPUN_LOSSY ? 1 : 2;
 }

@@ -33,6 +33,24 @@ impl Held {
         }
     }
 
+    /// The first of some bytes.
+    pub(crate) fn of(bytes: [u8; 32], count: usize) -> Held
+        ensures { result ≡ take count bytes }
+    {
+        Held {
+            bytes,
+            len: count.min(32),
+        }
+    }
+
+    /// Bytes, and how many of them wait: these are the first.
+    pub(crate) fn parts(&self) -> ([u8; 32], usize)
+        ensures { take result.1 result.0 ≡ self.now }
+    {
+        let bytes = self.bytes;
+        (bytes, self.len)
+    }
+
     /// Whether no byte waits.
     pub(crate) fn is_empty(&self) -> bool
         ensures { IsTrue result ↔ (self.now ≡ []) }

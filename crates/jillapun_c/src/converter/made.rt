@@ -1,7 +1,7 @@
 //! What a converter made, on its way into the caller's memory.
 
 ghost use Rattle.std.specs.Prelude.{◌≡◌, ◌↔◌, ◌+◌, ◌-◌, ◌≤◌, IsTrue, drop, length};
-ghost use Rattle.jillapun_c.specs.Converters.{HandsOut, HoldsNothing, held_losses};
+ghost use Rattle.jillapun_c.specs.Converters.{HandsOut, HoldsNothing, held_losses, step_view};
 ghost use Rattle.jillapun_c.specs.Room.{FillsRoom};
 
 use crate::converter::Converter;
@@ -24,7 +24,7 @@ pub(crate) fn fill<T: Copy>(list: &[T], room: &mut [T], at: usize) -> usize
 impl Converter {
     /// Whether all that was made was handed out.
     pub(crate) fn holds_nothing(&self) -> bool
-        ensures { IsTrue result ↔ HoldsNothing self.now }
+        ensures { IsTrue result ↔ HoldsNothing (step_view self.now) }
     {
         self.held.is_empty() && self.loss.is_none()
     }
@@ -32,9 +32,10 @@ impl Converter {
     // Hands out the record that waits, if one does and there is room.
     fn hand_out_loss(&mut self, losses: &mut [Loss], at: usize) -> usize
         requires { at ≤ length losses.old }
-        ensures fills { FillsRoom (held_losses self.old) (held_losses self.new) losses.old
-            losses.new at result }
-        ensures rest { self.new ≡ record self.old { loss = self.new.loss } }
+        ensures fills { FillsRoom (held_losses (step_view self.old))
+            (held_losses (step_view self.new)) losses.old losses.new at result }
+        ensures rest { step_view self.new
+            ≡ record (step_view self.old) { loss = self.new.loss } }
     {
         match self.loss {
             Some(loss) if at < losses.len() => {
@@ -56,8 +57,8 @@ impl Converter {
     )
         requires written { progress.old.written ≤ length dst.old }
         requires told { progress.old.losses ≤ length losses.old }
-        ensures { HandsOut self.old self.new dst.old dst.new losses.old losses.new progress.old
-            progress.new }
+        ensures { HandsOut (step_view self.old) (step_view self.new) dst.old dst.new losses.old
+            losses.new progress.old progress.new }
     {
         progress.written = self.held.hand_out(dst, progress.written);
         progress.losses = self.hand_out_loss(losses, progress.losses);

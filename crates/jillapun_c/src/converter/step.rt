@@ -1,9 +1,9 @@
 //! The export that makes a step of a conversion.
 
-ghost use Rattle.std.specs.Prelude.{◌≡◌, [], None, Some, false, true};
+ghost use Rattle.std.specs.Prelude.{◌≡◌, [], false, true};
+ghost use Rattle.jillapun_c.specs.ConverterCalls.{HoldsNoStep, HoldsStep, IsIdle, MakesStep};
 ghost use Rattle.jillapun_c.specs.ConverterRuns.{JoinsToCalls};
-ghost use Rattle.jillapun_c.specs.Converters.{ConvertsByStep, IsIdle, TellsStatus, view_in};
-ghost use Rattle.jillapun_c.specs.declared.converter.Converter.{Converter};
+ghost use Rattle.jillapun_c.specs.Converters.{ConvertsByStep, StepView, TellsStatus, step_view};
 ghost use Rattle.jillapun_c.specs.declared.converter.progress.TheConstants.ConverterProgress as
     progress_;
 ghost use Rattle.jillapun_c.specs.declared.report.TheConstants.Report as report_;
@@ -14,16 +14,15 @@ use crate::converter::progress::ConverterProgress;
 use crate::converter::{Converter, Stage};
 use crate::losses::Loss;
 use crate::report::{Report, told_report, told_stop};
-use crate::status::{CLOSED, FINISHED, GOES_ON, TOO_LONG};
+use crate::status::{GOES_ON, TOO_LONG};
 use recode::laws::stops_at_first_loss;
-use std::alloc::Global;
 
 impl Converter {
     // What a call is to read: what it was handed, and after the end nothing but the end.
     fn readable<'s>(&self, src: &'s [u8], last: bool) -> (&'s [u8], bool)
-        ensures ended { (view_in self.now).ended ≡ true
+        ensures ended { (step_view self.now).stream.ended ≡ true
             → (result.0.now ≡ []) × (result.1 ≡ true) }
-        ensures open { (view_in self.now).ended ≡ false
+        ensures open { (step_view self.now).stream.ended ≡ false
             → (result.0.now ≡ src.now) × (result.1 ≡ last) }
     {
         if self.stream.is_ended() {
@@ -36,7 +35,7 @@ impl Converter {
     /// What is reported after what could be handed out was: how the conversion ended, if nothing is
     /// left of what it made, and else that it goes on.
     pub(crate) fn tell(&self) -> (u8, Report)
-        ensures { TellsStatus self.now result.1 result.0 }
+        ensures { TellsStatus (step_view self.now) result.1 result.0 }
     {
         if !self.holds_nothing() {
             return (GOES_ON, Report::NONE);
@@ -80,7 +79,6 @@ impl Converter {
 /// No memory is taken.
 #[unsafe(no_mangle)]
 pub extern "C" fn jillapun_converter_step(
-    alloc: Global,
     converter: &mut ConverterHandle,
     src: &[u8],
     last: bool,
@@ -89,29 +87,26 @@ pub extern "C" fn jillapun_converter_step(
     progress: &mut ConverterProgress,
     report: &mut Report,
 ) -> u8
-    ensures closed { converter.old.converter ≡ None → result ≡ CLOSED }
-    ensures finished { (c : Converter) → converter.old.converter ≡ Some c
-        → c.is_finished ≡ true → result ≡ FINISHED }
-    ensures converts { (c : Converter) → converter.old.converter ≡ Some c
-        → c.is_finished ≡ false → ConvertsByStep converter.new.converter src.now last dst.old
-        dst.new losses.old losses.new progress.new report.new result }
-    ensures joins { (c : Converter) → converter.old.converter ≡ Some c
-        → c.is_finished ≡ false → JoinsToCalls c converter.new.converter src.now last dst.new
-        losses.new progress.new report.new result }
-    ensures unchanged { IsIdle converter.old.converter
-        → converter.new.converter ≡ converter.old.converter }
-    ensures kept { IsIdle converter.old.converter
+    ensures closed { HoldsNoStep converter.old → result ≡ CLOSED }
+    ensures finished { (v : StepView) → HoldsStep converter.old v → v.is_finished ≡ true
+        → result ≡ FINISHED }
+    ensures steps { (v : StepView) → HoldsStep converter.old v → v.is_finished ≡ false
+        → MakesStep v converter.new src.now last dst.old dst.new losses.old losses.new
+        progress.new report.new result }
+    ensures unchanged { IsIdle converter.old → converter.new ≡ converter.old }
+    ensures kept { IsIdle converter.old
         → (dst.new ≡ dst.old) × (losses.new ≡ losses.old) }
-    ensures nothing { IsIdle converter.old.converter
+    ensures nothing { IsIdle converter.old
         → (progress.new ≡ progress_.NONE) × (report.new ≡ report_.NONE) }
 {
     *progress = ConverterProgress::NONE;
     *report = Report::NONE;
-    let Some(mut held) = converter.take(alloc) else {
-        return CLOSED;
+    let mut held = match converter.opened() {
+        Err(status) => return status,
+        Ok(held) => held,
     };
     let status = convert_step(&mut held, src, last, dst, losses, progress, report);
-    converter.put(held);
+    *converter = ConverterHandle::of(converter.tables.copied(), &held);
     status
 }
 
@@ -125,21 +120,14 @@ fn convert_step(
     progress: &mut ConverterProgress,
     report: &mut Report,
 ) -> u8
-    ensures finished { converter.old.is_finished ≡ true → result ≡ FINISHED }
-    ensures converts { converter.old.is_finished ≡ false → ConvertsByStep (Some converter.new)
-        src.now last dst.old dst.new losses.old losses.new progress.new report.new result }
-    ensures joins { converter.old.is_finished ≡ false → JoinsToCalls converter.old
-        (Some converter.new) src.now last dst.new losses.new progress.new report.new result }
-    ensures unchanged { converter.old.is_finished ≡ true → converter.new ≡ converter.old }
-    ensures kept { converter.old.is_finished ≡ true
-        → (dst.new ≡ dst.old) × (losses.new ≡ losses.old) }
-    ensures nothing { converter.old.is_finished ≡ true
-        → (progress.new ≡ progress.old) × (report.new ≡ report.old) }
+    ensures converts { ConvertsByStep (step_view converter.new) src.now last dst.old dst.new
+        losses.old losses.new progress.new report.new result }
+    ensures joins { JoinsToCalls (step_view converter.old) (step_view converter.new) src.now last
+        dst.new losses.new progress.new report.new result }
+    ensures lists { (step_view converter.new).stream.lists
+        ≡ (step_view converter.old).stream.lists }
 {
     stops_at_first_loss();
-    if converter.is_finished {
-        return FINISHED;
-    }
     let (src, last) = converter.readable(src, last);
     *progress = converter.run(src, last, dst, losses);
     let (status, counts) = converter.tell();

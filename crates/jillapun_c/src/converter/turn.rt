@@ -5,7 +5,7 @@ ghost use Rattle.recode.specs.Converter.{owes};
 ghost use Rattle.jillapun_c.specs.ConverterRuns.{Carries};
 ghost use Rattle.jillapun_c.specs.ConverterTurns.{ConvertsInto, CanTurn, TakesFound, TakesEnd};
 ghost use Rattle.jillapun_c.specs.ConverterTurns.{MakesTurn};
-ghost use Rattle.jillapun_c.specs.Converters.{ConvertsAll, view_in};
+ghost use Rattle.jillapun_c.specs.Converters.{ConvertsAll, step_view};
 ghost use Rattle.jillapun_c.specs.Room.{IsFilled};
 ghost use Rattle.jillapun_c.specs.declared.converter.Stage.TheVariants.{Open};
 
@@ -18,7 +18,7 @@ use recode::{ConverterResult, LogLine};
 impl Converter {
     // Whether a turn can be made: all that was made was handed out, and the conversion goes on.
     fn is_ready(&self) -> bool
-        ensures { IsTrue result ↔ CanTurn self.now }
+        ensures { IsTrue result ↔ CanTurn (step_view self.now) }
     {
         self.holds_nothing() && matches!(self.stage, Stage::Open) && !self.stream.is_over()
     }
@@ -26,10 +26,11 @@ impl Converter {
     // How many of these bytes the limit allows.
     fn allowed(&self, src: &[u8]) -> usize
         ensures within { result ≤ length src.now }
-        ensures allowed { (view_in self.now).state.counts.read + result
-            ≤ (view_in self.now).job.limit }
-        ensures most { result < length src.now → (view_in self.now).state.counts.read + result
-            ≡ (view_in self.now).job.limit }
+        ensures allowed { (step_view self.now).stream.state.counts.read + result
+            ≤ (step_view self.now).stream.job.limit }
+        ensures most { result < length src.now
+            → (step_view self.now).stream.state.counts.read + result
+            ≡ (step_view self.now).stream.job.limit }
     {
         (src.len() as u64).min(self.stream.bytes_left()) as usize
     }
@@ -44,12 +45,12 @@ impl Converter {
         at: usize,
     ) -> (ConverterResult, usize, usize)
         requires at { at ≤ length dst.old }
-        requires ready { CanTurn self.old }
-        requires ended { (view_in self.old).ended ≡ true → (src.now ≡ []) × (last ≡ true) }
-        requires limit { (view_in self.old).state.counts.read + length src.now
-            ≤ (view_in self.old).job.limit }
-        ensures into { ConvertsInto self.old self.new last src.now (drop result.1 src.now)
-            dst.old dst.new at result.2 result.0 }
+        requires ready { CanTurn (step_view self.old) }
+        requires ended { (step_view self.old).stream.ended ≡ true → (src.now ≡ []) × (last ≡ true) }
+        requires limit { (step_view self.old).stream.state.counts.read + length src.now
+            ≤ (step_view self.old).stream.job.limit }
+        ensures into { ConvertsInto (step_view self.old) (step_view self.new) last src.now
+            (drop result.1 src.now) dst.old dst.new at result.2 result.0 }
         ensures within { result.1 ≤ length src.now }
     {
         if dst.len() - at >= 4 {
@@ -67,7 +68,7 @@ impl Converter {
     fn take_found(&mut self, line: LogLine)
         requires room { length self.old.held ≤ 22 }
         requires stage { self.old.stage ≡ Open }
-        ensures { TakesFound self.old self.new line }
+        ensures { TakesFound (step_view self.old) (step_view self.new) line }
     {
         self.loss = Some(Loss::of(line));
         let LogLine::Lost { index, scalar } = line else {
@@ -79,7 +80,12 @@ impl Converter {
                 let len = write_reference(scalar, form, &mut bytes);
                 self.held.push(&bytes[..len]);
             }
-            None => self.stage = Stage::Stopped { index, scalar },
+            None => {
+                self.stage = Stage::Stopped {
+                    index,
+                    scalar: u32::from(scalar),
+                };
+            }
         }
     }
 
@@ -88,7 +94,7 @@ impl Converter {
     fn take_end(&mut self, end: ConverterResult, all: bool)
         requires room { length self.old.held ≤ 22 }
         requires stage { self.old.stage ≡ Open }
-        ensures { TakesEnd self.old self.new end all }
+        ensures { TakesEnd (step_view self.old) (step_view self.new) end all }
     {
         match end {
             ConverterResult::InputEmpty => {
@@ -110,10 +116,10 @@ impl Converter {
         at: usize,
     ) -> (ConverterResult, usize, usize)
         requires at { at ≤ length dst.old }
-        requires ready { CanTurn self.old }
-        requires ended { (view_in self.old).ended ≡ true → (src.now ≡ []) × (last ≡ true) }
-        ensures turns { MakesTurn self.old self.new last src.now (drop result.1 src.now)
-            dst.old dst.new at result.2 result.0 }
+        requires ready { CanTurn (step_view self.old) }
+        requires ended { (step_view self.old).stream.ended ≡ true → (src.now ≡ []) × (last ≡ true) }
+        ensures turns { MakesTurn (step_view self.old) (step_view self.new) last src.now
+            (drop result.1 src.now) dst.old dst.new at result.2 result.0 }
         ensures within { result.1 ≤ length src.now }
     {
         let count = self.allowed(src);
@@ -134,17 +140,19 @@ impl Converter {
         dst: &mut [u8],
         losses: &mut [Loss],
     ) -> ConverterProgress
-        requires { (view_in self.old).ended ≡ true → (src.now ≡ []) × (last ≡ true) }
-        ensures carries { Carries self.old self.new last src.now (drop result.read src.now)
-            (take result.written dst.new) (take result.losses losses.new) }
-        ensures converts { ConvertsAll self.new last (drop result.read src.now) dst.new losses.new
-            result }
+        requires { (step_view self.old).stream.ended ≡ true → (src.now ≡ []) × (last ≡ true) }
+        ensures carries { Carries (step_view self.old) (step_view self.new) last src.now
+            (drop result.read src.now) (take result.written dst.new)
+            (take result.losses losses.new) }
+        ensures converts { ConvertsAll (step_view self.new) last (drop result.read src.now) dst.new
+            losses.new result }
+        ensures lists { (step_view self.new).stream.lists ≡ (step_view self.old).stream.lists }
         ensures read { result.read ≤ length src.now }
         ensures output { IsFilled dst.old dst.new result.written }
         ensures lost { IsFilled losses.old losses.new result.losses }
         ensures fewer { result.wants_room ≡ true → 32 ≤ length dst.new → 0 < length losses.new
-            → length (owes (view_in self.new) (drop result.read src.now))
-            < length (owes (view_in self.old) src.now) }
+            → length (owes (step_view self.new).stream (drop result.read src.now))
+            < length (owes (step_view self.old).stream src.now) }
     {
         let mut progress = ConverterProgress::NONE;
         self.hand_out(dst, losses, &mut progress);

@@ -53,15 +53,15 @@ impl EncoderWords {
     }
 }
 
-// The number that stands for a set.
-fn number_of_set(set: EscapeState) -> u8
+/// The number that stands for a set.
+pub(crate) fn number_of_set(set: EscapeState) -> u8
     ensures { set_at result ≡ Some set }
 {
     set as u8
 }
 
-// The set that a number stands for.
-fn set_of(number: u8) -> Option<EscapeState>
+/// The set that a number stands for.
+pub(crate) fn set_of(number: u8) -> Option<EscapeState>
     ensures { result ≡ set_at number }
 {
     match number {

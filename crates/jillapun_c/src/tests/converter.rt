@@ -1,14 +1,14 @@
 //! Conversions by steps, with results worked by hand.
 
 use crate::converter::handle::ConverterHandle;
+use crate::converter::jillapun_converter_new;
 use crate::converter::progress::ConverterProgress;
 use crate::converter::step::jillapun_converter_step;
-use crate::converter::{jillapun_converter_free, jillapun_converter_new};
 use crate::losses::Loss;
 use crate::report::Report;
 use crate::status::{
-    BAD, CLOSED, DECIMAL, FINISHED, GOES_ON, IN_USE, KEEP, LOSSY, LOST, NOT_READY, OK, STOP,
-    STOPPED, TOO_LONG, UNKNOWN,
+    BAD, CLOSED, DECIMAL, FINISHED, GOES_ON, KEEP, LOSSY, LOST, NOT_READY, OK, STOP, STOPPED,
+    TOO_LONG, UNKNOWN,
 };
 use crate::tables_handle::TablesHandle;
 use crate::tests::euro;
@@ -33,16 +33,7 @@ struct Given {
 fn opened(alloc: Global, from: u8, policy: u8) -> ConverterHandle {
     let mut converter = ConverterHandle::none();
     let tables = euro(alloc);
-    jillapun_converter_new(
-        alloc,
-        tables,
-        from,
-        WINDOWS_1252,
-        KEEP,
-        policy,
-        12,
-        &mut converter,
-    );
+    jillapun_converter_new(tables, from, WINDOWS_1252, KEEP, policy, 12, &mut converter);
     converter
 }
 
@@ -74,7 +65,6 @@ fn by_steps(
     for _ in 0..200 {
         let part = &rest[..chunk.min(rest.len())];
         given.status = jillapun_converter_step(
-            alloc,
             &mut converter,
             part,
             part.len() == rest.len(),
@@ -91,7 +81,6 @@ fn by_steps(
             break;
         }
     }
-    jillapun_converter_free(alloc, &mut converter);
     Ok(given)
 }
 
@@ -160,7 +149,6 @@ fn end_is_told_once(rt: HostRuntime) {
     let mut report = Report::NONE;
     let mut dst = *b"....";
     let status = jillapun_converter_step(
-        alloc,
         &mut converter,
         b"",
         false,
@@ -171,7 +159,6 @@ fn end_is_told_once(rt: HostRuntime) {
     );
     assert_eq!(rt; status, GOES_ON);
     let status = jillapun_converter_step(
-        alloc,
         &mut converter,
         b"abc",
         true,
@@ -183,7 +170,6 @@ fn end_is_told_once(rt: HostRuntime) {
     assert_eq!(rt; (status, progress.read, progress.written), (GOES_ON, 3, 2));
     assert_eq!(rt; progress.wants_room, true);
     let status = jillapun_converter_step(
-        alloc,
         &mut converter,
         b"d",
         false,
@@ -196,7 +182,6 @@ fn end_is_told_once(rt: HostRuntime) {
     assert_eq!(rt; (dst, progress.wants_room), (*b"cb..", false));
     assert_eq!(rt; report.read, 3);
     let status = jillapun_converter_step(
-        alloc,
         &mut converter,
         b"",
         true,
@@ -207,10 +192,8 @@ fn end_is_told_once(rt: HostRuntime) {
     );
     assert_eq!(rt; (status, progress.read, progress.written), (FINISHED, 0, 0));
     assert_eq!(rt; report.read, 0);
-    jillapun_converter_free(alloc, &mut converter);
     let status = jillapun_converter_step(
-        alloc,
-        &mut converter,
+        &mut ConverterHandle::none(),
         b"abc",
         true,
         &mut dst,
@@ -222,32 +205,88 @@ fn end_is_told_once(rt: HostRuntime) {
 }
 
 #[test]
+fn copies_go_on_alone(rt: HostRuntime) {
+    let mut converter = opened(rt.alloc(), UTF_8, DECIMAL);
+    let mut progress = ConverterProgress::NONE;
+    let mut report = Report::NONE;
+    let mut dst = *b"....";
+    // The first two bytes of a euro sign wait, in both.
+    jillapun_converter_step(
+        &mut converter,
+        b"a\xE2\x82",
+        false,
+        &mut dst,
+        &mut [],
+        &mut progress,
+        &mut report,
+    );
+    assert_eq!(rt; (progress.read, progress.written), (3, 1));
+    let mut copy = ConverterHandle {
+        tables: converter.tables.copied(),
+        words: converter.words,
+    };
+    for handle in [&mut converter, &mut copy] {
+        let status = jillapun_converter_step(
+            handle,
+            b"\xAC",
+            true,
+            &mut dst,
+            &mut [],
+            &mut progress,
+            &mut report,
+        );
+        assert_eq!(rt; (status, progress.written, dst[0]), (OK, 1, 0x80));
+        assert_eq!(rt; (report.read, report.characters), (4, 2));
+    }
+}
+
+#[test]
 fn others_are_not_opened(rt: HostRuntime) {
     let alloc = rt.alloc();
-    let none = TablesHandle::none();
     let mut held = opened(alloc, UTF_8, DECIMAL);
     let cases = [
         (euro(alloc), UTF_8, 3, UNKNOWN),
         (euro(alloc), 40, DECIMAL, UNKNOWN),
         (euro(alloc), BIG5, DECIMAL, NOT_READY),
-        (none, UTF_8, DECIMAL, CLOSED),
+        (TablesHandle::none(), UTF_8, DECIMAL, CLOSED),
     ];
     for (tables, from, policy, wanted) in cases {
-        let mut converter = ConverterHandle::none();
         let status = jillapun_converter_new(
-            alloc,
             tables,
             from,
             WINDOWS_1252,
             KEEP,
             policy,
             12,
-            &mut converter,
+            &mut held,
         );
         assert_eq!(rt; status, wanted);
     }
+    // What it held it holds still, and what is opened takes its place.
+    let mut dst = *b"....";
+    let mut progress = ConverterProgress::NONE;
+    let mut report = Report::NONE;
+    let status = jillapun_converter_step(
+        &mut held,
+        b"a",
+        true,
+        &mut dst,
+        &mut [],
+        &mut progress,
+        &mut report,
+    );
+    assert_eq!(rt; (status, dst), (OK, *b"a..."));
     let tables = euro(alloc);
-    let status = jillapun_converter_new(alloc, tables, UTF_8, UTF_8, KEEP, DECIMAL, 12, &mut held);
-    assert_eq!(rt; status, IN_USE);
-    jillapun_converter_free(alloc, &mut held);
+    let status = jillapun_converter_new(tables, UTF_8, UTF_8, KEEP, DECIMAL, 12, &mut held);
+    assert_eq!(rt; status, OK);
+    let status = jillapun_converter_step(
+        &mut held,
+        b"b",
+        true,
+        &mut dst,
+        &mut [],
+        &mut progress,
+        &mut report,
+    );
+    assert_eq!(rt; (status, dst), (OK, *b"b..."));
 }

@@ -1,14 +1,19 @@
 -- Worked rows of `specs/Converter.antt`.
 use Rattle.std.specs.Prelude.{◌≡◌, ℕ, List, [], ◌∷◌, codes, false, map, refl, true}
+use Rattle.std.specs.Borrow.{Bor}
 use Rattle.std.specs.Fmt.{digits}
 use Rattle.std.proofs.Common.{arith}
 use Rattle.encoding_mem.specs.Items.{Byte, LostAt, MalformedAt}
 use Rattle.encoding_mem.specs.Piece.{malformed, text, well_formed}
 use Rattle.encoding_mem.specs.declared.codec.reference.Reference.TheVariants.{Decimal, Hexadecimal}
 use Rattle.recode_log.specs.declared.line.LogLine.TheVariants.{Bad, Lost}
-use Rattle.recode.specs.Converter.{ConverterEndsWith, ConverterView, found_items, is_all_converted}
+use Rattle.encoding_tables.specs.IndexLists.{IndexLists}
+use Rattle.recode.specs.Converter.{ConverterEndsWith, ConverterView, found_items, is_all_converted, saved_job}
+use Rattle.recode.specs.SavedConverters.{job_with}
 use Rattle.recode.specs.State.{State, characters_with, characters_after, text_after}
 use Rattle.recode.specs.declared.converter.ConverterResult.TheVariants.{Found, InputEmpty, OutputFull}
+use Rattle.recode.specs.declared.converter.saved_converter.SavedJob.{SavedJob}
+use Rattle.recode.specs.declared.job.Job.{Job}
 
 -- two bytes at offset 3 are malformed: nothing but their line is found
 malformed_is_found : found_items Decimal (Found (Bad 3 2)) ≡ MalformedAt 3 2 ∷ []
@@ -55,3 +60,10 @@ seven_characters s five none = rw (five, none) refl
 
 five_if_none_wait : (s : State) → s.counts.index ≡ 5 → s.decoder.pieces [] ≡ [] → characters_with s [] ≡ 5
 five_if_none_wait s five none = rw (five, none) refl
+
+-- a job is what its words say with its tables, and its words are those
+words_of_a_job : (w : SavedJob) (tables : Bor IndexLists) → saved_job (job_with w tables) ≡ w
+words_of_a_job w tables = refl
+
+job_of_words : (j : Job) → job_with (saved_job j) j.tables ≡ j
+job_of_words j = refl

@@ -20,8 +20,8 @@ use Rattle.recode.specs.declared.engine.Engine.{Engine}
 use Rattle.recode.specs.declared.job.Job.{Job}
 
 -- of what holds of the codecs of a job there is one proof at most
-pub AreCodecsOf-prop : {D E : Type 0} (view : D → DecoderView) (parts : E → EncoderParts) (j : Job) (c : Engine D E) → IsProp (AreCodecsOf view parts j c)
-AreCodecsOf-prop view parts j c = hlevel (props, AreThere-prop)
+pub codecs-prop : {D E : Type 0} (view : D → DecoderView) (parts : E → EncoderParts) (j : Job) (c : Engine D E) → IsProp (AreCodecsOf view parts j c)
+codecs-prop view parts j c = hlevel (props, AreThere-prop)
 
 -- ---- decoders that read alike are the same to their callers
 

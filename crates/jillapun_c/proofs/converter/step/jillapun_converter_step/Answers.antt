@@ -1,16 +1,28 @@
-use Rattle.std.proofs.Common.{ap, sym, subst, ◌∙◌, Some}
-use Rattle.jillapun_c.specs.ConverterRuns.{JoinsToCalls}
-use Rattle.jillapun_c.specs.declared.converter.Converter.{Converter}
-use Rattle.jillapun_c.proofs.EncodingNumberLemmas.{same_some}
+use Rattle.std.proofs.Common.{◌≡◌, true, subst}
+use Rattle.jillapun_c.specs.ConverterCalls.{MakesStep}
+use Rattle.jillapun_c.specs.Converters.{StepView, step_view}
+use Rattle.jillapun_c.proofs.HeldConverterLemmas.{not_idle, one_held}
 use Rattle.jillapun_c.proofs.converter.step.jillapun_converter_step.Goals as goal
 
-pub returns-clause-converts : goal.returns-clause-converts
-returns-clause-converts c k held live =
-    let taken = same_some _ k (ap Some c.deref_mut.ensures.value ∙ sym c.in-Some.ensures.converter ∙ held) in
-    rw c.put.ensures (c.convert_step-status.ensures.converts (ap (λ (x : Converter). x.is_finished) taken ∙ live))
+pub returns-in-Err-clause-finished : goal.returns-in-Err-clause-finished
+returns-in-Err-clause-finished c v holds ended = (c.in-Err.ensures.finished v holds).1
 
-pub returns-clause-joins : goal.returns-clause-joins
-returns-clause-joins c k held live =
-    let taken = same_some _ k (ap Some c.deref_mut.ensures.value ∙ sym c.in-Some.ensures.converter ∙ held) in
+pub returns-in-Err-clause-steps : goal.returns-in-Err-clause-steps
+returns-in-Err-clause-steps c v holds live = let ended : v.is_finished ≡ true = (c.in-Err.ensures.finished v holds).0 in absurd (cc)
+
+pub returns-clause-steps : goal.returns-clause-steps
+returns-clause-steps c v holds live =
+    let h = c.args.converter.now in
     let did = c.convert_step-status in
-    rw c.put.ensures (subst (λ (x : Converter). JoinsToCalls x (Some did.new.converter) c.args.src.now c.args.last did.new.dst did.new.losses did.new.progress did.new.report did.result) taken (did.ensures.joins (ap (λ (x : Converter). x.is_finished) taken ∙ live)))
+    subst (λ (x : StepView). MakesStep x c.of.result c.args.src.now c.args.last c.args.dst.now did.new.dst c.args.losses.now did.new.losses did.new.progress did.new.report did.result)
+    (one_held h.tables.tables h.words (step_view c.in-Ok.held) v c.in-Ok.ensures.0 holds)
+    (record { converter = step_view did.new.converter; holds = c.of.ensures; converts = did.ensures.converts; joins = did.ensures.joins })
+
+pub returns-clause-unchanged : goal.returns-clause-unchanged
+returns-clause-unchanged c idle = not_idle c.args.converter.now (step_view c.in-Ok.held) c.in-Ok.ensures.0 c.in-Ok.ensures.1 idle
+
+pub returns-clause-kept : goal.returns-clause-kept
+returns-clause-kept c idle = not_idle c.args.converter.now (step_view c.in-Ok.held) c.in-Ok.ensures.0 c.in-Ok.ensures.1 idle
+
+pub returns-clause-nothing : goal.returns-clause-nothing
+returns-clause-nothing c idle = not_idle c.args.converter.now (step_view c.in-Ok.held) c.in-Ok.ensures.0 c.in-Ok.ensures.1 idle
