@@ -5,6 +5,7 @@ import ctypes
 import doctest
 import io
 import os
+import re
 import subprocess
 import sys
 import tempfile
@@ -268,6 +269,14 @@ class Streams(unittest.TestCase):
         self.assertEqual(library.LOSS.size, ctypes.sizeof(library.Loss))
         loss = library.Loss(1 << 40, 0x10FFFF, library.LOST)
         self.assertEqual(library.LOSS.unpack(bytes(loss)), (1 << 40, 0x10FFFF, library.LOST))
+
+    def test_converter(self) -> None:
+        """A converter has as many bytes as the header says, if that stands beside the package."""
+        header = Path(__file__).resolve().parents[2] / "include" / "jillapun.h"
+        if not header.is_file():
+            self.skipTest("there is no header here")
+        said = re.search(r"It takes (\d+) bytes\.\n \*/\ntypedef struct \{[^}]*\} jillapun_converter;", header.read_text())
+        self.assertEqual(said and int(said[1]), ctypes.sizeof(jillapun._library.Converter))
 
 
 class Threads(unittest.TestCase):

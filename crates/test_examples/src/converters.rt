@@ -11,7 +11,8 @@ ghost use Rattle.recode.specs.declared.job.Policy.{Policy};
 ghost use Rattle.test_examples.specs.Calls.{EndsTurn, GainsItems, HasValidFound, PassesOn};
 
 use encoding_front::write_reference;
-use recode::{Converter, ConverterResult, Job, LogLine, Policy, Reference, Report};
+use recode::laws::resumed_converters_go_on;
+use recode::{Converter, ConverterResult, Job, LogLine, Policy, Reference, Report, Tables};
 use std::alloc::AllocError;
 
 // The form of the references that a policy writes.
@@ -122,8 +123,18 @@ fn convert_part(
     }
 }
 
+// A converter that goes on from what was saved of another one, as that one would have.
+fn continued<'t>(converter: &Converter<'_>, tables: &'t Tables) -> Converter<'t>
+    requires { (converter_view converter.now).lists ≡ tables.now }
+    ensures { converter_view result ≡ converter_view converter.now }
+{
+    resumed_converters_go_on();
+    Converter::resumed(converter.saved(), tables)
+}
+
 /// Converts an input that comes one byte at a time, and adds to the ends of an output and a log
-/// what the job makes of it. An `Err` says that no memory was left.
+/// what the job makes of it. Between two bytes nothing is kept but what a converter saves. An
+/// `Err` says that no memory was left.
 ///
 /// The first condition is tested by `Job::is_valid`.
 pub(crate) fn convert_singly(
@@ -145,6 +156,7 @@ pub(crate) fn convert_singly(
     let mut converter = Converter::new(job);
     'bytes: for &byte in input {
         convert_part(&mut converter, &[byte], false, form, output, log)?;
+        converter = continued(&converter, job.tables);
     }
     convert_part(&mut converter, &[], true, form, output, log)?;
     match converter.report() {
