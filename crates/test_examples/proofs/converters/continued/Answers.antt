@@ -1,4 +1,4 @@
-use Rattle.std.proofs.Common.{refl, sym, ◌∙◌}
+use Rattle.std.proofs.Common.{sym, ◌∙◌}
 use Rattle.recode.specs.calls.ConverterView.{converter_view}
 use Rattle.test_examples.proofs.converters.continued.Goals as goal
 

@@ -1,4 +1,5 @@
-use Rattle.std.proofs.Common.{◌↔◌, ◌∙◌, Bool, IsTrue, List, ℕ, [], ◌∷◌, false, get_or, subst, sym, take}
+use Rattle.std.proofs.Common.{◌↔◌, ◌∙◌, ◌+◌, ap, Bool, IsTrue, List, ℕ, [], ◌∷◌, false, get_or, subst, sym, take}
+use Rattle.recode.specs.Converter.{ConverterView}
 use Rattle.recode.specs.Job.{Faithful}
 use Rattle.std.proofs.lemmas.List.{take_all, take_more}
 use Rattle.recode.specs.calls.ConverterView.{converter_view}
@@ -22,14 +23,16 @@ bytes-preserved c =
     let i = c.bytes.byte-index in
     let x = c.args.input.now in
     let next = take_more x i 0 c.bytes-test.true in
-    rw c.continued-converter.ensures (record {
-      passed = subst (λ (bytes : List ℕ). PassesOn (converter_view c.new-converter.result) (converter_view new.converter) false bytes [] c.args.output.now.items new.output.items c.args.log.now.items new.log.items)
+    let same = c.continued-converter.ensures in
+    record {
+      passed = subst (λ (v : ConverterView). PassesOn (converter_view c.new-converter.result) v false (take (i + 1) x) [] c.args.output.now.items new.output.items c.args.log.now.items new.log.items) (sym same)
+          (subst (λ (bytes : List ℕ). PassesOn (converter_view c.new-converter.result) (converter_view new.converter) false bytes [] c.args.output.now.items new.output.items c.args.log.now.items new.log.items)
           (sym next)
           (passes_more (converter_view c.new-converter.result) (converter_view c.bytes.converter) (converter_view new.converter) false (take i x) (get_or x i 0 ∷ [])
-          c.args.output.now.items c.bytes.output.items new.output.items c.args.log.now.items c.bytes.log.items new.log.items c.bytes.invariant.passed part.law);
-      over = part.ends.over;
-      ended = part.ends.ended;
-    })
+          c.args.output.now.items c.bytes.output.items new.output.items c.args.log.now.items c.bytes.log.items new.log.items c.bytes.invariant.passed part.law));
+      over = ap (λ (v : ConverterView). v.over) same ∙ part.ends.over;
+      ended = ap (λ (v : ConverterView). v.ended) same ∙ part.ends.ended;
+    }
 
 pub continued-converter-requires : goal.continued-converter-requires
 continued-converter-requires c = c.in_ok-convert_part.ensures.law.law.lists ∙ c.bytes.invariant.passed.law.lists ∙ c.new-converter.ensures.lists
