@@ -246,14 +246,14 @@ def said(folder, *words):
 
 
 class Crate:
-    """A crate's copies, in which its edits are tried, and what came of each."""
+    """A crate as it is, its copies, in which its edits are tried, and what came of each."""
 
-    def __init__(self, name, folders, slots, runs, record):
-        self.name, self.folder, self.slots, self.runs, self.record = name, folders[0], slots, runs, record
+    def __init__(self, name, folder, copies, slots, runs, record):
+        self.name, self.folder, self.slots, self.runs, self.record = name, folder, slots, runs, record
         self.told, self.right, self.open = [], {}, {}
-        self.free, self.pool = queue.SimpleQueue(), concurrent.futures.ThreadPoolExecutor(len(folders))
-        for folder in folders:
-            self.free.put(folder)
+        self.free, self.pool = queue.SimpleQueue(), concurrent.futures.ThreadPoolExecutor(len(copies))
+        for copy in copies:
+            self.free.put(copy)
 
     @contextlib.contextmanager
     def copy(self, texts, aside=None):
@@ -550,7 +550,8 @@ def try_crate(top, crate, edits, given, *how):
     count, kept = min(given.jobs, 1 + len(edits) // EDITS_OF_A_COPY), [] if given.runs else below(crate)
     with tempfile.TemporaryDirectory() as work:
         copies = [os.path.join(copied(top, os.path.join(work, str(number)), kept), "crates", crate) for number in range(count)]
-        tried = Crate(crate, copies, *how)
+        # No edit is read from a copy: another one may stand in it meanwhile.
+        tried = Crate(crate, os.path.join(top, "crates", crate), copies, *how)
         if given.readable:
             tried.readable(edits)
         elif given.runs:
