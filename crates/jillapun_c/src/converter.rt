@@ -73,6 +73,7 @@ impl Converter {
     }
 
     /// What it keeps between calls.
+    #[inline(always)]
     pub(crate) fn saved(&self) -> SavedStep
         ensures { SavesStep result (step_view self.now) }
     {
@@ -89,6 +90,7 @@ impl Converter {
     }
 
     /// One that goes on from what was saved of one whose job had these tables.
+    #[inline(always)]
     pub(crate) fn resumed(saved: SavedStep, tables: &'static Tables) -> Converter
         requires { CanGoOnFrom tables.now saved.stream }
         ensures saves { SavesStep saved (step_view result) }

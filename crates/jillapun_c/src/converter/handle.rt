@@ -35,6 +35,7 @@ impl ConverterHandle {
     }
 
     /// One that holds a converter, whose job has these tables.
+    #[inline(always)]
     pub(crate) fn of(tables: TablesHandle, converter: &Converter) -> ConverterHandle
         requires { tables.tables ≡ Some (step_view converter.now).stream.lists }
         ensures { HoldsStep result (step_view converter.now) }
@@ -47,6 +48,7 @@ impl ConverterHandle {
 
     /// The converter that it holds, as one that goes on. Else the status: `CLOSED`, it holds no
     /// converter; `FINISHED`, an end was reported.
+    #[inline(always)]
     pub(crate) fn opened(&self) -> Result<Converter, u8>
         ensures { MatchResult result
             (λ c. HoldsStep self.now (step_view c) × (c.is_finished ≡ false))

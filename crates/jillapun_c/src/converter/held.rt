@@ -34,6 +34,7 @@ impl Held {
     }
 
     /// The first of some bytes.
+    #[inline(always)]
     pub(crate) fn of(bytes: [u8; 32], count: usize) -> Held
         ensures { result ≡ take count bytes }
     {
@@ -44,6 +45,7 @@ impl Held {
     }
 
     /// Bytes, and how many of them wait: these are the first.
+    #[inline(always)]
     pub(crate) fn parts(&self) -> ([u8; 32], usize)
         ensures { take result.1 result.0 ≡ self.now }
     {

@@ -47,6 +47,7 @@ pub struct JobWords {
 
 impl JobWords {
     // Those of a job.
+    #[inline(always)]
     fn of(job: SavedJob) -> JobWords
         ensures { saved_job_in result ≡ Some job }
     {
@@ -60,6 +61,7 @@ impl JobWords {
     }
 
     // The job, if each number stands for something.
+    #[inline(always)]
     fn saved(self) -> Option<SavedJob>
         ensures { result ≡ saved_job_in self }
     {
@@ -88,6 +90,7 @@ pub struct VerdictWords {
 
 impl VerdictWords {
     // Those of a verdict.
+    #[inline(always)]
     fn of(verdict: SavedVerdict) -> VerdictWords
         ensures { saved_verdict_in result ≡ Some verdict }
     {
@@ -99,6 +102,7 @@ impl VerdictWords {
     }
 
     // The verdict, if its reader's numbers stand for something.
+    #[inline(always)]
     fn saved(self) -> Option<SavedVerdict>
         ensures { result ≡ saved_verdict_in self }
     {
@@ -124,6 +128,7 @@ pub struct TextWords {
 }
 
 // How a call of a decoder ended, as a number and two lengths.
+#[inline(always)]
 fn numbers_of_answer(answer: Option<DecoderResult>) -> (u8, u8, u8)
     ensures { answer_at result.0 result.1 result.2 ≡ Some answer }
 {
@@ -136,6 +141,7 @@ fn numbers_of_answer(answer: Option<DecoderResult>) -> (u8, u8, u8)
 }
 
 // How the call ended, if the number stands for something.
+#[inline(always)]
 fn answer_of(number: u8, size: u8, after: u8) -> Option<Option<DecoderResult>>
     ensures { result ≡ answer_at number size after }
 {
@@ -150,6 +156,7 @@ fn answer_of(number: u8, size: u8, after: u8) -> Option<Option<DecoderResult>>
 
 impl TextWords {
     // Those of a text.
+    #[inline(always)]
     fn of(text: SavedText) -> TextWords
         ensures { saved_text_in result ≡ Some text }
     {
@@ -166,6 +173,7 @@ impl TextWords {
     }
 
     // The text, if the number stands for something.
+    #[inline(always)]
     fn saved(self) -> Option<SavedText>
         ensures { result ≡ saved_text_in self }
     {
@@ -200,6 +208,7 @@ pub struct StreamWords {
 
 impl StreamWords {
     // Those of a conversion, by what was saved of it.
+    #[inline(always)]
     fn of(stream: SavedConverter) -> StreamWords
         ensures { saved_stream_in result ≡ Some stream }
     {
@@ -220,6 +229,7 @@ impl StreamWords {
     }
 
     // What was saved of the conversion, if the numbers stand for something.
+    #[inline(always)]
     fn saved(self) -> Option<SavedConverter>
         ensures { result ≡ saved_stream_in self }
     {
@@ -258,6 +268,7 @@ pub struct StageWords {
 
 impl StageWords {
     // Those of a stage.
+    #[inline(always)]
     fn of(stage: Stage) -> StageWords
         ensures { saved_stage_in result ≡ Some stage }
     {
@@ -274,6 +285,7 @@ impl StageWords {
     }
 
     // The stage, if the number stands for one.
+    #[inline(always)]
     fn saved(self) -> Option<Stage>
         ensures { result ≡ saved_stage_in self }
     {
@@ -364,6 +376,7 @@ impl ConverterWords {
     }
 
     /// Those of a converter, by what was saved of it.
+    #[inline(always)]
     pub(crate) fn of(saved: SavedStep) -> ConverterWords
         ensures { saved_step_in result ≡ Some saved }
     {
@@ -382,6 +395,7 @@ impl ConverterWords {
     }
 
     /// What was saved of the converter: `None` if there is none, or if a number stands for nothing.
+    #[inline(always)]
     pub(crate) fn saved(self) -> Option<SavedStep>
         ensures { result ≡ saved_step_in self }
     {

@@ -80,6 +80,7 @@ pub struct SavedConverter {
 
 impl SavedJob {
     // What a job says.
+    #[inline(always)]
     fn of(job: &Job<'_>) -> SavedJob
         ensures { result ≡ saved_job job.now }
     {
@@ -93,6 +94,7 @@ impl SavedJob {
     }
 
     // The job with these tables.
+    #[inline(always)]
     fn with(self, tables: &Tables) -> Job<'_>
         ensures { result ≡ job_with self tables.entry }
     {
@@ -109,6 +111,7 @@ impl SavedJob {
 
 impl<'t> Converter<'t> {
     /// What this converter keeps between calls, as it stands. The converter itself stays as it is.
+    #[inline(always)]
     pub fn saved(&self) -> SavedConverter
         ensures { SavesConverter result (converter_view self.now) }
     {
@@ -140,6 +143,7 @@ impl<'t> Converter<'t> {
     ///
     /// The condition is what `saved` promises of a converter whose job had these `tables`: its
     /// caller keeps them together.
+    #[inline(always)]
     pub fn resumed(saved: SavedConverter, tables: &'t Tables) -> Self
         requires { CanGoOnFrom tables.now saved }
         ensures saves { SavesConverter saved (converter_view result) }
