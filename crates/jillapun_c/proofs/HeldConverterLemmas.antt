@@ -1,18 +1,17 @@
 -- The converter that a handle holds, as its calls see it.
-use Rattle.std.proofs.Common.{◌≡◌, true, false, Option, None, Some, refl, sym, ◌∙◌, ap, subst, take}
-use Rattle.std.proofs.Math.Logic.{∥∥₁_elim, ∥∥₁_map}
+use Rattle.std.proofs.Common.{◌≡◌, true, false, Option, Some, sym, ◌∙◌, ap, subst, take}
+use Rattle.std.proofs.Math.Logic.{∥∥₁_map}
 use Rattle.encoding_tables.specs.IndexLists.{IndexLists}
 use Rattle.recode.specs.Converter.{ConverterView}
 use Rattle.recode.specs.SavedConverters.{CanGoOnFrom, SavesConverter}
 use Rattle.recode.specs.laws.SavedConverters.{one_converter}
 use Rattle.jillapun_c.proofs.EncodingNumberLemmas.{same_some}
-use Rattle.jillapun_c.specs.ConverterCalls.{HoldsStep, IsIdle, TellsWhyIdle}
+use Rattle.jillapun_c.specs.ConverterCalls.{HoldsStep, IsIdle}
 use Rattle.jillapun_c.specs.ConverterWords.{HoldsConverter, IsSoundConverter, SavesStep, saved_step_in}
 use Rattle.jillapun_c.specs.Converters.{StepView}
 use Rattle.jillapun_c.specs.declared.converter.handle.ConverterHandle.{ConverterHandle}
 use Rattle.jillapun_c.specs.declared.converter.words.ConverterWords.{ConverterWords}
 use Rattle.jillapun_c.specs.declared.converter.words.SavedStep.{SavedStep}
-use Rattle.jillapun_c.specs.declared.status.TheConstants.{CLOSED, FINISHED}
 
 -- ---- what a handle holds
 
@@ -44,21 +43,6 @@ goes_on_from tables words w lists sound is at = ∥∥₁_map {B = (v : Converte
   same_some k.0.stream.lists lists (sym k.1.tables_are ∙ at),
   (saves_held tables words w k.0 is k.1).stream,
 ))
-
--- and it has tables
-pub has_tables : (tables : Option IndexLists) (words : ConverterWords) (w : SavedStep) → IsSoundConverter tables words → saved_step_in words ≡ Some w → tables ≡ None → ⊥
-has_tables tables words w sound is none = ∥∥₁_elim (sound w is) (λ a b. absurd a) (λ k. let at : tables ≡ Some k.0.stream.lists = k.1.tables_are in cc)
-
--- ---- why there is nothing to convert
-
-pub closed_why : (h : ConverterHandle) → saved_step_in h.words ≡ None → TellsWhyIdle h CLOSED
-closed_why h none = record { closed = λ _. refl; finished = λ v holds. let is : saved_step_in h.words ≡ Some holds.saved = holds.is in absurd (cc) }
-
-pub finished_why : (h : ConverterHandle) (w : SavedStep) → saved_step_in h.words ≡ Some w → w.is_finished ≡ true → TellsWhyIdle h FINISHED
-finished_why h w is ended = record {
-  closed = λ none. absurd (cc);
-  finished = λ v holds. (ap (λ (x : StepView). x.is_finished) (saves_held h.tables.tables h.words w v is holds).is ∙ ended, refl);
-}
 
 -- a converter that goes on is none whose end was reported
 pub not_idle : {X : Type 0} (h : ConverterHandle) (v : StepView) → HoldsStep h v → v.is_finished ≡ false → IsIdle h → X

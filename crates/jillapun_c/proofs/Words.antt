@@ -1,9 +1,9 @@
 -- The machine values of pairs: a pointer and an allocator, a pointer and a truth value. Assumes `Logic`.
-use Rattle.std.proofs.Common.{◌≡◌, ◌∙◌, ℕ, List, [], ◌∷◌, ◌++◌, refl, lit<}
+use Rattle.std.proofs.Common.{◌≡◌, ◌∙◌, List, [], ◌∷◌, ◌++◌, refl, lit<}
 use mathlib.Core.Bool.{Bool}
 use seplogic.Ra.Ura.{Ura}
-use mir.Syntax.{Ty, tnil, tcons, ty_ptr, ty_bool, ty_struct}
-use mir.Val.{Val, vptr, vbool, vstruct, vcons, vnil, of_list, has_ty}
+use mir.Syntax.{tnil, tcons, ty_ptr, ty_bool, ty_struct}
+use mir.Val.{Val, vbool, vstruct, vcons, vnil, of_list}
 use base.Fml.{Fml}
 use base.Logic.{ent, emp}
 use types.Logic.{Logic, sem}
@@ -11,15 +11,11 @@ use denote.Builtin.{RawPtr, bool}
 use denote.RawPtr.{Ptr, block_ptr, null_ptr, ptr_val}
 use denote.Shadow.{shadow, makes_shadow}
 use denote.Struct.Struct.{Struct}
-use Rattle.std.proofs.ResultValues.{and_tt}
 use Rattle.std.proofs.cell.Inside.{Good}
 
 -- a struct of two fields
 abbrev pub pair : Val → Val → Val
 pair v w = vstruct (vcons v (vcons w vnil))
-
-pub pair_good : (τ : Ty) (b o : ℕ) (v : Val) → Good τ v → Good (ty_struct [] (tcons ty_ptr (tcons τ tnil))) (pair (vptr b o) v)
-pair_good τ b o v good = (and_tt (has_ty τ v) good.0, (tt, (good.1, tt)))
 
 pub address_good : (p : Ptr) → Good ty_ptr (ptr_val p)
 address_good (block_ptr b o) = (tt, tt)

@@ -33,8 +33,9 @@ owed_after waiting s r = trace_from (reference_form s.policy) s.coding s.set (s.
 abbrev pub WillBeKeptAfter : List Piece → State → List ℕ → Type 0
 WillBeKeptAfter waiting s r = IsFaithfulFor (reference_form s.policy) s.verdict s.coding s.set (waiting ++ s.decoder.pieces r)
 
--- A converter as its callers know it: what its job says, and the indexes of that; where the conversion stands; the pieces that are decoded and wait to be
--- written; whether the end was read, and all that is left is to write what waits; and whether all is written.
+-- A converter as its callers know it: what its job says, and the indexes of that; where the conversion stands; the pieces
+-- that are decoded and wait to be written; whether the end was read, and all that is left is to write what waits; and
+-- whether all is written.
 pub record ConverterView : Type 0 where
   pub job : SavedJob
   pub lists : IndexLists
