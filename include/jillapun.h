@@ -475,15 +475,12 @@ typedef struct {
     bool private_faithful;
 } jillapun_verdict_words;
 
-/** The text that waits to be encoded, for calls of this library alone. */
+/** How a call of a decoder ended, for calls of this library alone. */
 typedef struct {
-    size_t private_from;
-    size_t private_to;
-    uint8_t private_answer;
+    uint8_t private_kind;
     uint8_t private_size;
     uint8_t private_after;
-    uint8_t private_bytes[1024];
-} jillapun_text_words;
+} jillapun_answer_words;
 
 /** What a conversion keeps, for calls of this library alone. */
 typedef struct {
@@ -495,10 +492,10 @@ typedef struct {
     jillapun_job_words private_job;
     jillapun_decoder_words private_decoder;
     jillapun_verdict_words private_verdict;
+    jillapun_answer_words private_answer;
     uint8_t private_set;
     bool private_ended;
     bool private_over;
-    jillapun_text_words private_text;
 } jillapun_stream_words;
 
 /** What a converter keeps between calls, for calls of this library alone. */
@@ -506,7 +503,6 @@ typedef struct {
     bool private_is_there;
     bool private_is_finished;
     bool private_has_loss;
-    uint8_t private_policy;
     jillapun_loss private_loss;
     jillapun_stage_words private_stage;
     size_t private_held_len;
@@ -520,11 +516,13 @@ typedef struct {
  * on from here, and nothing has to be freed. Nothing but this library, or a copy of what it
  * wrote, may be written into it. One thread at a time.
  *
- * It takes 1248 bytes.
+ * It takes 1240 bytes.
  */
 typedef struct {
     jillapun_tables private_tables;
     jillapun_converter_words private_words;
+    size_t private_text_len;
+    uint8_t private_text[1024];
 } jillapun_converter;
 
 /** What a call of a converter did. */
@@ -547,12 +545,12 @@ typedef struct {
 static_assert(sizeof(jillapun_tables) == 16, "the size of jillapun_tables");
 static_assert(sizeof(jillapun_decoder) == 40, "the size of jillapun_decoder");
 static_assert(sizeof(jillapun_encoder) == 24, "the size of jillapun_encoder");
-static_assert(sizeof(jillapun_converter) == 1248, "the size of jillapun_converter");
+static_assert(sizeof(jillapun_converter) == 1240, "the size of jillapun_converter");
 #elif defined(__STDC_VERSION__) && __STDC_VERSION__ >= 201112L
 _Static_assert(sizeof(jillapun_tables) == 16, "the size of jillapun_tables");
 _Static_assert(sizeof(jillapun_decoder) == 40, "the size of jillapun_decoder");
 _Static_assert(sizeof(jillapun_encoder) == 24, "the size of jillapun_encoder");
-_Static_assert(sizeof(jillapun_converter) == 1248, "the size of jillapun_converter");
+_Static_assert(sizeof(jillapun_converter) == 1240, "the size of jillapun_converter");
 #endif
 
 /**
@@ -634,9 +632,8 @@ size_t jillapun_needs(uint8_t encoding, size_t place, uint8_t *name, size_t name
 
 /**
  * Whether tables hold all indexes that an encoding needs: returns `JILLAPUN_OK`;
- * `JILLAPUN_NOT_READY`, one is missing; `JILLAPUN_UNKNOWN`, no encoding has the number;
- * `JILLAPUN_CLOSED`, there are no tables. UTF-8, UTF-16BE, UTF-16LE, replacement and
- * x-user-defined need none.
+ * `JILLAPUN_NOT_READY`, one is missing; `JILLAPUN_UNKNOWN`, no encoding has the number. UTF-8,
+ * UTF-16BE, UTF-16LE, replacement and x-user-defined need none.
  */
 uint8_t jillapun_tables_is_ready(jillapun_tables tables, uint8_t encoding);
 
@@ -1066,9 +1063,9 @@ uint8_t jillapun_encode(jillapun_tables tables, uint8_t encoding, const uint8_t 
  *   reference, and its record is the last.
  * - `JILLAPUN_TOO_LONG`: `src` is longer than the limit.
  * - `JILLAPUN_UNKNOWN`: a number stands for nothing. `JILLAPUN_NOT_READY`: an index that one of
- *   the encodings needs is not in the tables. `JILLAPUN_CLOSED`: the handle has no tables.
+ *   the encodings needs is not in the tables.
  *
- * At the last four nothing is written, and all of the report is 0.
+ * At the last three nothing is written, and all of the report is 0.
  *
  * No memory is taken. What does not fit into `dst` and `losses` is converted all the same, for
  * its length.
@@ -1085,8 +1082,8 @@ uint8_t jillapun_convert(jillapun_tables tables, uint8_t from, uint8_t to, uint8
  * `jillapun_convert`. What `out` held is overwritten, whether or not its end was reported.
  *
  * Returns `JILLAPUN_OK`, and `out` holds the converter. Else nothing is made, and `out` stays
- * as it is: `JILLAPUN_CLOSED`, there are no tables; `JILLAPUN_UNKNOWN`, a number stands for
- * nothing; `JILLAPUN_NOT_READY`, an index that one of the encodings needs is not in the tables.
+ * as it is: `JILLAPUN_UNKNOWN`, a number stands for nothing; `JILLAPUN_NOT_READY`, an index
+ * that one of the encodings needs is not in the tables.
  */
 uint8_t jillapun_converter_new(jillapun_tables tables, uint8_t from, uint8_t to, uint8_t mark,
     uint8_t policy, uint64_t limit, jillapun_converter *out);

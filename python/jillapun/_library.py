@@ -54,7 +54,7 @@ class Converter(ctypes.Structure):
     """A conversion by steps: there is nothing to free. What it keeps is the library's own; `include/jillapun.h` says how
     many bytes that is."""
 
-    _fields_ = [("tables", Tables), ("words", Long * 154)]
+    _fields_ = [("tables", Tables), ("words", Long * 153)]
 
 
 class Loss(ctypes.Structure):

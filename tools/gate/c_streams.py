@@ -122,7 +122,7 @@ class Streams:
             self.must("tables_new", self.library.jillapun_tables_new(self.files(files), tables, fault), status)
             self.same("fault", name, (fault.file, fault.line), (1, line))
             is_ready = self.library.jillapun_tables_is_ready(tables, 0)
-            self.must("is_ready", is_ready, "CLOSED")
+            self.must("is_ready", is_ready, "NOT_READY")
         self.must("tables_new", self.library.jillapun_tables_new(self.files(good), tables, fault))
         for number in range(len(self.encodings)):
             self.must("is_ready", self.library.jillapun_tables_is_ready(tables, number))
@@ -305,14 +305,17 @@ class Streams:
         for name, number in self.numbers.items():
             handle = self.used_decoder()
             before = bytes(handle)
-            needs_none = self.library.jillapun_needs(number, 0, bytearray(40)) == 0
+            needs_none = self.needs_no_index(number)
             self.must("decoder_new of %s" % name, new_decoder(none, number, 0, handle), "OK" if needs_none else "NOT_READY")
+            is_ready = self.library.jillapun_tables_is_ready(none, number)
+            self.must("is_ready of %s" % name, is_ready, "OK" if needs_none else "NOT_READY")
             self.same("decoder_new", name, bytes(handle) == before, not needs_none)
             handle, output = self.handle_of("ISO-2022-JP"), self.library.jillapun_output_encoding(number)
             before = bytes(handle)
-            needs_none = self.library.jillapun_needs(output, 0, bytearray(40)) == 0
+            needs_none = self.needs_no_index(output)
             self.must("encoder_new of %s" % name, new_encoder(none, number, handle), "OK" if needs_none else "NOT_READY")
             self.same("encoder_new", name, bytes(handle) == before, not needs_none)
+            self.converted_without_tables(none, number, name)
         for number, mark in ((len(self.numbers), 0), (0, len(MARKS))):
             handle = self.used_decoder()
             before = bytes(handle)
@@ -329,6 +332,26 @@ class Streams:
             self.must("to_utf8", self.library.jillapun_decoder_decode_to_utf8(handle, data, room, True, progress))
             wanted = data.decode("utf-16" if data[0] > 0xEF else "utf-8-sig", "replace").encode()
             self.same("without tables", (name, data), bytes(room[: progress.written]), wanted)
+
+    def converted_without_tables(self, none, number, name):
+        """So is a conversion, if neither of its encodings needs one."""
+        words = none, number, self.numbers["UTF-8"], MARKS["keep"], POLICIES["decimal"], NO_LIMIT
+        wanted = "OK" if self.needs_no_index(number) else "NOT_READY"
+        room, losses, report = bytearray(9), (self.library.struct("Loss") * 1)(), self.library.struct("Report")()
+        self.must("convert from %s" % name, self.library.jillapun_convert(*words, b"", room, losses, report), wanted)
+        handle = self.library.struct("ConverterHandle")()
+        before = bytes(handle)
+        self.must("converter_new from %s" % name, self.library.jillapun_converter_new(*words, handle), wanted)
+        self.same("converter_new", name, bytes(handle) != before, wanted == "OK")
+
+    def needs_no_index(self, number):
+        return self.library.jillapun_needs(number, 0, bytearray(40)) == 0
+
+    def tables_for(self, numbers):
+        """Tables for a conversion: often none, if its encodings, the first two of these numbers, need no index."""
+        output = self.library.jillapun_output_encoding(numbers[1])
+        can_do_without = self.needs_no_index(numbers[0]) and self.needs_no_index(output)
+        return self.library.struct("TablesHandle")() if can_do_without and self.random.random() < 0.5 else self.tables
 
     def told_length(self, call, status, length):
         """A length that a call tells beside its status."""
@@ -590,7 +613,7 @@ class Streams:
         """A conversion by steps, with little room in some calls: the last status, the output, the losses and the report."""
         new, step, loss = self.library.jillapun_converter_new, self.library.jillapun_converter_step, self.library.struct("Loss")
         handle, report = self.library.struct("ConverterHandle")(), self.library.struct("Report")()
-        self.must("converter_new", new(self.tables, *numbers, limit, handle))
+        self.must("converter_new", new(self.tables_for(numbers), *numbers, limit, handle))
         progress, most, losses = self.library.struct("ConverterProgress")(), self.random.choice((1, 9, 5000)), []
         # The end comes with the last bytes, or after them.
         output, parts = bytearray(), [*parts, b""] if not parts or self.random.random() < 0.5 else [*parts]
@@ -641,7 +664,7 @@ class Streams:
         room = bytearray(len(run.output) + self.random.randint(0, 5))
         records = (self.library.struct("Loss") * (len(losses) + 1))()
         report = self.library.struct("Report")()
-        status = self.library.jillapun_convert(self.tables, *numbers, NO_LIMIT, data, room, records, report)
+        status = self.library.jillapun_convert(self.tables_for(numbers), *numbers, NO_LIMIT, data, room, records, report)
         self.same("convert", (job, data), status, NUMBERS[wanted])
         got = [(it.kind, it.place, it.number) for it in records[: report.losses]]
         self.same("output", (job, data), bytes(room[: report.written]), bytes(run.output))
@@ -649,13 +672,13 @@ class Streams:
         self.same("report", (job, data), told_in(report), self.told(run))
         if run.output:
             room = bytearray(b"\x5a" * self.random.randrange(len(run.output)))
-            status = self.library.jillapun_convert(self.tables, *numbers, NO_LIMIT, data, room, records, report)
+            status = self.library.jillapun_convert(self.tables_for(numbers), *numbers, NO_LIMIT, data, room, records, report)
             front = os.path.commonprefix([bytes(room), bytes(run.output)])
             got = status, report.written, report.losses, set(room[len(front) :]) <= {0x5A}
             self.same("too small a room", (job, data), got, (NUMBERS["ROOM"], len(run.output), len(losses), True))
         if losses:
             few, room = (self.library.struct("Loss") * self.random.randrange(len(losses)))(), bytearray(len(run.output))
-            status = self.library.jillapun_convert(self.tables, *numbers, NO_LIMIT, data, room, few, report)
+            status = self.library.jillapun_convert(self.tables_for(numbers), *numbers, NO_LIMIT, data, room, few, report)
             got = [(it.kind, it.place, it.number) for it in few]
             front = os.path.commonprefix([got, losses])
             wanted = NUMBERS["ROOM"], len(run.output), len(losses), [(0, 0, 0)] * (len(got) - len(front))

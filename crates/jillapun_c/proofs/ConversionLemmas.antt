@@ -2,7 +2,7 @@
 use Rattle.std.proofs.Common.{◌≡◌, ◌+◌, ◌<◌, ◌≤◌, ℕ, Bool, true, false, List, length, inl, inr, refl, arith}
 use Rattle.recode.specs.declared.job.Job.{Job}
 use Rattle.jillapun_c.specs.ConverterRuns.{HasConverted, IsAtStage}
-use Rattle.jillapun_c.specs.Converters.{StepView, ConvertsAll, HoldsNothing, TellsStage, TellsStatus, view_in}
+use Rattle.jillapun_c.specs.Converters.{StepView, ConvertsAll, HoldsNothing, TellsStage, TellsStatus}
 use Rattle.jillapun_c.specs.Conversions.{IsDone}
 use Rattle.jillapun_c.specs.Room.{HoldsFront}
 use Rattle.jillapun_c.specs.declared.converter.Stage.{Stage}
@@ -32,20 +32,20 @@ pub record RunSoFar (j : Job) (input rest dst dst' : List ℕ) (losses losses' :
   pub lost : HoldsFront lines losses losses' records
   pub same : length dst' ≡ length dst
   pub same_losses : length losses' ≡ length losses
-  pub ended : wants_room ≡ false → HoldsNothing c × (c.stage ≡ Open → (view_in c).over ≡ true)
+  pub ended : wants_room ≡ false → HoldsNothing c × (c.stage ≡ Open → c.stream.over ≡ true)
 
 is_over : (b : Bool) → (b ≡ false → ⊥) → b ≡ true
 is_over true other = refl
 is_over false other = absurd (other refl)
 
-pub at_its_end : (c : StepView) (unread dst : List ℕ) (losses : List Loss) (p : ConverterProgress) → ConvertsAll c true unread dst losses p → p.wants_room ≡ false → HoldsNothing c × (c.stage ≡ Open → (view_in c).over ≡ true)
+pub at_its_end : (c : StepView) (unread dst : List ℕ) (losses : List Loss) (p : ConverterProgress) → ConvertsAll c true unread dst losses p → p.wants_room ≡ false → HoldsNothing c × (c.stage ≡ Open → c.stream.over ≡ true)
 at_its_end c unread dst losses p k is =
     let empty = k.wants_room.0 is in
-    (empty, λ open_. is_over (view_in c).over (λ goes_on. absurd (cc ((k.all empty open_ goes_on).0))))
+    (empty, λ open_. is_over c.stream.over (λ goes_on. absurd (cc ((k.all empty open_ goes_on).0))))
 
 -- an end that nothing but the verdict or the policy made
 is_done : (s : Stage) (j : Job) (c : StepView) (input rest out : List ℕ) (lines : List Loss) (report : Report) (status : ℕ) (h : HasConverted j true input rest out lines c)
-    → IsAtStage s j (view_in c) input h.items → TellsStage s (view_in c) report status → (s ≡ Open → (view_in c).over ≡ true) → length input ≤ j.limit → IsDone status
+    → IsAtStage s j c.stream input h.items → TellsStage s c.stream report status → (s ≡ Open → c.stream.over ≡ true) → length input ≤ j.limit → IsDone status
 is_done Open j c input rest out lines report status h stage tells over short =
     let told = tells.done (over refl) in by told.0.faithful told.2.faithful told.2.lossy
   where

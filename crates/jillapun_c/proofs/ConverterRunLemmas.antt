@@ -25,7 +25,7 @@ use Rattle.jillapun_c.proofs.ConverterTurnLemmas.{length_none, owes_split}
 use Rattle.jillapun_c.specs.ConverterRuns.{Carries, HasConverted, IsFirstPartOf, IsOverWith, JoinsToCalls, IsAtStage, EndsAtLoss, WritesUnder}
 use Rattle.jillapun_c.specs.ConverterTurns.{CanTurn, TurnEnds, MakesTurn, found_log, found_reference, stage_at}
 use Rattle.jillapun_c.specs.Conversions.{ConvertsInMemory, IsMadeOf, IsToldReport, IsToldStop}
-use Rattle.jillapun_c.specs.Converters.{StepView, ConvertsAll, HandsOut, HoldsNothing, IsNewConverter, TellsStage, TellsStatus, held_losses, listed, view_in}
+use Rattle.jillapun_c.specs.Converters.{StepView, ConvertsAll, HandsOut, HoldsNothing, IsNewConverter, TellsStage, TellsStatus, held_losses, listed}
 use Rattle.jillapun_c.specs.Losses.{log_of_losses, loss_bytes}
 use Rattle.jillapun_c.specs.Room.{FillsRoom, IsFilled}
 use Rattle.jillapun_c.specs.declared.converter.Stage.{Stage}
@@ -85,10 +85,9 @@ under_found Policy.Stop (Found (Lost index scalar)) =
 pub begun : (j : Job) (c : StepView) → IsNewConverter c j → HasConverted j false [] [] [] [] c
 begun j c new = record {
   items = [];
-  taken = taken_first j (view_in c) new.fresh;
-  policy = new.policy;
+  taken = taken_first j c.stream new.fresh;
   written = let none = under_bytes j.policy [] in record { is_output = new.empty.0 ∙ none.is_output; is_log = ap log_of_losses new.empty.1 ∙ none.is_log };
-  stage = subst (λ s. IsAtStage s j (view_in c) [] []) (sym new.stage) (λ is. refl);
+  stage = subst (λ s. IsAtStage s j c.stream [] []) (sym new.stage) (λ is. refl);
   over = λ is. absurd (cc (sym is ∙ new.fresh.over));
 }
 
@@ -97,16 +96,15 @@ pub handed_in : (j : Job) (before last : Bool) (input rest more out : List ℕ) 
     → HasConverted j before input rest out records c → HasConverted j last (input ++ more) (rest ++ more) out records c
 handed_in j before last input rest more out records c end h = record {
   items = h.items;
-  taken = subst (λ (x : List Item). ConvertedSoFar j last (input ++ more) (rest ++ more) x (view_in c)) (append-nil h.items)
-      (taken_on j before last input rest more (rest ++ more) h.items [] (view_in c) (view_in c) end h.taken
-      (part_none (view_in c) last (rest ++ more) (λ is. let e = h.taken.law.ended is in ((end e.0).0, ap (λ x. x ++ more) e.1 ∙ (end e.0).1))));
-  policy = h.policy;
+  taken = subst (λ (x : List Item). ConvertedSoFar j last (input ++ more) (rest ++ more) x c.stream) (append-nil h.items)
+      (taken_on j before last input rest more (rest ++ more) h.items [] c.stream c.stream end h.taken
+      (part_none c.stream last (rest ++ more) (λ is. let e = h.taken.law.ended is in ((end e.0).0, ap (λ x. x ++ more) e.1 ∙ (end e.0).1))));
   written = h.written;
   stage = stays c.stage h.stage;
   over = λ is. let o = h.over is in record { last_ = (end o.last_).0; none = ap (λ x. x ++ more) o.none ∙ (end o.last_).1; whole = o.whole };
 }
   where
-    stays : (s : Stage) → IsAtStage s j (view_in c) input h.items → IsAtStage s j (view_in c) (input ++ more) h.items
+    stays : (s : Stage) → IsAtStage s j c.stream input h.items → IsAtStage s j c.stream (input ++ more) h.items
     stays Open k = k
     stays (Stopped index scalar) k = k
     stays TooLong k = (k.0, record { long = omega (arith, k.1.long, length-append input more); read = k.1.read; all = k.1.all })
@@ -123,17 +121,16 @@ pub handed_out : (j : Job) (last : Bool) (input rest out : List ℕ) (records : 
 handed_out j last input rest out records c c' dst dst' losses losses' p p' hands h = record {
   items = h.items;
   taken = subst (λ v. ConvertedSoFar j last input rest h.items v) view h.taken;
-  policy = ap (λ (z : StepView). z.policy) hands.rest ∙ h.policy;
   written = record {
     is_output = given out (take p.written dst) (take p'.written dst') c.held c'.held hands.output.is ∙ h.written.is_output;
     is_log = ap log_of_losses (given records (take p.losses losses) (take p'.losses losses') (held_losses c) (held_losses c') hands.lost.is) ∙ h.written.is_log;
   };
-  stage = subst (λ v. IsAtStage c'.stage j v input h.items) view (subst (λ s. IsAtStage s j (view_in c) input h.items) (sym (ap (λ (z : StepView). z.stage) hands.rest)) h.stage);
+  stage = subst (λ v. IsAtStage c'.stage j v input h.items) view (subst (λ s. IsAtStage s j c.stream input h.items) (sym (ap (λ (z : StepView). z.stage) hands.rest)) h.stage);
   over = λ is. subst (λ v. IsOverWith v last rest) view (h.over (ap (λ v. v.over) view ∙ is));
 }
   where
-    view : view_in c ≡ view_in c'
-    view = ap (λ (z : StepView). view_in z) (sym hands.rest)
+    view : c.stream ≡ c'.stream
+    view = ap (λ (z : StepView). z.stream) (sym hands.rest)
 
     given : {X : Type 0} (before old new held held' : List X) → old ++ held ≡ new ++ held' → (before ++ new) ++ held' ≡ (before ++ old) ++ held
     given before old new held held' is = append_assoc before new held' ∙ ap (λ x. before ++ x) (sym is) ∙ sym (append_assoc before old held)
@@ -165,21 +162,21 @@ found_stands Policy.Stop (Lost index scalar) j v input items bytes is spared = r
 
 -- the stage after a turn
 stands_after : (j : Job) (c c' : StepView) (last : Bool) (input src rest : List ℕ) (items : List Item) (bytes : List ℕ) (r : ConverterResult) → TurnEnds c c' last src rest r
-    → c.policy ≡ j.policy → (view_in c).job ≡ saved_job j → IsSpared j.policy items → (view_in c).state.counts.read + length src ≡ length input
-    → IsAtStage c'.stage j (view_in c') input (items ++ turn_items j.policy bytes r)
+    → c.stream.job.policy ≡ j.policy → c.stream.job ≡ saved_job j → IsSpared j.policy items → c.stream.state.counts.read + length src ≡ length input
+    → IsAtStage c'.stage j c'.stream input (items ++ turn_items j.policy bytes r)
 stands_after j c c' last input src rest items bytes InputEmpty ends policy job spared counted = elim ends [
-  | inl e ↦ subst (λ s. IsAtStage s j (view_in c') input (items ++ turn_items j.policy bytes InputEmpty)) (sym e.0) (spared_turn j.policy items bytes spared)
-  | inr e ↦ let limit : (view_in c).job.limit ≡ j.limit = ap (λ (k : SavedJob). k.limit) job in
-      subst (λ s. IsAtStage s j (view_in c') input (items ++ turn_items j.policy bytes InputEmpty)) (sym e.stage)
+  | inl e ↦ subst (λ s. IsAtStage s j c'.stream input (items ++ turn_items j.policy bytes InputEmpty)) (sym e.0) (spared_turn j.policy items bytes spared)
+  | inr e ↦ let limit : c.stream.job.limit ≡ j.limit = ap (λ (k : SavedJob). k.limit) job in
+      subst (λ s. IsAtStage s j c'.stream input (items ++ turn_items j.policy bytes InputEmpty)) (sym e.stage)
       (spared_turn j.policy items bytes spared, record { long = omega (arith, e.long, limit, counted); read = e.read ∙ limit; all = e.all })
 ]
 stands_after j c c' last input src rest items bytes OutputFull ends policy job spared counted =
-    subst (λ s. IsAtStage s j (view_in c') input (items ++ turn_items j.policy bytes OutputFull)) (sym ends.0) (spared_turn j.policy items bytes spared)
+    subst (λ s. IsAtStage s j c'.stream input (items ++ turn_items j.policy bytes OutputFull)) (sym ends.0) (spared_turn j.policy items bytes spared)
 stands_after j c c' last input src rest items bytes (Found line) ends policy job spared counted =
-    subst (λ s. IsAtStage s j (view_in c') input (items ++ turn_items j.policy bytes (Found line))) (sym (ends.0 ∙ ap (λ p. stage_at p line) policy))
-    (found_stands j.policy line j (view_in c') input items bytes refl spared)
+    subst (λ s. IsAtStage s j c'.stream input (items ++ turn_items j.policy bytes (Found line))) (sym (ends.0 ∙ ap (λ p. stage_at p line) policy))
+    (found_stands j.policy line j c'.stream input items bytes refl spared)
 
-over_after : (c c' : StepView) (last : Bool) (src rest : List ℕ) (r : ConverterResult) → TurnEnds c c' last src rest r → (view_in c').over ≡ true → IsOverWith (view_in c') last rest
+over_after : (c c' : StepView) (last : Bool) (src rest : List ℕ) (r : ConverterResult) → TurnEnds c c' last src rest r → c'.stream.over ≡ true → IsOverWith c'.stream last rest
 over_after c c' last src rest InputEmpty ends over = elim ends [
   | inl e ↦ record { last_ = sym e.1.over ∙ over; none = e.1.all; whole = e.1.whole (sym e.1.over ∙ over) }
   | inr e ↦ absurd (cc (sym over ∙ e.all.over))
@@ -199,26 +196,26 @@ given_all p items out records c empty w = record {
 pub turned_on : (j : Job) (last : Bool) (input src rest out : List ℕ) (records : List Loss) (c c' : StepView) (dst dst' : List ℕ) (at to : ℕ) (r : ConverterResult) → CanTurn c
     → MakesTurn c c' last src rest dst dst' at to r → HasConverted j last input src (out ++ take at dst) records c → HasConverted j last input rest (out ++ take to dst') records c'
 turned_on j last input src rest out records c c' dst dst' at to r ready t h =
-    let job : (view_in c).job ≡ saved_job j = h.taken.law.job ∙ h.taken.fresh.job in
-    let spared : IsSpared j.policy h.items = subst (λ s. IsAtStage s j (view_in c) input h.items) ready.stage h.stage in
-    let law : ConvertsPart (view_in c) (view_in c') last src rest (turn_items j.policy t.bytes r) =
-    subst (λ (k : SavedJob). ConvertsPart (view_in c) (view_in c') last src rest (turn_items k.policy t.bytes r)) job t.law in
+    let job : c.stream.job ≡ saved_job j = h.taken.law.job ∙ h.taken.fresh.job in
+    let policy : c.stream.job.policy ≡ j.policy = ap (λ (s : SavedJob). s.policy) job in
+    let spared : IsSpared j.policy h.items = subst (λ s. IsAtStage s j c.stream input h.items) ready.stage h.stage in
+    let law : ConvertsPart c.stream c'.stream last src rest (turn_items j.policy t.bytes r) =
+    subst (λ (k : SavedJob). ConvertsPart c.stream c'.stream last src rest (turn_items k.policy t.bytes r)) job t.law in
     let before : WritesUnder j.policy h.items (out ++ take at dst) (log_of_losses records) = given_all j.policy h.items (out ++ take at dst) records c ready.empty h.written in
     let turn = under_then j.policy h.items (turn_items j.policy t.bytes r) (out ++ take at dst) (t.bytes ++ found_reference j.policy r) (log_of_losses records) (found_log r) spared before
     (under_then j.policy (map Byte t.bytes) (found_items (reference_form j.policy) r) t.bytes (found_reference j.policy r) [] (found_log r) (spared_bytes j.policy t.bytes) (under_bytes j.policy t.bytes) (under_found j.policy r)) in
-    let all : ConvertedSoFar j last (input ++ []) rest (h.items ++ turn_items j.policy t.bytes r) (view_in c') =
-    taken_on j last last input src [] rest h.items (turn_items j.policy t.bytes r) (view_in c) (view_in c') (λ is. (is, refl)) h.taken
-    (subst (λ (x : List ℕ). ConvertsPart (view_in c) (view_in c') last x rest (turn_items j.policy t.bytes r)) (sym (append-nil src)) law) in
+    let all : ConvertedSoFar j last (input ++ []) rest (h.items ++ turn_items j.policy t.bytes r) c'.stream =
+    taken_on j last last input src [] rest h.items (turn_items j.policy t.bytes r) c.stream c'.stream (λ is. (is, refl)) h.taken
+    (subst (λ (x : List ℕ). ConvertsPart c.stream c'.stream last x rest (turn_items j.policy t.bytes r)) (sym (append-nil src)) law) in
     record {
       items = h.items ++ turn_items j.policy t.bytes r;
-      taken = subst (λ (x : List ℕ). ConvertedSoFar j last x rest (h.items ++ turn_items j.policy t.bytes r) (view_in c')) (append-nil input) all;
-      policy = t.policy ∙ h.policy;
+      taken = subst (λ (x : List ℕ). ConvertedSoFar j last x rest (h.items ++ turn_items j.policy t.bytes r) c'.stream) (append-nil input) all;
       written = record {
-        is_output = append_assoc out (take to dst') c'.held ∙ ap (λ x. out ++ x) (t.written ∙ ap (λ x. take at dst ++ (t.bytes ++ found_reference x r)) h.policy)
+        is_output = append_assoc out (take to dst') c'.held ∙ ap (λ x. out ++ x) (t.written ∙ ap (λ x. take at dst ++ (t.bytes ++ found_reference x r)) policy)
             ∙ sym (append_assoc out (take at dst) (t.bytes ++ found_reference j.policy r)) ∙ turn.is_output;
         is_log = log_of_more records (held_losses c') ∙ ap (λ x. log_of_losses records ++ x) t.logged ∙ turn.is_log;
       };
-      stage = stands_after j c c' last input src rest h.items t.bytes r t.ends h.policy job spared (omega (arith, h.taken.law.counted, h.taken.fresh.read));
+      stage = stands_after j c c' last input src rest h.items t.bytes r t.ends policy job spared (omega (arith, h.taken.law.counted, h.taken.fresh.read));
       over = over_after c c' last src rest r t.ends;
     }
 
@@ -251,9 +248,9 @@ first_part j last input rest out records c h = record {
 }
   where
     more : (r : List ℕ) → (last ≡ true → r ≡ []) → (items : List Item) × (tagged (trace j (input ++ r)) ≡ tagged (written_under j.policy h.items) ++ tagged items)
-    more r none = let front = under_front j.policy h.items (owes (view_in c) (rest ++ r)) in (
+    more r none = let front = under_front j.policy h.items (owes c.stream (rest ++ r)) in (
       front.0,
-      ap (λ x. tagged (written_under j.policy x)) (owed_on j last input rest h.items (view_in c) h.taken r none) ∙ ap tagged front.1 ∙ tagged-append (written_under j.policy h.items) front.0,
+      ap (λ x. tagged (written_under j.policy x)) (owed_on j last input rest h.items c.stream h.taken r none) ∙ ap tagged front.1 ∙ tagged-append (written_under j.policy h.items) front.0,
     )
 
 -- ---- the end
@@ -368,7 +365,7 @@ nothing_held c = elim (nil_or_not c.held) [
 pub told_so_far : FirstLaw → (j : Job) (last : Bool) (x rest y : List ℕ) (records : List Loss) (c : StepView) (report : Report) (status : ℕ) → HasConverted j last x rest y records c
     → TellsStatus c report status → ConvertsInMemory j x y records report status
 told_so_far law j last x rest y records c report status h tells = elim (nothing_held c) [
-  | inl empty ↦ stage_told law c.stage j last x rest y records (view_in c) h.items report status h.taken
+  | inl empty ↦ stage_told law c.stage j last x rest y records c.stream h.items report status h.taken
       (given_all j.policy h.items y records c empty h.written) h.stage h.over (tells.empty empty)
   | inr held ↦ nothing_said j x y records report status (omega (arith, (tells.held held).1)) (λ e. omega (arith, e, (tells.held held).1))
 ]
@@ -386,12 +383,12 @@ pub record RunsTo (c0 c : StepView) (last : Bool) (src dst0 dst : List ℕ) (los
   pub wants_room : IsFalse p.wants_room ↔ HoldsNothing c
   pub output_full : (c.held ≡ []) ⊎ (p.written ≡ length dst)
   pub lost_full : (held_losses c ≡ []) ⊎ (p.losses ≡ length losses)
-  pub ended : (view_in c).ended ≡ true → (drop p.read src ≡ []) × (last ≡ true)
-  pub at_most : length (owes (view_in c) (drop p.read src)) ≤ length (owes (view_in c0) src)
-  pub fewer : p.wants_room ≡ true → 32 ≤ length dst → 0 < length losses → length (owes (view_in c) (drop p.read src)) < length (owes (view_in c0) src)
+  pub ended : c.stream.ended ≡ true → (drop p.read src ≡ []) × (last ≡ true)
+  pub at_most : length (owes c.stream (drop p.read src)) ≤ length (owes c0.stream src)
+  pub fewer : p.wants_room ≡ true → 32 ≤ length dst → 0 < length losses → length (owes c.stream (drop p.read src)) < length (owes c0.stream src)
 
-view_out : (c c' : StepView) (dst dst' : List ℕ) (losses losses' : List Loss) (p p' : ConverterProgress) → HandsOut c c' dst dst' losses losses' p p' → view_in c' ≡ view_in c
-view_out c c' dst dst' losses losses' p p' hands = ap (λ (z : StepView). view_in z) hands.rest
+view_out : (c c' : StepView) (dst dst' : List ℕ) (losses losses' : List Loss) (p p' : ConverterProgress) → HandsOut c c' dst dst' losses losses' p p' → c'.stream ≡ c.stream
+view_out c c' dst dst' losses losses' p p' hands = ap (λ (z : StepView). z.stream) hands.rest
 
 -- all that is held finds room if there is enough
 all_given : {X : Type 0} (held held' old new : List X) (to : ℕ) → FillsRoom held held' old new 0 to → length held ≤ length new → held' ≡ []
@@ -405,7 +402,7 @@ listed_one None = omega arith
 listed_one (Some loss) = omega arith
 
 -- before the first turn
-pub started : (c0 c : StepView) (last : Bool) (src dst0 dst : List ℕ) (losses0 losses : List Loss) (p : ConverterProgress) → ((view_in c0).ended ≡ true → (src ≡ []) × (last ≡ true))
+pub started : (c0 c : StepView) (last : Bool) (src dst0 dst : List ℕ) (losses0 losses : List Loss) (p : ConverterProgress) → (c0.stream.ended ≡ true → (src ≡ []) × (last ≡ true))
     → HandsOut c0 c dst0 dst losses0 losses NONE p → RunsTo c0 c last src dst0 dst losses0 losses p
 started c0 c last src dst0 dst losses0 losses p end hands = record {
   carried = λ j input out records h. subst (λ n. HasConverted j last input (drop n src) (out ++ take p.written dst) (records ++ take p.losses losses) c) (sym hands.read)
@@ -420,18 +417,18 @@ started c0 c last src dst0 dst losses0 losses p end hands = record {
   output_full = hands.output.full;
   lost_full = hands.lost.full;
   ended = λ is. let e = end (ap (λ v. v.ended) (sym view) ∙ is) in (ap (λ n. drop n src) hands.read ∙ e.0, e.1);
-  at_most = subst (λ n. n ≤ length (owes (view_in c0) src)) (sym same) (omega arith);
+  at_most = subst (λ n. n ≤ length (owes c0.stream src)) (sym same) (omega arith);
   fewer = λ wants bytes records. absurd (cc (sym wants ∙ hands.wants_room.1 (
     all_given c0.held c.held dst0 dst p.written hands.output (omega (arith, hands.small, bytes)),
     all_given (held_losses c0) (held_losses c) losses0 losses p.losses hands.lost (omega (arith, listed_one c0.loss, records)),
   )));
 }
   where
-    view : view_in c ≡ view_in c0
+    view : c.stream ≡ c0.stream
     view = view_out c0 c dst0 dst losses0 losses NONE p hands
 
-    same : length (owes (view_in c) (drop p.read src)) ≡ length (owes (view_in c0) src)
-    same = ap (λ v. length (owes v (drop p.read src))) view ∙ ap (λ n. length (owes (view_in c0) (drop n src))) hands.read
+    same : length (owes c.stream (drop p.read src)) ≡ length (owes c0.stream src)
+    same = ap (λ v. length (owes v (drop p.read src))) view ∙ ap (λ n. length (owes c0.stream (drop n src))) hands.read
 
 drop_further : {X : Type 0} (a b : List X) (at to : ℕ) → at ≤ to → drop at a ≡ drop at b → drop to a ≡ drop to b
 drop_further a b at to on is = ap (λ n. drop n a) (omega (arith, on)) ∙ sym (drop-drop (to - at) at a) ∙ ap (drop (to - at)) is ∙ drop-drop (to - at) at b ∙ ap (λ n. drop n b) (omega (arith, on))
@@ -454,11 +451,11 @@ pub record Iterates (c m c' : StepView) (last : Bool) (src dst dst1 dst' : List 
   pub hands : HandsOut m c' dst1 dst' losses losses' (record p { read = p.read + read; written = to }) p'
 
 pub smaller : (c m c' : StepView) (last : Bool) (src dst dst1 dst' : List ℕ) (losses losses' : List Loss) (read to : ℕ) (r : ConverterResult) (p p' : ConverterProgress)
-    → Iterates c m c' last src dst dst1 dst' losses losses' read to r p p' → ((r ≡ InputEmpty) × HoldsNothing c') ⊎ (length (owes (view_in c') (drop p'.read src)) < length (owes (view_in c) (drop p.read src)))
+    → Iterates c m c' last src dst dst1 dst' losses losses' read to r p p' → ((r ≡ InputEmpty) × HoldsNothing c') ⊎ (length (owes c'.stream (drop p'.read src)) < length (owes c.stream (drop p.read src)))
 smaller c m c' last src dst dst1 dst' losses losses' read to r p p' i = elim i.turns.less [
   | inl none ↦ inl (none.0, (nothing_more m.held c'.held dst1 dst' to p'.written i.hands.output none.1.0, nothing_more (held_losses m) (held_losses c') losses losses' p.losses p'.losses i.hands.lost none.1.1))
-  | inr less ↦ inr (subst (λ v. length (owes v (drop p'.read src)) < length (owes (view_in c) (drop p.read src))) (sym (view_out m c' dst1 dst' losses losses' _ p' i.hands))
-      (subst (λ (x : List ℕ). length (owes (view_in m) x) < length (owes (view_in c) (drop p.read src))) (drop-drop read p.read src ∙ ap (λ n. drop n src) (omega (arith, i.hands.read))) less))
+  | inr less ↦ inr (subst (λ v. length (owes v (drop p'.read src)) < length (owes c.stream (drop p.read src))) (sym (view_out m c' dst1 dst' losses losses' _ p' i.hands))
+      (subst (λ (x : List ℕ). length (owes m.stream x) < length (owes c.stream (drop p.read src))) (drop-drop read p.read src ∙ ap (λ n. drop n src) (omega (arith, i.hands.read))) less))
 ]
 
 pub iterated : (c0 c m c' : StepView) (last : Bool) (src dst0 dst dst1 dst' : List ℕ) (losses0 losses losses' : List Loss) (read to : ℕ) (r : ConverterResult) (p p' : ConverterProgress)
@@ -485,18 +482,18 @@ iterated c0 c m c' last src dst0 dst dst1 dst' losses0 losses losses' read to r 
     rest : drop read (drop p.read src) ≡ drop p'.read src
     rest = drop-drop read p.read src ∙ ap (λ n. drop n src) (omega (arith, i.hands.read))
 
-    view : view_in c' ≡ view_in m
+    view : c'.stream ≡ m.stream
     view = view_out m c' dst1 dst' losses losses' _ p' i.hands
 
-    less : ((r ≡ InputEmpty) × HoldsNothing c') ⊎ (length (owes (view_in c') (drop p'.read src)) < length (owes (view_in c) (drop p.read src)))
+    less : ((r ≡ InputEmpty) × HoldsNothing c') ⊎ (length (owes c'.stream (drop p'.read src)) < length (owes c.stream (drop p.read src)))
     less = smaller c m c' last src dst dst1 dst' losses losses' read to r p p' i
 
     -- a turn owes no more than it owed
-    no_more : length (owes (view_in c') (drop p'.read src)) ≤ length (owes (view_in c0) src)
+    no_more : length (owes c'.stream (drop p'.read src)) ≤ length (owes c0.stream src)
     no_more =
-        let split = owes_split (view_in c) (view_in m) last (drop p.read src) (drop read (drop p.read src)) _ i.turns.law in
-        let same : length (owes (view_in c') (drop p'.read src)) ≡ length (owes (view_in m) (drop read (drop p.read src))) =
-        ap (λ v. length (owes v (drop p'.read src))) view ∙ ap (λ x. length (owes (view_in m) x)) (sym rest) in
+        let split = owes_split c.stream m.stream last (drop p.read src) (drop read (drop p.read src)) _ i.turns.law in
+        let same : length (owes c'.stream (drop p'.read src)) ≡ length (owes m.stream (drop read (drop p.read src))) =
+        ap (λ v. length (owes v (drop p'.read src))) view ∙ ap (λ x. length (owes m.stream x)) (sym rest) in
         omega (arith, split, same, k.at_most)
 
 -- a turn that ended since its bytes were converted leaves nothing to be converted, or there is more than the limit allows
@@ -510,7 +507,7 @@ all_converted c0 c m c' last src dst0 dst dst1 dst' losses0 losses losses' read 
     | inl e ↦
         let none : last ≡ false = sym e.1.over ∙ ap (λ v. v.over) (sym view) ∙ over in (
           none,
-          subst (λ v. AllIsConverted v (drop p'.read src) false) (sym view) (subst (λ b. AllIsConverted (view_in m) (drop p'.read src) b) none (subst (λ (x : List ℕ). AllIsConverted (view_in m) x last) rest e.1)),
+          subst (λ v. AllIsConverted v (drop p'.read src) false) (sym view) (subst (λ b. AllIsConverted m.stream (drop p'.read src) b) none (subst (λ (x : List ℕ). AllIsConverted m.stream x last) rest e.1)),
         )
     | inr e ↦ absurd (other (sym e.stage ∙ ap (λ (z : StepView). z.stage) (sym i.hands.rest) ∙ open_))
   ];
@@ -519,7 +516,7 @@ all_converted c0 c m c' last src dst0 dst dst1 dst' losses0 losses losses' read 
     rest : drop read (drop p.read src) ≡ drop p'.read src
     rest = drop-drop read p.read src ∙ ap (λ n. drop n src) (omega (arith, i.hands.read))
 
-    view : view_in c' ≡ view_in m
+    view : c'.stream ≡ m.stream
     view = view_out m c' dst1 dst' losses losses' _ p' i.hands
 
     other : TooLong ≡ Open → ⊥
@@ -544,7 +541,6 @@ told_as : (j : Job) (last : Bool) (input rest out : List ℕ) (records : List Lo
 told_as j last input rest out records c finished h = record {
   items = h.items;
   taken = h.taken;
-  policy = h.policy;
   written = h.written;
   stage = h.stage;
   over = h.over;
@@ -552,13 +548,13 @@ told_as j last input rest out records c finished h = record {
 
 -- what a call is to read: what it was handed, and after the end nothing but the end
 pub record IsToRead (c : StepView) (src : List ℕ) (last : Bool) (src' : List ℕ) (last' : Bool) : Type 0 where
-  pub ended : (view_in c).ended ≡ true → (src' ≡ []) × (last' ≡ true)
-  pub open_ : (view_in c).ended ≡ false → (src' ≡ src) × (last' ≡ last)
+  pub ended : c.stream.ended ≡ true → (src' ≡ []) × (last' ≡ true)
+  pub open_ : c.stream.ended ≡ false → (src' ≡ src) × (last' ≡ last)
 
 -- after lawful calls that is what it was handed
 reads_handed : (j : Job) (last : Bool) (input src out : List ℕ) (records : List Loss) (c : StepView) (src' : List ℕ) (last' : Bool) → HasConverted j last input src out records c
     → IsToRead c src last src' last' → (src' ≡ src) × (last' ≡ last)
-reads_handed j last input src out records c src' last' h r = elim (over_or_not (view_in c).ended) [
+reads_handed j last input src out records c src' last' h r = elim (over_or_not c.stream.ended) [
   | inl is ↦ let e = h.taken.law.ended is in let k = r.ended is in (k.0 ∙ sym e.1, k.1 ∙ sym e.0)
   | inr is ↦ r.open_ is
 ]
@@ -588,15 +584,15 @@ converts_handed c c' finished src src' dst last last' losses p reads k = record 
   wants_room = k.wants_room;
   output = k.output;
   lost = k.lost;
-  all = λ empty open_ over. let a = k.all empty open_ over in elim (over_or_not (view_in c).ended) [
+  all = λ empty open_ over. let a = k.all empty open_ over in elim (over_or_not c.stream.ended) [
     | inl is ↦ absurd (cc (sym a.0 ∙ (reads.ended is).1))
-    | inr is ↦ let r = reads.open_ is in (sym r.1 ∙ a.0, subst (λ (x : List ℕ). AllIsConverted (view_in c') (drop p.read x) false) r.0 a.1)
+    | inr is ↦ let r = reads.open_ is in (sym r.1 ∙ a.0, subst (λ (x : List ℕ). AllIsConverted c'.stream (drop p.read x) false) r.0 a.1)
   ];
 }
 
 -- and reads no more than that
 pub reads_within : (c : StepView) (src src' : List ℕ) (last last' : Bool) (read : ℕ) → IsToRead c src last src' last' → read ≤ length src' → read ≤ length src
-reads_within c src src' last last' read reads within = elim (over_or_not (view_in c).ended) [
+reads_within c src src' last last' read reads within = elim (over_or_not c.stream.ended) [
   | inl is ↦ omega (arith, within, ap length (reads.ended is).0)
   | inr is ↦ omega (arith, within, ap length (reads.open_ is).0)
 ]

@@ -10,8 +10,9 @@ use Rattle.recode.specs.Policy.{reference_form}
 use Rattle.recode.specs.declared.converter.ConverterResult.{ConverterResult}
 use Rattle.recode.specs.declared.converter.ConverterResult.TheVariants.{Found, InputEmpty, OutputFull}
 use Rattle.recode.specs.laws.Calls.{part_none, part_then}
+use Rattle.recode.specs.declared.converter.saved_converter.SavedJob.{SavedJob}
 use Rattle.jillapun_c.specs.ConverterTurns.{ConvertsInto, CanTurn, PassesLimit, TakesEnd, TurnEnds, MakesTurn, found_log, found_reference, line_reference, stage_at}
-use Rattle.jillapun_c.specs.Converters.{StepView, HoldsNothing, held_losses, view_in}
+use Rattle.jillapun_c.specs.Converters.{StepView, HoldsNothing, held_losses}
 use Rattle.jillapun_c.specs.Losses.{log_of_losses}
 use Rattle.jillapun_c.specs.declared.converter.Stage.TheVariants.{TooLong}
 
@@ -55,22 +56,21 @@ owes_fewer v v' last src rest bytes found law some =
 
 -- what holds of a turn, however it ended
 turn_of : (c m c' : StepView) (last : Bool) (src rest dst dst' bytes more : List ℕ) (at to : ℕ) (result : ConverterResult)
-    → ConvertsPart (view_in c) (view_in m) last src rest (map Byte bytes ++ found_items (reference_form (view_in c).job.policy) result)
-    → take to dst' ++ m.held ≡ take at dst ++ bytes → at ≤ to → to ≤ length dst' → drop to dst' ≡ drop to dst → m.policy ≡ c.policy
-    → c'.stream ≡ m.stream → c'.policy ≡ m.policy → c'.held ≡ m.held ++ more → more ≡ found_reference c.policy result → log_of_losses (held_losses c') ≡ found_log result
-    → TurnEnds c c' last src rest result → ((result ≡ InputEmpty) × HoldsNothing c') ⊎ (0 < length bytes + length (found_items (reference_form (view_in c).job.policy) result)) → MakesTurn c c' last src rest dst dst' at to result
-turn_of c m c' last src rest dst dst' bytes more at to result law written from fits behind policy stream same held reference logged ends some = record {
+    → ConvertsPart c.stream m.stream last src rest (map Byte bytes ++ found_items (reference_form c.stream.job.policy) result)
+    → take to dst' ++ m.held ≡ take at dst ++ bytes → at ≤ to → to ≤ length dst' → drop to dst' ≡ drop to dst
+    → c'.stream ≡ m.stream → c'.held ≡ m.held ++ more → more ≡ found_reference c.stream.job.policy result → log_of_losses (held_losses c') ≡ found_log result
+    → TurnEnds c c' last src rest result → ((result ≡ InputEmpty) × HoldsNothing c') ⊎ (0 < length bytes + length (found_items (reference_form c.stream.job.policy) result)) → MakesTurn c c' last src rest dst dst' at to result
+turn_of c m c' last src rest dst dst' bytes more at to result law written from fits behind stream held reference logged ends some = record {
   bytes = bytes;
-  law = subst (λ s. ConvertsPart (view_in c) s last src rest (map Byte bytes ++ found_items (reference_form (view_in c).job.policy) result)) (sym stream) law;
+  law = subst (λ s. ConvertsPart c.stream s last src rest (map Byte bytes ++ found_items (reference_form c.stream.job.policy) result)) (sym stream) law;
   written = ap (λ x. take to dst' ++ x) held ∙ sym (append_assoc (take to dst') m.held more) ∙ ap (λ x. x ++ more) written ∙ append_assoc (take at dst) bytes more
       ∙ ap (λ x. take at dst ++ (bytes ++ x)) reference;
   logged = logged;
   ends = ends;
   less = elim some [
     | inl none ↦ inl none
-    | inr more ↦ inr (subst (λ s. length (owes s rest) < length (owes (view_in c) src)) (sym stream) (owes_fewer (view_in c) (view_in m) last src rest bytes _ law more))
+    | inr more ↦ inr (subst (λ s. length (owes s rest) < length (owes c.stream src)) (sym stream) (owes_fewer c.stream m.stream last src rest bytes _ law more))
   ];
-  policy = same ∙ policy;
   from = from;
   fits = fits;
   behind = behind;
@@ -80,38 +80,38 @@ turn_of c m c' last src rest dst dst' bytes more at to result law written from f
 pub record Calls (c m : StepView) (last a all : Bool) (src : List ℕ) (count read : ℕ) (dst dst' : List ℕ) (at to : ℕ) (result : ConverterResult) : Type 0 where
   pub ready : CanTurn c
   pub within : read ≤ length (take count src)
-  pub most : count < length src → (view_in c).state.counts.read + count ≡ (view_in c).job.limit
+  pub most : count < length src → c.stream.state.counts.read + count ≡ c.stream.job.limit
   pub whole : all ≡ true → (count ≡ length src) × (a ≡ last)
   pub part : all ≡ false → (count < length src) × (a ≡ false)
   pub into : ConvertsInto c m a (take count src) (drop read (take count src)) dst dst' at to result
 
 law_of : (c m : StepView) (last a all : Bool) (src : List ℕ) (count read : ℕ) (dst dst' : List ℕ) (at to : ℕ) (result : ConverterResult)
     → (k : Calls c m last a all src count read dst dst' at to result)
-    → ConvertsPart (view_in c) (view_in m) last src (drop read src) (map Byte k.into.bytes ++ found_items (reference_form (view_in c).job.policy) result)
+    → ConvertsPart c.stream m.stream last src (drop read src) (map Byte k.into.bytes ++ found_items (reference_form c.stream.job.policy) result)
 law_of c m last a all src count read dst dst' at to result k =
-    whole_law (view_in c) (view_in m) last a all src count read _ k.within k.whole (λ is. (k.part is).1) k.into.law
+    whole_law c.stream m.stream last a all src count read _ k.within k.whole (λ is. (k.part is).1) k.into.law
 
 no_record : (c m : StepView) → CanTurn c → m ≡ record c { stream = m.stream; held = m.held } → log_of_losses (held_losses m) ≡ []
 no_record c m ready same = ap (λ (z : StepView). log_of_losses (held_losses z)) same ∙ ap log_of_losses ready.empty.1
 
 -- all that was handed in is converted
 all_of : (c m : StepView) (last a : Bool) (src : List ℕ) (count read : ℕ) (dst dst' : List ℕ) (at to : ℕ) → Calls c m last a true src count read dst dst' at to InputEmpty
-    → AllIsConverted (view_in m) (drop read src) last
+    → AllIsConverted m.stream (drop read src) last
 all_of c m last a src count read dst dst' at to k =
     let all : take count src ≡ src = take_all count src (omega (arith, (k.whole refl).0)) in
-    subst (λ b. AllIsConverted (view_in m) (drop read src) b) (k.whole refl).1 (subst (λ x. AllIsConverted (view_in m) (drop read x) a) all k.into.ends)
+    subst (λ b. AllIsConverted m.stream (drop read src) b) (k.whole refl).1 (subst (λ x. AllIsConverted m.stream (drop read x) a) all k.into.ends)
 
 -- all that the limit allows is converted
 limit_of : (c m : StepView) (last a : Bool) (src : List ℕ) (count read : ℕ) (dst dst' : List ℕ) (at to : ℕ) → Calls c m last a false src count read dst dst' at to InputEmpty
     → PassesLimit c (record m { stage = TooLong }) src
 limit_of c m last a src count read dst dst' at to k =
     let part = k.part refl in
-    let ends : AllIsConverted (view_in m) (drop read (take count src)) false = subst (λ b. AllIsConverted (view_in m) (drop read (take count src)) b) part.1 k.into.ends in
+    let ends : AllIsConverted m.stream (drop read (take count src)) false = subst (λ b. AllIsConverted m.stream (drop read (take count src)) b) part.1 k.into.ends in
     record {
       stage = refl;
       long = omega (arith, part.0, k.most part.0);
       read = omega (arith, k.most part.0, k.into.law.counted, ap length ends.all, length-take-le count src (omega (arith, part.0)));
-      all = subst (λ x. AllIsConverted (view_in m) x false) ends.all ends;
+      all = subst (λ x. AllIsConverted m.stream x false) ends.all ends;
     }
 
 -- a call that wrote nothing and found nothing leaves nothing that waits
@@ -140,26 +140,26 @@ pub turned : (c m c' : StepView) (last a all : Bool) (src : List ℕ) (count rea
     → Calls c m last a all src count read dst dst' at to result → TakesEnd m c' result all → MakesTurn c c' last src (drop read src) dst dst' at to result
 turned c m c' last a true src count read dst dst' at to InputEmpty k takes =
     turn_of c m c' last src (drop read src) dst dst' k.into.bytes [] at to InputEmpty (law_of c m last a true src count read dst dst' at to InputEmpty k) k.into.written k.into.from k.into.fits k.into.behind
-    (ap (λ (z : StepView). z.policy) k.into.same) (ap (λ (z : StepView). z.stream) takes) (ap (λ (z : StepView). z.policy) takes) (ap (λ (z : StepView). z.held) takes ∙ sym (append-nil m.held)) refl
+    (ap (λ (z : StepView). z.stream) takes) (ap (λ (z : StepView). z.held) takes ∙ sym (append-nil m.held)) refl
     (ap (λ (z : StepView). log_of_losses (held_losses z)) takes ∙ no_record c m k.ready k.into.same)
-    (inl (ap (λ (z : StepView). z.stage) takes ∙ ap (λ (z : StepView). z.stage) k.into.same ∙ k.ready.stage, subst (λ (z : StepView). AllIsConverted (view_in z) (drop read src) last) (sym takes) (all_of c m last a src count read dst dst' at to k)))
-    (ends_empty c m c' last a true src count read dst dst' at to (reference_form (view_in c).job.policy) k (ap (λ (z : StepView). z.held) takes) (ap (λ (z : StepView). held_losses z) takes))
+    (inl (ap (λ (z : StepView). z.stage) takes ∙ ap (λ (z : StepView). z.stage) k.into.same ∙ k.ready.stage, subst (λ (z : StepView). AllIsConverted z.stream (drop read src) last) (sym takes) (all_of c m last a src count read dst dst' at to k)))
+    (ends_empty c m c' last a true src count read dst dst' at to (reference_form c.stream.job.policy) k (ap (λ (z : StepView). z.held) takes) (ap (λ (z : StepView). held_losses z) takes))
 turned c m c' last a false src count read dst dst' at to InputEmpty k takes =
     turn_of c m c' last src (drop read src) dst dst' k.into.bytes [] at to InputEmpty (law_of c m last a false src count read dst dst' at to InputEmpty k) k.into.written k.into.from k.into.fits k.into.behind
-    (ap (λ (z : StepView). z.policy) k.into.same) (ap (λ (z : StepView). z.stream) takes) (ap (λ (z : StepView). z.policy) takes) (ap (λ (z : StepView). z.held) takes ∙ sym (append-nil m.held)) refl
+    (ap (λ (z : StepView). z.stream) takes) (ap (λ (z : StepView). z.held) takes ∙ sym (append-nil m.held)) refl
     (ap (λ (z : StepView). log_of_losses (held_losses z)) takes ∙ no_record c m k.ready k.into.same)
     (inr (subst (λ (z : StepView). PassesLimit c z src) (sym takes) (limit_of c m last a src count read dst dst' at to k)))
-    (ends_empty c m c' last a false src count read dst dst' at to (reference_form (view_in c).job.policy) k (ap (λ (z : StepView). z.held) takes) (ap (λ (z : StepView). held_losses z) takes))
+    (ends_empty c m c' last a false src count read dst dst' at to (reference_form c.stream.job.policy) k (ap (λ (z : StepView). z.held) takes) (ap (λ (z : StepView). held_losses z) takes))
 turned c m c' last a all src count read dst dst' at to OutputFull k takes =
     turn_of c m c' last src (drop read src) dst dst' k.into.bytes [] at to OutputFull (law_of c m last a all src count read dst dst' at to OutputFull k) k.into.written k.into.from k.into.fits k.into.behind
-    (ap (λ (z : StepView). z.policy) k.into.same) (ap (λ (z : StepView). z.stream) takes) (ap (λ (z : StepView). z.policy) takes) (ap (λ (z : StepView). z.held) takes ∙ sym (append-nil m.held)) refl
+    (ap (λ (z : StepView). z.stream) takes) (ap (λ (z : StepView). z.held) takes ∙ sym (append-nil m.held)) refl
     (ap (λ (z : StepView). log_of_losses (held_losses z)) takes ∙ no_record c m k.ready k.into.same)
-    (ap (λ (z : StepView). z.stage) takes ∙ ap (λ (z : StepView). z.stage) k.into.same ∙ k.ready.stage, subst (λ (z : StepView). (view_in z).over ≡ false) (sym takes) k.into.ends.1)
+    (ap (λ (z : StepView). z.stage) takes ∙ ap (λ (z : StepView). z.stage) k.into.same ∙ k.ready.stage, subst (λ (z : StepView). z.stream.over ≡ false) (sym takes) k.into.ends.1)
     (inr (omega (arith, k.into.ends.0, k.into.room)))
 turned c m c' last a all src count read dst dst' at to (Found line) k takes =
-    let policy : m.policy ≡ c.policy = ap (λ (z : StepView). z.policy) k.into.same in
+    let policy : m.stream.job.policy ≡ c.stream.job.policy = ap (λ (s : SavedJob). s.policy) k.into.law.job in
     let stream : c'.stream ≡ m.stream = ap (λ (z : StepView). z.stream) takes.same in
-    turn_of c m c' last src (drop read src) dst dst' k.into.bytes (line_reference m.policy line) at to (Found line) (law_of c m last a all src count read dst dst' at to (Found line) k) k.into.written k.into.from k.into.fits
-    k.into.behind policy stream (ap (λ (z : StepView). z.policy) takes.same) takes.held (ap (λ p. line_reference p line) policy) takes.logged
+    turn_of c m c' last src (drop read src) dst dst' k.into.bytes (line_reference m.stream.job.policy line) at to (Found line) (law_of c m last a all src count read dst dst' at to (Found line) k) k.into.written k.into.from k.into.fits
+    k.into.behind stream takes.held (ap (λ p. line_reference p line) policy) takes.logged
     (takes.stage ∙ ap (λ p. stage_at p line) policy, ap (λ s. s.over) stream ∙ k.into.ends.1)
-    (inr (omega (arith, found_some (reference_form (view_in c).job.policy) line)))
+    (inr (omega (arith, found_some (reference_form c.stream.job.policy) line)))

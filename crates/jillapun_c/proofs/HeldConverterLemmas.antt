@@ -1,5 +1,5 @@
 -- The converter that a handle holds, as its calls see it.
-use Rattle.std.proofs.Common.{◌≡◌, true, false, Option, Some, sym, ◌∙◌, ap, subst, take}
+use Rattle.std.proofs.Common.{◌≡◌, ℕ, List, true, false, Option, Some, sym, ◌∙◌, ap, subst, take}
 use Rattle.std.proofs.Math.Logic.{∥∥₁_map}
 use Rattle.encoding_tables.specs.IndexLists.{IndexLists}
 use Rattle.recode.specs.Converter.{ConverterView}
@@ -16,32 +16,32 @@ use Rattle.jillapun_c.specs.declared.converter.words.SavedStep.{SavedStep}
 -- ---- what a handle holds
 
 -- the words say what was saved of the converter that is held
-pub saves_held : (tables : Option IndexLists) (words : ConverterWords) (w : SavedStep) (v : StepView) → saved_step_in words ≡ Some w → HoldsConverter tables words v → SavesStep w v
-saves_held tables words w v is holds = subst (λ (x : SavedStep). SavesStep x v) (same_some holds.saved w (sym holds.is ∙ is)) holds.saves
+pub saves_held : (lists : IndexLists) (words : ConverterWords) (text : List ℕ) (w : SavedStep) (v : StepView) → saved_step_in words ≡ Some w → HoldsConverter lists words text v → SavesStep w text v
+saves_held lists words text w v is holds = subst (λ (x : SavedStep). SavesStep x text v) (same_some holds.saved w (sym holds.is ∙ is)) holds.saves
 
 -- and a converter is held whose words these are
-pub held_by : (tables : Option IndexLists) (words : ConverterWords) (w : SavedStep) (v : StepView) → tables ≡ Some v.stream.lists → saved_step_in words ≡ Some w → SavesStep w v → HoldsConverter tables words v
-held_by tables words w v lists is saves = record { tables_are = lists; saved = w; is = is; saves = saves }
+pub held_by : (lists : IndexLists) (words : ConverterWords) (text : List ℕ) (w : SavedStep) (v : StepView) → lists ≡ v.stream.lists → saved_step_in words ≡ Some w → SavesStep w text v → HoldsConverter lists words text v
+held_by lists words text w v lists_are is saves = record { lists_are = lists_are; saved = w; is = is; saves = saves }
 
-pub sound_by : (tables : Option IndexLists) (words : ConverterWords) (v : StepView) → HoldsConverter tables words v → IsSoundConverter tables words
-sound_by tables words v holds w is = ∣ (v, holds) ∣₁
+pub sound_by : (lists : IndexLists) (words : ConverterWords) (text : List ℕ) (v : StepView) → HoldsConverter lists words text v → IsSoundConverter lists words text
+sound_by lists words text v holds w is = ∣ (v, holds) ∣₁
 
 -- there is one at most
-one_step : (w : SavedStep) (v u : StepView) → v.stream.lists ≡ u.stream.lists → SavesStep w v → SavesStep w u → v ≡ u
-one_step w v u lists h k =
-    h.is ∙ ap (λ (s : ConverterView). record v { stream = s; policy = w.policy; held = take w.held_len w.held; loss = w.loss; stage = w.stage; is_finished = w.is_finished })
-    (one_converter w.stream v.stream u.stream lists h.stream k.stream) ∙ sym k.is
+one_step : (w : SavedStep) (text : List ℕ) (v u : StepView) → v.stream.lists ≡ u.stream.lists → SavesStep w text v → SavesStep w text u → v ≡ u
+one_step w text v u lists h k =
+    h.is ∙ ap (λ (s : ConverterView). record v { stream = s; held = take w.held_len w.held; loss = w.loss; stage = w.stage; is_finished = w.is_finished })
+    (one_converter w.stream text v.stream u.stream lists h.stream k.stream) ∙ sym k.is
 
-pub one_held : (tables : Option IndexLists) (words : ConverterWords) (v u : StepView) → HoldsConverter tables words v → HoldsConverter tables words u → v ≡ u
-one_held tables words v u h k =
-    one_step k.saved v u (same_some v.stream.lists u.stream.lists (sym h.tables_are ∙ k.tables_are)) (saves_held tables words k.saved v k.is h) k.saves
+pub one_held : (lists : IndexLists) (words : ConverterWords) (text : List ℕ) (v u : StepView) → HoldsConverter lists words text v → HoldsConverter lists words text u → v ≡ u
+one_held lists words text v u h k =
+    one_step k.saved text v u (sym h.lists_are ∙ k.lists_are) (saves_held lists words text k.saved v k.is h) k.saves
 
 -- what it keeps can go on over its tables
-pub goes_on_from : (tables : Option IndexLists) (words : ConverterWords) (w : SavedStep) (lists : IndexLists) → IsSoundConverter tables words → saved_step_in words ≡ Some w → tables ≡ Some lists → CanGoOnFrom lists w.stream
-goes_on_from tables words w lists sound is at = ∥∥₁_map {B = (v : ConverterView) × (v.lists ≡ lists) × SavesConverter w.stream v} (sound w is) (λ k. (
+pub goes_on_from : (lists : IndexLists) (words : ConverterWords) (text : List ℕ) (w : SavedStep) → IsSoundConverter lists words text → saved_step_in words ≡ Some w → CanGoOnFrom lists w.stream text
+goes_on_from lists words text w sound is = ∥∥₁_map {B = (v : ConverterView) × (v.lists ≡ lists) × SavesConverter w.stream text v} (sound w is) (λ k. (
   k.0.stream,
-  same_some k.0.stream.lists lists (sym k.1.tables_are ∙ at),
-  (saves_held tables words w k.0 is k.1).stream,
+  sym k.1.lists_are,
+  (saves_held lists words text w k.0 is k.1).stream,
 ))
 
 -- a converter that goes on is none whose end was reported

@@ -1,11 +1,11 @@
 -- What the numbers of a call ask for.
-use Rattle.std.specs.Prelude.{◌≡◌, ◌⊎◌, ℕ, ◌^◌, min, [], ◌∷◌, Option, Some, IsSome, MatchOption, slice_get}
+use Rattle.std.specs.Prelude.{◌≡◌, ◌⊎◌, ℕ, ◌^◌, min, [], ◌∷◌, Option, Some, IsSome, slice_get}
 use Rattle.encoding_tables.specs.IndexLists.{IndexLists}
 use Rattle.recode.specs.Job.{IsValidJob}
 use Rattle.recode.specs.declared.job.Job.{Job}
 use Rattle.recode.specs.declared.job.Policy.{Policy}
 use Rattle.jillapun_c.specs.EncodingNumbers.{encoding_at, mark_at}
-use Rattle.jillapun_c.specs.declared.status.TheConstants.{CLOSED, NOT_READY, UNKNOWN}
+use Rattle.jillapun_c.specs.declared.status.TheConstants.{NOT_READY, UNKNOWN}
 
 -- the policy with that number, if there is one
 abbrev pub policy_at : ℕ → Option Policy
@@ -38,16 +38,11 @@ pub record NamesJobThen (tables : IndexLists) (from to mark policy limit : ℕ) 
   pub named : NamesJob tables from to mark policy limit job
   pub goes_on : (IsValidJob job × Then job) ⊎ ((¬ (IsValidJob job)) × (status ≡ NOT_READY))
 
--- the call goes on with the job that its numbers name, or one of them stands for nothing
+-- The first of these that holds decides the status: a number stands for nothing, an index is missing; else the call goes
+-- on with the job that its numbers name.
 abbrev pub IfKnown : IndexLists → (from to mark policy limit : ℕ) → (Then : Job → Type 0) → (status : ℕ) → Type 0
 IfKnown tables from to mark policy limit Then status =
     NamesJobThen tables from to mark policy limit Then status ⊎ ((¬ (AreKnown from to mark policy)) × (status ≡ UNKNOWN))
-
--- The first of these that holds decides the status: the handle has no tables, a number stands for nothing, an index is
--- missing; else the call goes on.
-abbrev pub IfAsked : Option IndexLists → (from to mark policy limit : ℕ) → (Then : Job → Type 0) → (status : ℕ) → Type 0
-IfAsked tables from to mark policy limit Then status =
-    MatchOption tables (status ≡ CLOSED) (λ t. IfKnown t from to mark policy limit Then status)
 
 -- a call ends with this status before it goes on, over these tables
 abbrev pub EndsAtOnce : IndexLists → (from to mark policy limit status : ℕ) → Type 0

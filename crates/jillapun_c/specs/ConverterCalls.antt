@@ -1,11 +1,12 @@
 -- What the calls of a converter's handle do.
-use Rattle.std.specs.Prelude.{◌≡◌, ℕ, Bool, true, false, List, [], Option, None}
+use Rattle.std.specs.Prelude.{◌≡◌, ℕ, Bool, true, false, List, [], Option, None, take}
 use Rattle.encoding_tables.specs.IndexLists.{IndexLists}
 use Rattle.recode.specs.declared.job.Job.{Job}
-use Rattle.jillapun_c.specs.Asked.{IfAsked}
+use Rattle.jillapun_c.specs.Asked.{IfKnown}
 use Rattle.jillapun_c.specs.ConverterRuns.{HasConverted, JoinsToCalls}
 use Rattle.jillapun_c.specs.ConverterWords.{HoldsConverter, saved_step_in}
 use Rattle.jillapun_c.specs.Converters.{ConvertsByStep, IsNewConverter, StepView}
+use Rattle.jillapun_c.specs.HeldTables.{held_lists}
 use Rattle.jillapun_c.specs.declared.converter.handle.ConverterHandle.{ConverterHandle}
 use Rattle.jillapun_c.specs.declared.converter.progress.ConverterProgress.{ConverterProgress}
 use Rattle.jillapun_c.specs.declared.losses.Loss.{Loss}
@@ -14,7 +15,7 @@ use Rattle.jillapun_c.specs.declared.status.TheConstants.{CLOSED, FINISHED, OK}
 
 -- a handle holds a converter
 abbrev pub HoldsStep : ConverterHandle → StepView → Type 0
-HoldsStep h v = HoldsConverter h.tables.tables h.words v
+HoldsStep h v = HoldsConverter (held_lists h.tables.tables) h.words (take h.text_len h.text) v
 
 -- it holds none
 abbrev pub HoldsNoStep : ConverterHandle → Type 0
@@ -47,4 +48,4 @@ pub record HoldsNewConverter (job : Job) (h : ConverterHandle) : Type 0 where
 -- a converter is made of the job that the numbers of a call ask for
 abbrev pub OpensConverter : (tables : Option IndexLists) (from to mark policy limit : ℕ) (new : ConverterHandle) (status : ℕ) → Type 0
 OpensConverter tables from to mark policy limit new status =
-    IfAsked tables from to mark policy limit (λ job. (status ≡ OK) × HoldsNewConverter job new) status
+    IfKnown (held_lists tables) from to mark policy limit (λ job. (status ≡ OK) × HoldsNewConverter job new) status

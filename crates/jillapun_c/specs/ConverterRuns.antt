@@ -11,7 +11,7 @@ use Rattle.recode.specs.declared.converter.ConverterResult.TheVariants.{Found}
 use Rattle.recode.specs.declared.job.Job.{Job}
 use Rattle.recode.specs.declared.job.Policy.{Policy}
 use Rattle.jillapun_c.specs.Conversions.{ConvertsInMemory}
-use Rattle.jillapun_c.specs.Converters.{StepView, held_losses, view_in}
+use Rattle.jillapun_c.specs.Converters.{StepView, held_losses}
 use Rattle.jillapun_c.specs.Losses.{log_of_losses}
 use Rattle.jillapun_c.specs.declared.converter.Stage.{Stage}
 use Rattle.jillapun_c.specs.declared.converter.Stage.TheVariants.{Open, Stopped, TooLong}
@@ -54,11 +54,10 @@ pub record WritesUnder (p : Policy) (items : List Item) (output log : List ℕ) 
 -- were converted.
 pub record HasConverted (j : Job) (last : Bool) (input rest output : List ℕ) (losses : List Loss) (c : StepView) : Type 0 where
   pub items : List Item
-  pub taken : ConvertedSoFar j last input rest items (view_in c)
-  pub policy : c.policy ≡ j.policy
+  pub taken : ConvertedSoFar j last input rest items c.stream
   pub written : WritesUnder j.policy items (output ++ c.held) (log_of_losses (losses ++ held_losses c))
-  pub stage : IsAtStage c.stage j (view_in c) input items
-  pub over : (view_in c).over ≡ true → IsOverWith (view_in c) last rest
+  pub stage : IsAtStage c.stage j c.stream input items
+  pub over : c.stream.over ≡ true → IsOverWith c.stream last rest
 
 -- a converter went on from some bytes to the rest of them, and handed out these bytes and records
 abbrev pub Carries : (before after : StepView) → (last : Bool) → (src rest output : List ℕ) → List Loss → Type 0

@@ -4,7 +4,6 @@ use Rattle.recode.specs.Converter.{AllIsConverted, ConverterView, IsFreshConvert
 use Rattle.recode.specs.Session.{ReportsOn}
 use Rattle.recode.specs.calls.ConverterView.{converter_view}
 use Rattle.recode.specs.declared.job.Job.{Job}
-use Rattle.recode.specs.declared.job.Policy.{Policy}
 use Rattle.recode.specs.declared.job.Report.{Report as RunReport}
 use Rattle.jillapun_c.specs.Conversions.{IsToldReport, IsToldStop}
 use Rattle.jillapun_c.specs.Room.{FillsRoom, IsFilled}
@@ -17,11 +16,10 @@ use Rattle.jillapun_c.specs.declared.report.Report.{Report}
 use Rattle.jillapun_c.specs.declared.report.TheConstants.Report.{NONE}
 use Rattle.jillapun_c.specs.declared.status.TheConstants.{GOES_ON, TOO_LONG}
 
--- A conversion by steps, as its callers know it: where the conversion stands, and what is done about a character that has
--- no bytes; the bytes and the record that wait for room; what it has come to, and whether its end was reported.
+-- A conversion by steps, as its callers know it: where the conversion stands; the bytes and the record that wait for room;
+-- what it has come to, and whether its end was reported.
 pub record StepView : Type 0 where
   pub stream : ConverterView
-  pub policy : Policy
   pub held : List ℕ
   pub loss : Option Loss
   pub stage : Stage
@@ -29,7 +27,7 @@ pub record StepView : Type 0 where
 
 -- what a converter of this library is to its callers
 abbrev pub step_view : Converter → StepView
-step_view c = record { stream = converter_view c.stream; policy = c.policy; held = c.held; loss = c.loss; stage = c.stage; is_finished = c.is_finished }
+step_view c = record { stream = converter_view c.stream; held = c.held; loss = c.loss; stage = c.stage; is_finished = c.is_finished }
 
 -- a record, if there is one, as a list
 abbrev pub listed : Option Loss → List Loss
@@ -44,14 +42,9 @@ held_losses c = listed c.loss
 abbrev pub HoldsNothing : StepView → Type 0
 HoldsNothing c = (c.held ≡ []) × (held_losses c ≡ [])
 
--- where its conversion stands
-abbrev pub view_in : StepView → ConverterView
-view_in c = c.stream
-
 -- a converter that was handed nothing
 pub record IsNewConverter (c : StepView) (j : Job) : Type 0 where
-  pub fresh : IsFreshConverter (view_in c) j
-  pub policy : c.policy ≡ j.policy
+  pub fresh : IsFreshConverter c.stream j
   pub empty : HoldsNothing c
   pub stage : c.stage ≡ Open
   pub open_ : c.is_finished ≡ false
@@ -83,7 +76,7 @@ TellsStage TooLong v report status = (report ≡ NONE) × (status ≡ TOO_LONG)
 
 -- what they say of a converter: its end, once all that it made was handed out
 pub record TellsStatus (c : StepView) (report : Report) (status : ℕ) : Type 0 where
-  pub empty : HoldsNothing c → TellsStage c.stage (view_in c) report status
+  pub empty : HoldsNothing c → TellsStage c.stage c.stream report status
   pub held : ¬ (HoldsNothing c) → TellsNoEnd report status
 
 -- What a call converts: if something wants room, it wants more than there was. Else the conversion has come to its end,
@@ -92,7 +85,7 @@ pub record ConvertsAll (c : StepView) (last : Bool) (unread dst : List ℕ) (los
   pub wants_room : IsFalse p.wants_room ↔ HoldsNothing c
   pub output : (c.held ≡ []) ⊎ (p.written ≡ length dst)
   pub lost : (held_losses c ≡ []) ⊎ (p.losses ≡ length losses)
-  pub all : HoldsNothing c → c.stage ≡ Open → (view_in c).over ≡ false → (last ≡ false) × AllIsConverted (view_in c) unread false
+  pub all : HoldsNothing c → c.stage ≡ Open → c.stream.over ≡ false → (last ≡ false) × AllIsConverted c.stream unread false
 
 -- What a call does: it fills the start of both rooms, converts all that it can, and returns the status. If that is an end,
 -- it was the last call.

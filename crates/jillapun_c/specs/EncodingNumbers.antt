@@ -7,7 +7,7 @@ use Rattle.encoding_front.specs.Encodings.{IsReady, needs_of}
 use Rattle.encoding_front.specs.EncodingTable.{encodings}
 use Rattle.encoding_front.specs.declared.encoding.Encoding.{Encoding}
 use Rattle.encoding_front.specs.declared.mark.Mark.{Mark}
-use Rattle.jillapun_c.specs.declared.status.TheConstants.{CLOSED, NOT_READY, OK, UNKNOWN}
+use Rattle.jillapun_c.specs.declared.status.TheConstants.{NOT_READY, OK, UNKNOWN}
 use Rattle.jillapun_c.specs.Room.{IsPut, IsUnwritten, WantsRoom}
 
 -- the encoding with that number, if there is one: its place in the order of the names
@@ -32,8 +32,7 @@ WritesIfAny word old new returned = MatchOption word (IsUnwritten old new return
 abbrev pub needed_file : ℕ → ℕ → Option (List ℕ)
 needed_file encoding place = option_map (λ e. unwrap_or (option_map file_name_of (slice_get (needs_of e) place)) []) (encoding_at encoding)
 
--- a status says whether tables, if there are any, have each index that the encoding with that number needs
-abbrev pub IsReadyStatus : Option IndexLists → (encoding status : ℕ) → Type 0
-IsReadyStatus None encoding status = status ≡ CLOSED
-IsReadyStatus (Some tables) encoding status = MatchOption (encoding_at encoding) (status ≡ UNKNOWN)
+-- a status says whether tables have each index that the encoding with that number needs
+abbrev pub IsReadyStatus : IndexLists → (encoding status : ℕ) → Type 0
+IsReadyStatus tables encoding status = MatchOption (encoding_at encoding) (status ≡ UNKNOWN)
     (λ e. ((status ≡ OK) × IsReady tables e) ⊎ ((status ≡ NOT_READY) × (¬ (IsReady tables e))))

@@ -17,7 +17,7 @@ use Rattle.recode.specs.declared.converter.ConverterResult.TheVariants.{Found, O
 use Rattle.recode.specs.declared.job.Policy.{Policy}
 use Rattle.jillapun_c.specs.Asked.{policy_at}
 use Rattle.jillapun_c.specs.ConverterTurns.{found_log, line_reference, stage_at}
-use Rattle.jillapun_c.specs.ConverterWords.{answer_at, saved_job_in, saved_stage_in, saved_step_in}
+use Rattle.jillapun_c.specs.ConverterWords.{saved_answer_in, saved_job_in, saved_stage_in, saved_step_in}
 use Rattle.jillapun_c.specs.EncoderWords.{encoder_of}
 use Rattle.jillapun_c.specs.EncodingNumbers.{encoding_at, mark_at, needed_file}
 use Rattle.jillapun_c.specs.HeldDecoders.{saved_as, saved_in}
@@ -256,13 +256,13 @@ words_hold_a_decoder = refl
 pub zeroes_hold_no_converter : (w : ConverterWords) → saved_step_in (record w { is_there = false }) ≡ None
 zeroes_hold_no_converter w = refl
 
-pub malformed_by_number : answer_at 3 2 1 ≡ Some (Some (decoded.Malformed 2 1))
+pub malformed_by_number : saved_answer_in (record { kind = 3; size = 2; after = 1 }) ≡ Some (Some (decoded.Malformed 2 1))
 malformed_by_number = refl
 
-pub none_waits_by_number : answer_at 0 0 0 ≡ Some None
+pub none_waits_by_number : saved_answer_in (record { kind = 0; size = 0; after = 0 }) ≡ Some None
 none_waits_by_number = refl
 
-pub no_answer_by_number : answer_at 4 0 0 ≡ None
+pub no_answer_by_number : saved_answer_in (record { kind = 4; size = 0; after = 0 }) ≡ None
 no_answer_by_number = refl
 
 pub stop_by_number : saved_stage_in (record { index = 7; scalar = 0x100; stage = 1 }) ≡ Some (Stopped 7 0x100)

@@ -1,8 +1,9 @@
 //! Conversions from memory to memory.
 
 ghost use Rattle.std.specs.Prelude.{◌≡◌, ◌≢◌};
-ghost use Rattle.jillapun_c.specs.Asked.{IfAsked};
+ghost use Rattle.jillapun_c.specs.Asked.{IfKnown};
 ghost use Rattle.jillapun_c.specs.Conversions.{ConvertsIfShort, IsDone};
+ghost use Rattle.jillapun_c.specs.HeldTables.{held_lists};
 ghost use Rattle.jillapun_c.specs.declared.report.TheConstants.Report.{NONE};
 ghost use Rattle.jillapun_c.specs.declared.status.TheConstants.{ROOM};
 
@@ -10,7 +11,6 @@ use crate::in_memory::convert_job;
 use crate::losses::Loss;
 use crate::report::Report;
 use crate::request::Request;
-use crate::status::CLOSED;
 use crate::tables_handle::TablesHandle;
 
 /// Converts a text in memory: the bytes of `src`, from the encoding with the number `from` to the
@@ -32,14 +32,15 @@ use crate::tables_handle::TablesHandle;
 ///   is the last.
 /// - `TOO_LONG`: `src` is longer than the limit.
 /// - `UNKNOWN`: a number stands for nothing. `NOT_READY`: an index that one of the encodings needs
-///   is not in the tables. `CLOSED`: the handle has no tables.
+///   is not in the tables.
 ///
-/// At the last four nothing is written, and all of the report is 0.
+/// At the last three nothing is written, and all of the report is 0.
 ///
 /// No memory is taken. What does not fit into `dst` and `losses` is converted all the same, for its
 /// length.
 #[unsafe(no_mangle)]
 pub extern "C" fn jillapun_convert(
+    alloc: Global,
     tables: TablesHandle,
     from: u8,
     to: u8,
@@ -51,7 +52,7 @@ pub extern "C" fn jillapun_convert(
     losses: &mut [Loss],
     report: &mut Report,
 ) -> u8
-    ensures converts { IfAsked tables.tables from to mark policy limit
+    ensures converts { IfKnown (held_lists tables.tables) from to mark policy limit
         (λ j. ConvertsIfShort j src.now dst.old dst.new losses.old losses.new report.new result)
         result }
     ensures kept { ¬ (IsDone result) → result ≢ ROOM
@@ -59,9 +60,7 @@ pub extern "C" fn jillapun_convert(
     ensures nothing { ¬ (IsDone result) → result ≢ ROOM → report.new ≡ NONE }
 {
     *report = Report::NONE;
-    let Some(tables) = tables.get() else {
-        return CLOSED;
-    };
+    let tables = tables.or_empty(alloc);
     let request = Request {
         from,
         to,
@@ -69,7 +68,7 @@ pub extern "C" fn jillapun_convert(
         policy,
         limit,
     };
-    match request.job(tables) {
+    match request.job(tables.get()) {
         Err(status) => status,
         Ok(job) => convert_job(job, src, dst, losses, report),
     }
@@ -126,6 +125,7 @@ mod tests {
             report: Report::NONE,
         };
         left.status = jillapun_convert(
+            alloc,
             TablesHandle::of(tables(alloc)?),
             from,
             to,
@@ -151,6 +151,30 @@ mod tests {
         assert_eq!(rt; left.report.losses, 0);
         assert_eq!(rt; left.losses[0].kind, 9);
         Ok(())
+    }
+
+    #[test]
+    fn no_tables_are_enough(rt: HostRuntime) {
+        for (from, status, wanted) in [
+            (UTF_8, OK, *b"\xC3\xA8.."),
+            (SHIFT_JIS, NOT_READY, *b"...."),
+        ] {
+            let mut dst = *b"....";
+            let told = jillapun_convert(
+                rt.alloc(),
+                TablesHandle::none(),
+                from,
+                UTF_8,
+                KEEP,
+                DECIMAL,
+                12,
+                b"\xC3\xA8",
+                &mut dst,
+                &mut [],
+                &mut Report::NONE,
+            );
+            assert_eq!(rt; (told, dst), (status, wanted));
+        }
     }
 
     #[test]

@@ -22,10 +22,11 @@ use crate::converter::held::Held;
 use crate::converter::words::SavedStep;
 use crate::losses::Loss;
 use crate::request::Request;
-use crate::status::{CLOSED, OK};
+use crate::status::OK;
 use crate::tables_handle::TablesHandle;
 use encoding_tables::Tables;
-use recode::{Job, Policy};
+use recode::Job;
+use std::alloc::Global;
 
 /// What a conversion has come to.
 #[derive(Clone, Copy)]
@@ -40,11 +41,9 @@ pub enum Stage {
 
 /// A conversion by steps, and what of it waits for room.
 #[derive(Drop)]
-pub struct Converter {
+pub struct Converter<'t> {
     /// The conversion.
-    pub stream: recode::Converter<'static>,
-    /// What is done about a character that has no bytes in the output encoding.
-    pub policy: Policy,
+    pub stream: recode::Converter<'t>,
     /// The bytes that wait for room.
     pub held: Held,
     /// The record that waits for room, if one does.
@@ -55,16 +54,15 @@ pub struct Converter {
     pub is_finished: bool,
 }
 
-impl Converter {
+impl<'t> Converter<'t> {
     /// One that was handed nothing.
-    pub(crate) fn new(job: Job<'static>) -> Converter
+    pub(crate) fn new(job: Job<'t>) -> Self
         requires { IsValidJob job }
         ensures is_new { IsNewConverter (step_view result) job.entry }
         ensures so_far { HasConverted job.entry false [] [] [] [] (step_view result) }
     {
         Converter {
             stream: recode::Converter::new(job),
-            policy: job.policy,
             held: Held::none(),
             loss: None,
             stage: Stage::Open,
@@ -72,33 +70,34 @@ impl Converter {
         }
     }
 
-    /// What it keeps between calls.
+    /// What it keeps between calls, and the text that waits to be encoded.
     #[inline(always)]
-    pub(crate) fn saved(&self) -> SavedStep
-        ensures { SavesStep result (step_view self.now) }
+    pub(crate) fn saved(&self) -> (SavedStep, &[u8])
+        ensures { SavesStep result.0 result.1.now (step_view self.now) }
     {
+        let (stream, text) = self.stream.saved();
         let (held, held_len) = self.held.parts();
-        SavedStep {
-            stream: self.stream.saved(),
-            policy: self.policy,
+        let saved = SavedStep {
+            stream,
             held,
             held_len,
             loss: self.loss,
             stage: self.stage,
             is_finished: self.is_finished,
-        }
+        };
+        (saved, text)
     }
 
-    /// One that goes on from what was saved of one whose job had these tables.
+    /// One that goes on from what was saved of one whose job had these tables, and the text that
+    /// waited.
     #[inline(always)]
-    pub(crate) fn resumed(saved: SavedStep, tables: &'static Tables) -> Converter
-        requires { CanGoOnFrom tables.now saved.stream }
-        ensures saves { SavesStep saved (step_view result) }
+    pub(crate) fn resumed(saved: SavedStep, text: &[u8], tables: &'t Tables) -> Self
+        requires { CanGoOnFrom tables.now saved.stream text.now }
+        ensures saves { SavesStep saved text.now (step_view result) }
         ensures lists { (step_view result).stream.lists ≡ tables.now }
     {
         Converter {
-            stream: recode::Converter::resumed(saved.stream, tables),
-            policy: saved.policy,
+            stream: recode::Converter::resumed(saved.stream, text, tables),
             held: Held::of(saved.held, saved.held_len),
             loss: saved.loss,
             stage: saved.stage,
@@ -112,10 +111,11 @@ impl Converter {
 /// `jillapun_convert`. What `out` held is overwritten, whether or not its end was reported.
 ///
 /// Returns `OK`, and `out` holds the converter. Else nothing is made, and `out` stays as it is:
-/// `CLOSED`, there are no tables; `UNKNOWN`, a number stands for nothing; `NOT_READY`, an index
-/// that one of the encodings needs is not in the tables.
+/// `UNKNOWN`, a number stands for nothing; `NOT_READY`, an index that one of the encodings needs is
+/// not in the tables.
 #[unsafe(no_mangle)]
 pub extern "C" fn jillapun_converter_new(
+    alloc: Global,
     tables: TablesHandle,
     from: u8,
     to: u8,
@@ -127,9 +127,7 @@ pub extern "C" fn jillapun_converter_new(
     ensures opens { OpensConverter tables.tables from to mark policy limit out.new result }
     ensures unchanged { result ≢ OK → out.new ≡ out.old }
 {
-    let Some(lent) = tables.lent() else {
-        return CLOSED;
-    };
+    let in_use = tables.or_empty(alloc);
     let request = Request {
         from,
         to,
@@ -137,10 +135,10 @@ pub extern "C" fn jillapun_converter_new(
         policy,
         limit,
     };
-    match request.job(lent) {
+    match request.job(in_use.get()) {
         Err(status) => status,
         Ok(job) => {
-            *out = ConverterHandle::of(tables, &Converter::new(job));
+            out.keep(tables, &Converter::new(job));
             OK
         }
     }

@@ -9,11 +9,12 @@ ghost use Rattle.encoding_front.specs.Encodings.{is_ascii_compatible_of, is_sing
 ghost use Rattle.encoding_front.specs.Encodings.{output_encoding_of};
 ghost use Rattle.encoding_front.specs.declared.encoding.Encoding.{Encoding};
 ghost use Rattle.jillapun_c.specs.EncodingNumbers.{IsReadyStatus, Writes, WritesIfAny};
+ghost use Rattle.jillapun_c.specs.HeldTables.{held_lists};
 ghost use Rattle.jillapun_c.specs.EncodingNumbers.{encoding_at, needed_file};
 ghost use Rattle.jillapun_c.specs.declared.status.TheConstants.{NO_ENCODING};
 
 use crate::encoding_number::{encoding_of, number_of};
-use crate::status::{CLOSED, NO_ENCODING, NOT_READY, OK, REFUSED, UNKNOWN};
+use crate::status::{NO_ENCODING, NOT_READY, OK, REFUSED, UNKNOWN};
 use crate::tables_handle::TablesHandle;
 use encoding_front::Encoding;
 
@@ -158,17 +159,14 @@ pub extern "C" fn jillapun_needs(encoding: u8, place: usize, name: &mut [u8]) ->
 }
 
 /// Whether tables hold all indexes that an encoding needs: returns `OK`; `NOT_READY`, one is
-/// missing; `UNKNOWN`, no encoding has the number; `CLOSED`, there are no tables. UTF-8, UTF-16BE,
-/// UTF-16LE, replacement and x-user-defined need none.
+/// missing; `UNKNOWN`, no encoding has the number. UTF-8, UTF-16BE, UTF-16LE, replacement and
+/// x-user-defined need none.
 #[unsafe(no_mangle)]
 pub extern "C" fn jillapun_tables_is_ready(tables: TablesHandle, encoding: u8) -> u8
-    ensures { IsReadyStatus tables.tables encoding result }
+    ensures { IsReadyStatus (held_lists tables.tables) encoding result }
 {
-    let Some(tables) = tables.get() else {
-        return CLOSED;
-    };
     match encoding_of(encoding) {
-        Some(encoding) if encoding.is_ready(tables) => OK,
+        Some(encoding) if tables.are_ready(encoding) => OK,
         Some(_) => NOT_READY,
         None => UNKNOWN,
     }

@@ -32,7 +32,7 @@ pub struct Run {
 }
 
 // Runs a job, at the start of both rooms as far as what it makes fits.
-fn run_job(job: Job<'static>, src: &[u8], dst: &mut [u8], losses: &mut [Loss]) -> Run
+fn run_job(job: Job<'_>, src: &[u8], dst: &mut [u8], losses: &mut [Loss]) -> Run
     requires { IsValidJob job }
     ensures { ComesTo job.entry src.now dst.old dst.new losses.old losses.new result }
 {
@@ -61,7 +61,7 @@ fn run_job(job: Job<'static>, src: &[u8], dst: &mut [u8], losses: &mut [Loss]) -
 
 /// Converts an input by a job, if the limit of the job allows its length.
 pub(crate) fn convert_job(
-    job: Job<'static>,
+    job: Job<'_>,
     src: &[u8],
     dst: &mut [u8],
     losses: &mut [Loss],

@@ -21,7 +21,7 @@ ghost use Rattle.recode.specs.declared.job.Policy.{Policy};
 pub mod saved_converter;
 
 use crate::engine::Engine;
-use crate::job::{Job, Pivot, Report};
+use crate::job::{Job, Pivot, Policy, Report};
 use encoding_front::{Decoder, StreamDecoder, VariantEncoder};
 use encoding_mem::RawEncoder;
 use recode_log::line::LogLine;
@@ -193,6 +193,13 @@ impl<'t> Converter<'t> {
         ensures { result ≡ (converter_view self.now).state.counts.index }
     {
         self.engine.counts.index
+    }
+
+    /// What the job says is done about a character that has no bytes in the output's encoding.
+    pub fn policy(&self) -> Policy
+        ensures { result ≡ (converter_view self.now).job.policy }
+    {
+        self.job.policy
     }
 
     /// How many more bytes of the input the job's limit allows. The test of a condition of

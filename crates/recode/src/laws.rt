@@ -396,12 +396,12 @@ pub fn calls_are_a_conversion()
         → v.state.counts.index ≡ length (input_text j bytes) }
 {}
 
-/// Two converters of which the same was saved, and whose jobs have the same indexes, are the same
-/// to their callers. So one that was resumed (`Converter::resumed`) goes on as the saved one would
-/// have.
+/// Two converters of which the same was saved, with the same text, and whose jobs have the same
+/// indexes, are the same to their callers. So one that was resumed (`Converter::resumed`) goes on
+/// as the saved one would have.
 pub fn resumed_converters_go_on()
-    ensures { (w : SavedConverter) (v u : ConverterView) → v.lists ≡ u.lists
-        → SavesConverter w v → SavesConverter w u → v ≡ u }
+    ensures { (w : SavedConverter) (text : List ℕ) (v u : ConverterView) → v.lists ≡ u.lists
+        → SavesConverter w text v → SavesConverter w text u → v ≡ u }
 {}
 
 /// An input is cut behind a byte below 30, as a line feed is, if its encoding and the output

@@ -61,7 +61,7 @@ mod verdict;
 mod writers;
 
 pub use conversion::{FAITHFUL, FAULT, NOT_FAITHFUL, convert};
-pub use converter::saved_converter::SavedConverter;
+pub use converter::saved_converter::{SavedConverter, SavedJob, SavedVerdict};
 pub use converter::{Converter, ConverterResult};
 pub use counts::Counts;
 // What calls take is handed on as well as what they return: a job is made from this crate alone.

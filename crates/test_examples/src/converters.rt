@@ -129,7 +129,8 @@ fn continued<'t>(converter: &Converter<'_>, tables: &'t Tables) -> Converter<'t>
     ensures { converter_view result ≡ converter_view converter.now }
 {
     resumed_converters_go_on();
-    Converter::resumed(converter.saved(), tables)
+    let (saved, text) = converter.saved();
+    Converter::resumed(saved, text, tables)
 }
 
 /// Converts an input that comes one byte at a time, and adds to the ends of an output and a log

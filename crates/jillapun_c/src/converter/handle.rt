@@ -1,11 +1,14 @@
 //! The handle of a conversion by steps, as C holds it.
 
+ghost use Rattle.std.specs.Prelude.{◌≤◌, take};
 ghost use Rattle.jillapun_c.specs.ConverterWords.{IsSoundConverter};
+ghost use Rattle.jillapun_c.specs.HeldTables.{held_lists};
 
 use crate::converter::Converter;
 use crate::converter::words::ConverterWords;
 use crate::status::{CLOSED, FINISHED};
 use crate::tables_handle::TablesHandle;
+use encoding_tables::Tables;
 
 /// A conversion by steps. Begin with `{0}`, which holds none; `jillapun_converter_new` fills it.
 /// All that it keeps stands in it: it may be moved, a copy is a converter of its own that goes on
@@ -16,7 +19,12 @@ use crate::tables_handle::TablesHandle;
 pub struct ConverterHandle {
     pub tables: TablesHandle,
     pub(crate) words: ConverterWords,
-    pub ghost sound: { IsSoundConverter tables.tables words },
+    // The text that waits to be encoded is the first of these bytes, and so many.
+    pub(crate) text_len: usize,
+    pub(crate) text: [u8; 1024],
+    pub ghost fits: { text_len ≤ 1024 },
+    pub ghost sound: { IsSoundConverter (held_lists tables.tables) words
+        (take text_len text) },
 }
 
 impl ConverterHandle {
@@ -31,25 +39,29 @@ impl ConverterHandle {
         ConverterHandle {
             tables: TablesHandle::none(),
             words: ConverterWords::none(),
+            text_len: 0,
+            text: [0; 1024],
         }
     }
 
-    /// One that holds a converter, whose job has these tables.
+    /// Holds a converter from now on, whose job has these tables.
     #[inline(always)]
-    pub(crate) fn of(tables: TablesHandle, converter: &Converter) -> ConverterHandle
-        requires { tables.tables ≡ Some (step_view converter.now).stream.lists }
-        ensures { HoldsStep result (step_view converter.now) }
+    pub(crate) fn keep(&mut self, tables: TablesHandle, converter: &Converter<'_>)
+        requires { held_lists tables.tables ≡ (step_view converter.now).stream.lists }
+        ensures { HoldsStep self.new (step_view converter.now) }
     {
-        ConverterHandle {
-            tables,
-            words: ConverterWords::of(converter.saved()),
-        }
+        let (saved, text) = converter.saved();
+        self.tables = tables;
+        self.words = ConverterWords::of(saved);
+        self.text_len = text.len();
+        self.text[..text.len()].copy_from_slice(text);
     }
 
-    /// The converter that it holds, as one that goes on. Else the status: `CLOSED`, it holds no
-    /// converter; `FINISHED`, an end was reported.
+    /// The converter that it holds, as one that goes on over its tables. Else the status: `CLOSED`,
+    /// it holds no converter; `FINISHED`, an end was reported.
     #[inline(always)]
-    pub(crate) fn opened(&self) -> Result<Converter, u8>
+    pub(crate) fn opened<'t>(&self, tables: &'t Tables) -> Result<Converter<'t>, u8>
+        requires { tables.now ≡ held_lists self.now.tables.tables }
         ensures { MatchResult result
             (λ c. HoldsStep self.now (step_view c) × (c.is_finished ≡ false))
             (λ status. TellsWhyIdle self.now status) }
@@ -60,9 +72,6 @@ impl ConverterHandle {
         if saved.is_finished {
             return Err(FINISHED);
         }
-        let Some(tables) = self.tables.lent() else {
-            unreachable!();
-        };
-        Ok(Converter::resumed(saved, tables))
+        Ok(Converter::resumed(saved, &self.text[..self.text_len], tables))
     }
 }

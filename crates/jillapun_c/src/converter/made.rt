@@ -21,7 +21,7 @@ pub(crate) fn fill<T: Copy>(list: &[T], room: &mut [T], at: usize) -> usize
     to
 }
 
-impl Converter {
+impl Converter<'_> {
     /// Whether all that was made was handed out.
     pub(crate) fn holds_nothing(&self) -> bool
         ensures { IsTrue result ↔ HoldsNothing (step_view self.now) }

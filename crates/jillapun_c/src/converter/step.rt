@@ -16,8 +16,9 @@ use crate::losses::Loss;
 use crate::report::{Report, told_report, told_stop};
 use crate::status::{GOES_ON, TOO_LONG};
 use recode::laws::stops_at_first_loss;
+use std::alloc::Global;
 
-impl Converter {
+impl Converter<'_> {
     // What a call is to read: what it was handed, and after the end nothing but the end.
     fn readable<'s>(&self, src: &'s [u8], last: bool) -> (&'s [u8], bool)
         ensures ended { (step_view self.now).stream.ended ≡ true
@@ -79,6 +80,7 @@ impl Converter {
 /// No memory is taken.
 #[unsafe(no_mangle)]
 pub extern "C" fn jillapun_converter_step(
+    alloc: Global,
     converter: &mut ConverterHandle,
     src: &[u8],
     last: bool,
@@ -101,18 +103,20 @@ pub extern "C" fn jillapun_converter_step(
 {
     *progress = ConverterProgress::NONE;
     *report = Report::NONE;
-    let mut held = match converter.opened() {
+    let in_use = converter.tables.or_empty(alloc);
+    let mut held = match converter.opened(in_use.get()) {
         Err(status) => return status,
         Ok(held) => held,
     };
     let status = convert_step(&mut held, src, last, dst, losses, progress, report);
-    *converter = ConverterHandle::of(converter.tables.copied(), &held);
+    let tables = converter.tables.copied();
+    converter.keep(tables, &held);
     status
 }
 
 // A step of a converter.
 fn convert_step(
-    converter: &mut Converter,
+    converter: &mut Converter<'_>,
     src: &[u8],
     last: bool,
     dst: &mut [u8],

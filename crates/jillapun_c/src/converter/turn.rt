@@ -15,7 +15,7 @@ use crate::losses::Loss;
 use encoding_front::write_reference;
 use recode::{ConverterResult, LogLine};
 
-impl Converter {
+impl Converter<'_> {
     // Whether a turn can be made: all that was made was handed out, and the conversion goes on.
     fn is_ready(&self) -> bool
         ensures { IsTrue result ↔ CanTurn (step_view self.now) }
@@ -74,7 +74,7 @@ impl Converter {
         let LogLine::Lost { index, scalar } = line else {
             return;
         };
-        match self.policy.reference() {
+        match self.stream.policy().reference() {
             Some(form) => {
                 let mut bytes = [0; 10];
                 let len = write_reference(scalar, form, &mut bytes);

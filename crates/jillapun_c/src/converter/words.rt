@@ -1,9 +1,8 @@
 //! A converter in plain words, as its handle keeps it.
 
 ghost use Rattle.std.specs.Prelude.{◌≡◌, None, Some};
-ghost use Rattle.jillapun_c.specs.ConverterWords.{saved_job_in, saved_stage_in, saved_step_in};
-ghost use Rattle.jillapun_c.specs.ConverterWords.{saved_stream_in, saved_text_in};
-ghost use Rattle.jillapun_c.specs.ConverterWords.{answer_at, saved_verdict_in};
+ghost use Rattle.jillapun_c.specs.ConverterWords.{saved_answer_in, saved_job_in, saved_stage_in};
+ghost use Rattle.jillapun_c.specs.ConverterWords.{saved_step_in, saved_stream_in, saved_verdict_in};
 
 use crate::converter::Stage;
 use crate::decoder::words::DecoderWords;
@@ -12,16 +11,13 @@ use crate::encoding_number::{encoding_of, mark_of, number_of, number_of_mark};
 use crate::losses::Loss;
 use crate::request::{number_of_policy, policy_of};
 use encoding_mem::DecoderResult;
-use recode::converter::saved_converter::{SavedConverter, SavedJob, SavedText, SavedVerdict};
-use recode::{Counts, Policy};
+use recode::{Counts, SavedConverter, SavedJob, SavedVerdict};
 
 /// What a converter of this library keeps between calls.
 #[derive(Clone, Copy)]
 pub struct SavedStep {
     /// What its conversion keeps.
     pub stream: SavedConverter,
-    /// What is done about a character that has no bytes in the output encoding.
-    pub policy: Policy,
     /// The bytes that wait for room are the first of these.
     pub held: [u8; 32],
     /// How many they are.
@@ -115,76 +111,42 @@ impl VerdictWords {
     }
 }
 
-/// The text that waits to be encoded, for calls of this library alone.
+/// How a call of a decoder ended, for calls of this library alone.
 #[repr(C)]
 #[derive(Clone, Copy)]
-pub struct TextWords {
-    from: usize,
-    to: usize,
-    answer: u8,
+pub struct AnswerWords {
+    kind: u8,
     size: u8,
     after: u8,
-    bytes: [u8; 1024],
 }
 
-// How a call of a decoder ended, as a number and two lengths.
-#[inline(always)]
-fn numbers_of_answer(answer: Option<DecoderResult>) -> (u8, u8, u8)
-    ensures { answer_at result.0 result.1 result.2 ≡ Some answer }
-{
-    match answer {
-        None => (0, 0, 0),
-        Some(DecoderResult::InputEmpty) => (1, 0, 0),
-        Some(DecoderResult::OutputFull) => (2, 0, 0),
-        Some(DecoderResult::Malformed(size, after)) => (3, size, after),
-    }
-}
-
-// How the call ended, if the number stands for something.
-#[inline(always)]
-fn answer_of(number: u8, size: u8, after: u8) -> Option<Option<DecoderResult>>
-    ensures { result ≡ answer_at number size after }
-{
-    match number {
-        0 => Some(None),
-        1 => Some(Some(DecoderResult::InputEmpty)),
-        2 => Some(Some(DecoderResult::OutputFull)),
-        3 => Some(Some(DecoderResult::Malformed(size, after))),
-        _ => None,
-    }
-}
-
-impl TextWords {
-    // Those of a text.
+impl AnswerWords {
+    // Those of a call, if there was one.
     #[inline(always)]
-    fn of(text: SavedText) -> TextWords
-        ensures { saved_text_in result ≡ Some text }
+    fn of(answer: Option<DecoderResult>) -> AnswerWords
+        ensures { saved_answer_in result ≡ Some answer }
     {
-        let bytes = text.bytes;
-        let (answer, size, after) = numbers_of_answer(text.answer);
-        TextWords {
-            from: text.from,
-            to: text.to,
-            answer,
-            size,
-            after,
-            bytes,
+        let (kind, size, after) = match answer {
+            None => (0, 0, 0),
+            Some(DecoderResult::InputEmpty) => (1, 0, 0),
+            Some(DecoderResult::OutputFull) => (2, 0, 0),
+            Some(DecoderResult::Malformed(size, after)) => (3, size, after),
+        };
+        AnswerWords { kind, size, after }
+    }
+
+    // How the call ended, if the number stands for something.
+    #[inline(always)]
+    fn saved(self) -> Option<Option<DecoderResult>>
+        ensures { result ≡ saved_answer_in self }
+    {
+        match self.kind {
+            0 => Some(None),
+            1 => Some(Some(DecoderResult::InputEmpty)),
+            2 => Some(Some(DecoderResult::OutputFull)),
+            3 => Some(Some(DecoderResult::Malformed(self.size, self.after))),
+            _ => None,
         }
-    }
-
-    // The text, if the number stands for something.
-    #[inline(always)]
-    fn saved(self) -> Option<SavedText>
-        ensures { result ≡ saved_text_in self }
-    {
-        let bytes = self.bytes;
-        let answer = answer_of(self.answer, self.size, self.after)?;
-        Some(SavedText {
-            bytes,
-            from: self.from,
-            to: self.to,
-            answer,
-        })
     }
 }
 
@@ -200,10 +162,10 @@ pub struct StreamWords {
     job: JobWords,
     decoder: DecoderWords,
     verdict: VerdictWords,
+    answer: AnswerWords,
     set: u8,
     ended: bool,
     over: bool,
-    text: TextWords,
 }
 
 impl StreamWords {
@@ -221,10 +183,10 @@ impl StreamWords {
             job: JobWords::of(stream.job),
             decoder: DecoderWords::of(stream.decoder),
             verdict: VerdictWords::of(stream.verdict),
+            answer: AnswerWords::of(stream.answer),
             set: number_of_set(stream.set),
             ended: stream.ended,
             over: stream.over,
-            text: TextWords::of(stream.text),
         }
     }
 
@@ -237,7 +199,7 @@ impl StreamWords {
         let decoder = self.decoder.saved()?;
         let set = set_of(self.set)?;
         let verdict = self.verdict.saved()?;
-        let text = self.text.saved()?;
+        let answer = self.answer.saved()?;
         Some(SavedConverter {
             job,
             decoder,
@@ -250,7 +212,7 @@ impl StreamWords {
                 lost: self.lost,
                 calls: self.calls,
             },
-            text,
+            answer,
             ended: self.ended,
             over: self.over,
         })
@@ -308,7 +270,6 @@ pub struct ConverterWords {
     is_there: bool,
     is_finished: bool,
     has_loss: bool,
-    policy: u8,
     loss: Loss,
     stage: StageWords,
     held_len: usize,
@@ -338,17 +299,14 @@ impl StreamWords {
                 by_log: false,
                 faithful: false,
             },
+            answer: AnswerWords {
+                kind: 0,
+                size: 0,
+                after: 0,
+            },
             set: 0,
             ended: false,
             over: false,
-            text: TextWords {
-                from: 0,
-                to: 0,
-                answer: 0,
-                size: 0,
-                after: 0,
-                bytes: [0; 1024],
-            },
         }
     }
 }
@@ -362,7 +320,6 @@ impl ConverterWords {
             is_there: false,
             is_finished: false,
             has_loss: false,
-            policy: 0,
             loss: Loss::NONE,
             stage: StageWords {
                 index: 0,
@@ -385,7 +342,6 @@ impl ConverterWords {
             is_there: true,
             is_finished: saved.is_finished,
             has_loss: saved.loss.is_some(),
-            policy: number_of_policy(saved.policy),
             loss: saved.loss.unwrap_or(Loss::NONE),
             stage: StageWords::of(saved.stage),
             held_len: saved.held_len,
@@ -404,11 +360,9 @@ impl ConverterWords {
         }
         let held = self.held;
         let stream = self.stream.saved()?;
-        let policy = policy_of(self.policy)?;
         let stage = self.stage.saved()?;
         Some(SavedStep {
             stream,
-            policy,
             held,
             held_len: self.held_len,
             loss: if self.has_loss { Some(self.loss) } else { None },

@@ -33,7 +33,16 @@ struct Given {
 fn opened(alloc: Global, from: u8, policy: u8) -> ConverterHandle {
     let mut converter = ConverterHandle::none();
     let tables = euro(alloc);
-    jillapun_converter_new(tables, from, WINDOWS_1252, KEEP, policy, 12, &mut converter);
+    jillapun_converter_new(
+        alloc,
+        tables,
+        from,
+        WINDOWS_1252,
+        KEEP,
+        policy,
+        12,
+        &mut converter,
+    );
     converter
 }
 
@@ -65,6 +74,7 @@ fn by_steps(
     for _ in 0..200 {
         let part = &rest[..chunk.min(rest.len())];
         given.status = jillapun_converter_step(
+            alloc,
             &mut converter,
             part,
             part.len() == rest.len(),
@@ -149,6 +159,7 @@ fn end_is_told_once(rt: HostRuntime) {
     let mut report = Report::NONE;
     let mut dst = *b"....";
     let status = jillapun_converter_step(
+        alloc,
         &mut converter,
         b"",
         false,
@@ -159,6 +170,7 @@ fn end_is_told_once(rt: HostRuntime) {
     );
     assert_eq!(rt; status, GOES_ON);
     let status = jillapun_converter_step(
+        alloc,
         &mut converter,
         b"abc",
         true,
@@ -170,6 +182,7 @@ fn end_is_told_once(rt: HostRuntime) {
     assert_eq!(rt; (status, progress.read, progress.written), (GOES_ON, 3, 2));
     assert_eq!(rt; progress.wants_room, true);
     let status = jillapun_converter_step(
+        alloc,
         &mut converter,
         b"d",
         false,
@@ -182,6 +195,7 @@ fn end_is_told_once(rt: HostRuntime) {
     assert_eq!(rt; (dst, progress.wants_room), (*b"cb..", false));
     assert_eq!(rt; report.read, 3);
     let status = jillapun_converter_step(
+        alloc,
         &mut converter,
         b"",
         true,
@@ -193,6 +207,7 @@ fn end_is_told_once(rt: HostRuntime) {
     assert_eq!(rt; (status, progress.read, progress.written), (FINISHED, 0, 0));
     assert_eq!(rt; report.read, 0);
     let status = jillapun_converter_step(
+        alloc,
         &mut ConverterHandle::none(),
         b"abc",
         true,
@@ -206,10 +221,11 @@ fn end_is_told_once(rt: HostRuntime) {
 
 // Hands in the last byte of a euro sign, and of an input. Returns the status, how many bytes were
 // written, and the first.
-fn ended(converter: &mut ConverterHandle) -> (u8, usize, u8) {
+fn ended(alloc: Global, converter: &mut ConverterHandle) -> (u8, usize, u8) {
     let mut dst = *b"....";
     let mut progress = ConverterProgress::NONE;
     let status = jillapun_converter_step(
+        alloc,
         converter,
         b"\xAC",
         true,
@@ -223,10 +239,12 @@ fn ended(converter: &mut ConverterHandle) -> (u8, usize, u8) {
 
 #[test]
 fn copies_go_on_alone(rt: HostRuntime) {
-    let mut converter = opened(rt.alloc(), UTF_8, DECIMAL);
+    let alloc = rt.alloc();
+    let mut converter = opened(alloc, UTF_8, DECIMAL);
     let mut progress = ConverterProgress::NONE;
     let mut report = Report::NONE;
     jillapun_converter_step(
+        alloc,
         &mut converter,
         b"a\xE2\x82",
         false,
@@ -236,13 +254,16 @@ fn copies_go_on_alone(rt: HostRuntime) {
         &mut report,
     );
     assert_eq!(rt; (progress.read, progress.written), (3, 1));
+    let text = converter.text;
     let mut copy = ConverterHandle {
         tables: converter.tables.copied(),
         words: converter.words,
+        text_len: converter.text_len,
+        text,
     };
-    assert_eq!(rt; ended(&mut converter), (OK, 1, 0x80));
-    assert_eq!(rt; ended(&mut copy), (OK, 1, 0x80));
-    assert_eq!(rt; ended(&mut converter), (FINISHED, 0, 0x2E));
+    assert_eq!(rt; ended(alloc, &mut converter), (OK, 1, 0x80));
+    assert_eq!(rt; ended(alloc, &mut copy), (OK, 1, 0x80));
+    assert_eq!(rt; ended(alloc, &mut converter), (FINISHED, 0, 0x2E));
 }
 
 #[test]
@@ -253,10 +274,11 @@ fn others_are_not_opened(rt: HostRuntime) {
         (euro(alloc), UTF_8, 3, UNKNOWN),
         (euro(alloc), 40, DECIMAL, UNKNOWN),
         (euro(alloc), BIG5, DECIMAL, NOT_READY),
-        (TablesHandle::none(), UTF_8, DECIMAL, CLOSED),
+        (TablesHandle::none(), UTF_8, DECIMAL, NOT_READY),
     ];
     for (tables, from, policy, wanted) in cases {
         let status = jillapun_converter_new(
+            alloc,
             tables,
             from,
             WINDOWS_1252,
@@ -272,6 +294,7 @@ fn others_are_not_opened(rt: HostRuntime) {
     let mut progress = ConverterProgress::NONE;
     let mut report = Report::NONE;
     let status = jillapun_converter_step(
+        alloc,
         &mut held,
         b"a",
         true,
@@ -282,9 +305,10 @@ fn others_are_not_opened(rt: HostRuntime) {
     );
     assert_eq!(rt; (status, dst), (OK, *b"a..."));
     let tables = euro(alloc);
-    let status = jillapun_converter_new(tables, UTF_8, UTF_8, KEEP, DECIMAL, 12, &mut held);
+    let status = jillapun_converter_new(alloc, tables, UTF_8, UTF_8, KEEP, DECIMAL, 12, &mut held);
     assert_eq!(rt; status, OK);
     let status = jillapun_converter_step(
+        alloc,
         &mut held,
         b"b",
         true,
@@ -294,4 +318,35 @@ fn others_are_not_opened(rt: HostRuntime) {
         &mut report,
     );
     assert_eq!(rt; (status, dst), (OK, *b"b..."));
+}
+
+#[test]
+fn no_tables_are_enough(rt: HostRuntime) {
+    let alloc = rt.alloc();
+    let mut held = ConverterHandle::none();
+    let status = jillapun_converter_new(
+        alloc,
+        TablesHandle::none(),
+        UTF_8,
+        UTF_8,
+        KEEP,
+        DECIMAL,
+        12,
+        &mut held,
+    );
+    assert_eq!(rt; status, OK);
+    let mut dst = *b"....";
+    let mut report = Report::NONE;
+    let status = jillapun_converter_step(
+        alloc,
+        &mut held,
+        b"\xC3\xA8",
+        true,
+        &mut dst,
+        &mut [],
+        &mut ConverterProgress::NONE,
+        &mut report,
+    );
+    assert_eq!(rt; (status, dst), (OK, *b"\xC3\xA8.."));
+    assert_eq!(rt; (report.read, report.characters), (2, 1));
 }

@@ -73,13 +73,13 @@ one_view v u h i = record {
 
 -- ---- and so are converters of which the same was saved
 
-one_decoder : (w : SavedConverter) (v u : ConverterView) → v.lists ≡ u.lists → (h : SavesConverter w v) (k : SavesConverter w u) → h.decoder ≡ k.decoder
-one_decoder w v u lists h k = one_view h.decoder k.decoder
+one_decoder : (w : SavedConverter) (text : List ℕ) (v u : ConverterView) → v.lists ≡ u.lists → (h : SavesConverter w text v) (k : SavesConverter w text u) → h.decoder ≡ k.decoder
+one_decoder w text v u lists h k = one_view h.decoder k.decoder
     (saved_alike v.lists w.decoder h.decoder k.decoder h.decoder_saved k.decoder_saved h.decoder_made (subst (λ t. IsMadeFrom t k.decoder) (sym lists) k.decoder_made))
 
-one_reader : (w : SavedConverter) (v u : ConverterView) → v.lists ≡ u.lists → (h : SavesConverter w v) (k : SavesConverter w u) → h.reader ≡ k.reader
-one_reader w v u lists h k = one_view h.reader k.reader
+one_reader : (w : SavedConverter) (text : List ℕ) (v u : ConverterView) → v.lists ≡ u.lists → (h : SavesConverter w text v) (k : SavesConverter w text u) → h.reader ≡ k.reader
+one_reader w text v u lists h k = one_view h.reader k.reader
     (saved_alike v.lists w.verdict.reader h.reader k.reader h.reader_saved k.reader_saved h.reader_made (subst (λ t. IsMadeFrom t k.reader) (sym lists) k.reader_made))
 
-pub one_converter : (w : SavedConverter) (v u : ConverterView) → v.lists ≡ u.lists → SavesConverter w v → SavesConverter w u → v ≡ u
-one_converter w v u lists h k = h.is ∙ (λ i. saved_view w (lists i) (one_decoder w v u lists h k i) (one_reader w v u lists h k i)) ∙ sym k.is
+pub one_converter : (w : SavedConverter) (text : List ℕ) (v u : ConverterView) → v.lists ≡ u.lists → SavesConverter w text v → SavesConverter w text u → v ≡ u
+one_converter w text v u lists h k = h.is ∙ (λ i. saved_view w text (lists i) (one_decoder w text v u lists h k i) (one_reader w text v u lists h k i)) ∙ sym k.is

@@ -42,22 +42,9 @@ pub struct SavedVerdict {
     pub faithful: bool,
 }
 
-/// The text that waits to be encoded.
-#[derive(Clone, Copy)]
-pub struct SavedText {
-    /// It stands in these, in UTF-8.
-    pub bytes: [u8; ROOM],
-    /// Where it begins.
-    pub from: usize,
-    /// Where it ends.
-    pub to: usize,
-    /// How the call of the decoder ended that wrote it; none waits if there is none.
-    pub answer: Option<DecoderResult>,
-}
-
-/// What a `Converter` keeps between calls, as plain words that can be copied, without the indexes.
-/// [`Converter::saved`] returns it, and [`Converter::resumed`] makes a converter of it that goes
-/// on.
+/// What a `Converter` keeps between calls, as plain words that can be copied, without the indexes
+/// and without the text that waits. [`Converter::saved`] returns it, and [`Converter::resumed`]
+/// makes a converter of it that goes on.
 #[derive(Clone, Copy)]
 pub struct SavedConverter {
     /// The job.
@@ -70,8 +57,9 @@ pub struct SavedConverter {
     pub verdict: SavedVerdict,
     /// What was counted.
     pub counts: Counts,
-    /// The text that waits.
-    pub text: SavedText,
+    /// How the call of the decoder ended that wrote the text that waits; none waits if there is
+    /// none.
+    pub answer: Option<DecoderResult>,
     /// Whether the end was read (`Converter::is_ended`).
     pub ended: bool,
     /// Whether all is written (`Converter::is_over`).
@@ -110,14 +98,14 @@ impl SavedJob {
 }
 
 impl<'t> Converter<'t> {
-    /// What this converter keeps between calls, as it stands. The converter itself stays as it is.
+    /// What this converter keeps between calls, as it stands, and the text that waits to be
+    /// encoded: at most 1 KiB, in UTF-8. The converter itself stays as it is.
     #[inline(always)]
-    pub fn saved(&self) -> SavedConverter
-        ensures { SavesConverter result (converter_view self.now) }
+    pub fn saved(&self) -> (SavedConverter, &[u8])
+        ensures { SavesConverter result.0 result.1.now (converter_view self.now) }
     {
         let engine = &self.engine;
-        let bytes = self.text;
-        SavedConverter {
+        let saved = SavedConverter {
             job: SavedJob::of(&self.job),
             decoder: engine.decoder.saved(),
             set: engine.encoder.current_set(),
@@ -127,30 +115,27 @@ impl<'t> Converter<'t> {
                 faithful: engine.verdict.faithful,
             },
             counts: engine.counts,
-            text: SavedText {
-                bytes,
-                from: engine.from,
-                to: engine.to,
-                answer: engine.answer,
-            },
+            answer: engine.answer,
             ended: self.ended,
             over: self.over,
-        }
+        };
+        (saved, &self.text[engine.from..engine.to])
     }
 
-    /// A converter that goes on where one was saved: its calls do what those of the saved converter
-    /// would have done (`laws::resumed_converters_go_on`).
+    /// A converter that goes on where one was saved, with the text that waited: its calls do what
+    /// those of the saved converter would have done (`laws::resumed_converters_go_on`).
     ///
     /// The condition is what `saved` promises of a converter whose job had these `tables`: its
     /// caller keeps them together.
     #[inline(always)]
-    pub fn resumed(saved: SavedConverter, tables: &'t Tables) -> Self
-        requires { CanGoOnFrom tables.now saved }
-        ensures saves { SavesConverter saved (converter_view result) }
+    pub fn resumed(saved: SavedConverter, text: &[u8], tables: &'t Tables) -> Self
+        requires { CanGoOnFrom tables.now saved text.now }
+        ensures saves { SavesConverter saved text.now (converter_view result) }
         ensures lists { (converter_view result).lists ≡ tables.now }
     {
         let job = saved.job.with(tables);
-        let text = saved.text.bytes;
+        let mut bytes = [0; ROOM];
+        bytes[..text.len()].copy_from_slice(text);
         let mut encoder = VariantEncoder::new(job.to, Some(tables));
         encoder.enter(saved.set);
         Converter {
@@ -163,12 +148,12 @@ impl<'t> Converter<'t> {
                     faithful: saved.verdict.faithful,
                 },
                 counts: saved.counts,
-                answer: saved.text.answer,
-                from: saved.text.from,
-                to: saved.text.to,
+                answer: saved.answer,
+                from: 0,
+                to: text.len(),
             },
             job,
-            text,
+            text: bytes,
             ended: saved.ended,
             over: saved.over,
         }

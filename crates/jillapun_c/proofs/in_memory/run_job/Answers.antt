@@ -2,7 +2,7 @@ use Rattle.std.proofs.Common.{◌≡◌, ◌∙◌, ◌+◌, ◌-◌, ◌<◌, �
 use Rattle.std.proofs.lemmas.List.{take_rest}
 use Rattle.recode.specs.Converter.{owes}
 use Rattle.jillapun_c.specs.ConverterRuns.{HasConverted}
-use Rattle.jillapun_c.specs.Converters.{step_view, view_in}
+use Rattle.jillapun_c.specs.Converters.{step_view}
 use Rattle.jillapun_c.proofs.ConversionLemmas.{at_its_end, fewer_steps, run_done, steps_left}
 use Rattle.jillapun_c.proofs.ConverterRunLemmas.{handed_in, told_so_far}
 use Rattle.jillapun_c.proofs.RoomLemmas.{first_filled}
@@ -32,12 +32,12 @@ steps-init c =
 pub steps-smaller : goal.steps-smaller
 steps-smaller c =
     let e = c.run-progress-in-steps in
-    let owed = length (owes (view_in (step_view c.steps.converter)) c.steps.rest.now) in
+    let owed = length (owes (step_view c.steps.converter).stream c.steps.rest.now) in
     let next = take (length c.steps.rest.now - e.result.read) (drop e.result.read c.steps.rest.now) in
     let size : length e.new.dst ≡ 1024 = e.auto.dst ∙ c.steps.invariant.size in
     let count : length e.new.losses ≡ 16 = e.auto.losses ∙ c.steps.invariant.count in
-    subst (λ (b : Bool). steps_left e.result.wants_room (length (owes (view_in (step_view e.new.self)) next)) < steps_left b owed) (sym c.steps-test.true)
-    (subst (λ (x : List ℕ). steps_left e.result.wants_room (length (owes (view_in (step_view e.new.self)) x)) < owed + 1) (sym (take_rest c.steps.rest.now e.result.read))
+    subst (λ (b : Bool). steps_left e.result.wants_room (length (owes (step_view e.new.self).stream next)) < steps_left b owed) (sym c.steps-test.true)
+    (subst (λ (x : List ℕ). steps_left e.result.wants_room (length (owes (step_view e.new.self).stream x)) < owed + 1) (sym (take_rest c.steps.rest.now e.result.read))
     (fewer_steps e.result.wants_room _ owed (λ wants. e.ensures.fewer wants (omega (arith, size)) (omega (arith, count)))))
 
 pub steps-preserved : goal.steps-preserved

@@ -1,6 +1,6 @@
 use Rattle.std.proofs.Common.{◌≡◌, length}
 use Rattle.recode.specs.Converter.{owes}
-use Rattle.jillapun_c.specs.Converters.{step_view, view_in}
+use Rattle.jillapun_c.specs.Converters.{step_view}
 use Rattle.jillapun_c.proofs.ConversionLemmas.{RunSoFar, steps_left}
 use Rattle.jillapun_c.proofs.in_memory.run_job.Given as goal
 
@@ -12,4 +12,4 @@ invariant-steps l = record {
 }
 
 abbrev pub decreases-steps : goal.decreases-steps
-decreases-steps l = steps_left l.progress.wants_room (length (owes (view_in (step_view l.converter)) l.rest))
+decreases-steps l = steps_left l.progress.wants_room (length (owes (step_view l.converter).stream l.rest))

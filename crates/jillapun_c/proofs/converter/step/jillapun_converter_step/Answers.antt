@@ -1,4 +1,5 @@
-use Rattle.std.proofs.Common.{◌≡◌, true, subst}
+use Rattle.std.proofs.Common.{◌≡◌, true, subst, take}
+use Rattle.jillapun_c.specs.HeldTables.{held_lists}
 use Rattle.jillapun_c.specs.ConverterCalls.{MakesStep}
 use Rattle.jillapun_c.specs.Converters.{StepView, step_view}
 use Rattle.jillapun_c.proofs.HeldConverterLemmas.{not_idle, one_held}
@@ -14,9 +15,9 @@ pub returns-clause-steps : goal.returns-clause-steps
 returns-clause-steps c v holds live =
     let h = c.args.converter.now in
     let did = c.convert_step-status in
-    subst (λ (x : StepView). MakesStep x c.of.result c.args.src.now c.args.last c.args.dst.now did.new.dst c.args.losses.now did.new.losses did.new.progress did.new.report did.result)
-    (one_held h.tables.tables h.words (step_view c.in-Ok.held) v c.in-Ok.ensures.0 holds)
-    (record { converter = step_view did.new.converter; holds = c.of.ensures; converts = did.ensures.converts; joins = did.ensures.joins })
+    subst (λ (x : StepView). MakesStep x c.keep.new.self c.args.src.now c.args.last c.args.dst.now did.new.dst c.args.losses.now did.new.losses did.new.progress did.new.report did.result)
+    (one_held (held_lists h.tables.tables) h.words (take h.text_len h.text) (step_view c.in-Ok.held) v c.in-Ok.ensures.0 holds)
+    (record { converter = step_view did.new.converter; holds = c.keep.ensures; converts = did.ensures.converts; joins = did.ensures.joins })
 
 pub returns-clause-unchanged : goal.returns-clause-unchanged
 returns-clause-unchanged c idle = not_idle c.args.converter.now (step_view c.in-Ok.held) c.in-Ok.ensures.0 c.in-Ok.ensures.1 idle
