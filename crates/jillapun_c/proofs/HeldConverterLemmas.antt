@@ -1,5 +1,6 @@
 -- The converter that a handle holds, as its calls see it.
-use Rattle.std.proofs.Common.{◌≡◌, ℕ, List, true, false, Option, Some, sym, ◌∙◌, ap, subst, take}
+use Rattle.std.proofs.Common.{◌≡◌, ◌++◌, ℕ, List, [], ◌∷◌, arith, length, refl, true, false, Some, sym, ◌∙◌, ap, subst, take}
+use Rattle.std.proofs.Math.Seq.{take-append_seam}
 use Rattle.std.proofs.Math.Logic.{∥∥₁_map}
 use Rattle.encoding_tables.specs.IndexLists.{IndexLists}
 use Rattle.recode.specs.Converter.{ConverterView}
@@ -47,3 +48,14 @@ goes_on_from lists words text w sound is = ∥∥₁_map {B = (v : ConverterView
 -- a converter that goes on is none whose end was reported
 pub not_idle : {X : Type 0} (h : ConverterHandle) (v : StepView) → HoldsStep h v → v.is_finished ≡ false → IsIdle h → X
 not_idle h v holds live idle = let ended : v.is_finished ≡ true = idle v holds in absurd (cc)
+
+-- ---- the text that waits
+
+-- a text that was put at the start of some bytes stands there
+pub put_first : (text put rest : List ℕ) → put ≡ text → take (length text) (put ++ rest) ≡ text
+put_first text put rest is = rw is (take-append_seam text rest)
+
+-- and so does one that is empty
+pub none_first : (text bytes : List ℕ) → length text ≡ 0 → take (length text) bytes ≡ text
+none_first [] bytes none = refl
+none_first (x ∷ xs) bytes none = absurd (omega (arith, none))

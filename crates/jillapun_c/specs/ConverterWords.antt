@@ -1,5 +1,5 @@
 -- What the words of a converter's handle stand for.
-use Rattle.std.specs.Prelude.{◌≡◌, ℕ, if◌then◌else◌, [], ◌∷◌, Option, None, Some, option_and_then, option_map, slice_get, take}
+use Rattle.std.specs.Prelude.{◌≡◌, ℕ, List, if◌then◌else◌, [], ◌∷◌, Option, None, Some, option_and_then, option_map, slice_get, take}
 use Rattle.std.specs.Option.{ForSome}
 use Rattle.encoding_mem.specs.declared.codec.decoder_result.DecoderResult.{DecoderResult}
 use Rattle.encoding_mem.specs.declared.codec.decoder_result.DecoderResult.TheVariants as decoded

@@ -1,5 +1,5 @@
 -- Encodings as numbers.
-use Rattle.std.specs.Prelude.{◌≡◌, ◌⊎◌, ℕ, ◌<◌, ◌≤◌, List, [], ◌∷◌, length, Option, None, Some, MatchOption, slice_get, unwrap_or}
+use Rattle.std.specs.Prelude.{◌≡◌, ◌⊎◌, ℕ, ◌<◌, ◌≤◌, List, [], ◌∷◌, length, Option, MatchOption, slice_get, unwrap_or}
 use Rattle.std.specs.Option.{option_map}
 use Rattle.encoding_tables.specs.FileNames.{file_name_of}
 use Rattle.encoding_tables.specs.IndexLists.{IndexLists}

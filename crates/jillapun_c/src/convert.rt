@@ -12,6 +12,7 @@ use crate::losses::Loss;
 use crate::report::Report;
 use crate::request::Request;
 use crate::tables_handle::TablesHandle;
+use std::alloc::Global;
 
 /// Converts a text in memory: the bytes of `src`, from the encoding with the number `from` to the
 /// output encoding of that with the number `to`, at the start of `dst`, with a record of each loss
@@ -82,7 +83,7 @@ mod tests {
     };
     use encoding_index::load;
     use encoding_tables::{IndexKind, Tables};
-    use std::alloc::{AllocError, Global};
+    use std::alloc::AllocError;
 
     const BIG5: u8 = 0;
 

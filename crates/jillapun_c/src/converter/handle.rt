@@ -51,10 +51,14 @@ impl ConverterHandle {
         ensures { HoldsStep self.new (step_view converter.now) }
     {
         let (saved, text) = converter.saved();
+        if !text.is_empty() {
+            let mut bytes = self.text;
+            bytes[..text.len()].copy_from_slice(text);
+            self.text = bytes;
+        }
         self.tables = tables;
         self.words = ConverterWords::of(saved);
         self.text_len = text.len();
-        self.text[..text.len()].copy_from_slice(text);
     }
 
     /// The converter that it holds, as one that goes on over its tables. Else the status: `CLOSED`,
