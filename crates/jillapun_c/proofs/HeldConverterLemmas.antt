@@ -1,15 +1,17 @@
 -- The converter that a handle holds, as its calls see it.
 use Rattle.std.proofs.Common.{◌≡◌, ◌++◌, ℕ, List, [], ◌∷◌, arith, length, refl, true, false, Some, sym, ◌∙◌, ap, subst, take}
 use Rattle.std.proofs.Math.Seq.{take-append_seam}
-use Rattle.std.proofs.Math.Logic.{∥∥₁_map}
+use Rattle.std.proofs.Math.Logic.{∥∥₁_elim, ∥∥₁_map}
+use Rattle.std.proofs.Props.{props}
 use Rattle.encoding_tables.specs.IndexLists.{IndexLists}
 use Rattle.recode.specs.Converter.{ConverterView}
 use Rattle.recode.specs.SavedConverters.{CanGoOnFrom, SavesConverter}
 use Rattle.recode.specs.laws.SavedConverters.{one_converter}
 use Rattle.jillapun_c.proofs.EncodingNumberLemmas.{same_some}
-use Rattle.jillapun_c.specs.ConverterCalls.{HoldsStep, IsIdle}
+use Rattle.jillapun_c.specs.ConverterCalls.{IsIdle}
 use Rattle.jillapun_c.specs.ConverterWords.{HoldsConverter, IsSoundConverter, SavesStep, saved_step_in}
 use Rattle.jillapun_c.specs.Converters.{StepView}
+use Rattle.jillapun_c.specs.HeldTables.{held_lists}
 use Rattle.jillapun_c.specs.declared.converter.handle.ConverterHandle.{ConverterHandle}
 use Rattle.jillapun_c.specs.declared.converter.words.ConverterWords.{ConverterWords}
 use Rattle.jillapun_c.specs.declared.converter.words.SavedStep.{SavedStep}
@@ -46,8 +48,10 @@ goes_on_from lists words text w sound is = ∥∥₁_map {B = (v : ConverterView
 ))
 
 -- a converter that goes on is none whose end was reported
-pub not_idle : {X : Type 0} (h : ConverterHandle) (v : StepView) → HoldsStep h v → v.is_finished ≡ false → IsIdle h → X
-not_idle h v holds live idle = let ended : v.is_finished ≡ true = idle v holds in absurd (cc)
+pub not_idle : {X : Type 0} (h : ConverterHandle) (w : SavedStep) → saved_step_in h.words ≡ Some w → w.is_finished ≡ false → IsIdle h → X
+not_idle h w is live idle = absurd (∥∥₁_elim (h.sound w is) (hlevel props) (λ k.
+    let ended : w.is_finished ≡ true = ap (λ (v : StepView). v.is_finished) (sym (saves_held (held_lists h.tables.tables) h.words (take h.text_len h.text) w k.0 is k.1).is) ∙ idle k.0 k.1 in
+    cc))
 
 -- ---- the text that waits
 

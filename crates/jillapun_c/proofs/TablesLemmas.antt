@@ -12,7 +12,7 @@ lists_lent None tables is = ap held_lists (sym is)
 lists_lent (Some t) tables is = ap held_lists (sym is)
 
 -- tables in which no index was put are those of no tables
-none_are : (t : IndexLists) → ((kind : IndexKind) → t.flats kind ≡ None) → t.rows ≡ None → t ≡ no_lists
+pub none_are : (t : IndexLists) → ((kind : IndexKind) → t.flats kind ≡ None) → t.rows ≡ None → t ≡ no_lists
 none_are t flats rows =
     ap (λ (f : IndexKind → Option (List ℕ)). record { flats = f; rows = t.rows }) (fun_ext flats) ∙ ap (λ (r : Option (List (ℕ × ℕ))). record { flats = λ kind. None; rows = r }) rows
 

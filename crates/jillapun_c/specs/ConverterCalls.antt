@@ -11,6 +11,7 @@ use Rattle.jillapun_c.specs.declared.converter.handle.ConverterHandle.{Converter
 use Rattle.jillapun_c.specs.declared.converter.progress.ConverterProgress.{ConverterProgress}
 use Rattle.jillapun_c.specs.declared.losses.Loss.{Loss}
 use Rattle.jillapun_c.specs.declared.report.Report.{Report}
+use Rattle.jillapun_c.specs.declared.request.Request.{Request}
 use Rattle.jillapun_c.specs.declared.status.TheConstants.{CLOSED, FINISHED, OK}
 
 -- a handle holds a converter
@@ -45,7 +46,7 @@ pub record HoldsNewConverter (job : Job) (h : ConverterHandle) : Type 0 where
   pub is_new : IsNewConverter converter job
   pub so_far : HasConverted job false [] [] [] [] converter
 
--- a converter is made of the job that the numbers of a call ask for
-abbrev pub OpensConverter : (tables : Option IndexLists) (from to mark policy limit : ℕ) (new : ConverterHandle) (status : ℕ) → Type 0
-OpensConverter tables from to mark policy limit new status =
-    IfKnown (held_lists tables) from to mark policy limit (λ job. (status ≡ OK) × HoldsNewConverter job new) status
+-- a converter is made of the job that is asked for
+abbrev pub OpensConverter : (tables : Option IndexLists) → Request → (new : ConverterHandle) (status : ℕ) → Type 0
+OpensConverter tables r new status =
+    IfKnown (held_lists tables) r.from r.to r.mark r.policy r.limit (λ job. (status ≡ OK) × HoldsNewConverter job new) status

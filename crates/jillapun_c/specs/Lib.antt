@@ -1,5 +1,6 @@
 -- What the contracts of the exports speak of.
 pub mod Asked
+pub mod AskedConversions
 pub mod Coders
 pub mod Conversions
 pub mod ConverterCalls

@@ -1,17 +1,15 @@
 //! Conversions from memory to memory.
 
-ghost use Rattle.std.specs.Prelude.{◌≡◌, ◌≢◌};
-ghost use Rattle.jillapun_c.specs.Asked.{IfKnown};
-ghost use Rattle.jillapun_c.specs.Conversions.{ConvertsIfShort, IsDone};
+ghost use Rattle.encoding_front.specs.Encodings.{no_lists};
+ghost use Rattle.jillapun_c.specs.AskedConversions.{ConvertsAsked};
 ghost use Rattle.jillapun_c.specs.HeldTables.{held_lists};
-ghost use Rattle.jillapun_c.specs.declared.report.TheConstants.Report.{NONE};
-ghost use Rattle.jillapun_c.specs.declared.status.TheConstants.{ROOM};
 
 use crate::in_memory::convert_job;
 use crate::losses::Loss;
 use crate::report::Report;
 use crate::request::Request;
 use crate::tables_handle::TablesHandle;
+use encoding_tables::Tables;
 use std::alloc::Global;
 
 /// Converts a text in memory: the bytes of `src`, from the encoding with the number `from` to the
@@ -53,15 +51,10 @@ pub extern "C" fn jillapun_convert(
     losses: &mut [Loss],
     report: &mut Report,
 ) -> u8
-    ensures converts { IfKnown (held_lists tables.tables) from to mark policy limit
-        (λ j. ConvertsIfShort j src.now dst.old dst.new losses.old losses.new report.new result)
-        result }
-    ensures kept { ¬ (IsDone result) → result ≢ ROOM
-        → (dst.new ≡ dst.old) × (losses.new ≡ losses.old) }
-    ensures nothing { ¬ (IsDone result) → result ≢ ROOM → report.new ≡ NONE }
+    ensures { ConvertsAsked (held_lists tables.tables)
+        (record { from = from; to = to; mark = mark; policy = policy; limit = limit })
+        src.now dst.old dst.new losses.old losses.new report.new result }
 {
-    *report = Report::NONE;
-    let tables = tables.or_empty(alloc);
     let request = Request {
         from,
         to,
@@ -69,10 +62,45 @@ pub extern "C" fn jillapun_convert(
         policy,
         limit,
     };
-    match request.job(tables.get()) {
+    match tables.lent() {
+        Some(tables) => convert_over(tables, request, src, dst, losses, report),
+        None => convert_without(alloc, request, src, dst, losses, report),
+    }
+}
+
+// Converts an input as it is asked for, over these tables.
+fn convert_over(
+    tables: &Tables,
+    request: Request,
+    src: &[u8],
+    dst: &mut [u8],
+    losses: &mut [Loss],
+    report: &mut Report,
+) -> u8
+    ensures { ConvertsAsked tables.now request src.now dst.old dst.new losses.old losses.new
+        report.new result }
+{
+    *report = Report::NONE;
+    match request.job(tables) {
         Err(status) => status,
         Ok(job) => convert_job(job, src, dst, losses, report),
     }
+}
+
+// The same over tables with no index, which take no memory.
+fn convert_without(
+    alloc: Global,
+    request: Request,
+    src: &[u8],
+    dst: &mut [u8],
+    losses: &mut [Loss],
+    report: &mut Report,
+) -> u8
+    ensures { ConvertsAsked no_lists request src.now dst.old dst.new losses.old losses.new
+        report.new result }
+{
+    let tables = Tables::new(alloc);
+    convert_over(&tables, request, src, dst, losses, report)
 }
 
 #[cfg(test)]

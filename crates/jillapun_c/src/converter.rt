@@ -1,12 +1,13 @@
 //! The exports that convert by steps.
 
-ghost use Rattle.std.specs.Prelude.{◌≡◌, ◌≢◌, [], false};
+ghost use Rattle.std.specs.Prelude.{◌≡◌, ◌≢◌, [], false, None};
 ghost use Rattle.recode.specs.Job.{IsValidJob};
 ghost use Rattle.recode.specs.SavedConverters.{CanGoOnFrom};
 ghost use Rattle.jillapun_c.specs.ConverterCalls.{OpensConverter};
 ghost use Rattle.jillapun_c.specs.ConverterRuns.{HasConverted};
 ghost use Rattle.jillapun_c.specs.ConverterWords.{SavesStep};
 ghost use Rattle.jillapun_c.specs.Converters.{IsNewConverter, step_view};
+ghost use Rattle.jillapun_c.specs.HeldTables.{held_lists};
 ghost use Rattle.jillapun_c.specs.declared.status.TheConstants.{OK};
 
 pub(crate) mod handle;
@@ -124,10 +125,11 @@ pub extern "C" fn jillapun_converter_new(
     limit: u64,
     out: &mut ConverterHandle,
 ) -> u8
-    ensures opens { OpensConverter tables.tables from to mark policy limit out.new result }
+    ensures opens { OpensConverter tables.tables
+        (record { from = from; to = to; mark = mark; policy = policy; limit = limit })
+        out.new result }
     ensures unchanged { result ≢ OK → out.new ≡ out.old }
 {
-    let in_use = tables.or_empty(alloc);
     let request = Request {
         from,
         to,
@@ -135,11 +137,38 @@ pub extern "C" fn jillapun_converter_new(
         policy,
         limit,
     };
-    match request.job(in_use.get()) {
+    match tables.lent() {
+        Some(lent) => open_over(lent, tables, request, out),
+        None => open_without(alloc, tables, request, out),
+    }
+}
+
+// Makes a converter as it is asked for, over these tables, which are those of the handle.
+fn open_over(lent: &Tables, tables: TablesHandle, request: Request, out: &mut ConverterHandle) -> u8
+    requires { lent.now ≡ held_lists tables.tables }
+    ensures opens { OpensConverter tables.tables request out.new result }
+    ensures unchanged { result ≢ OK → out.new ≡ out.old }
+{
+    match request.job(lent) {
         Err(status) => status,
         Ok(job) => {
             out.keep(tables, &Converter::new(job));
             OK
         }
     }
+}
+
+// The same if the handle has no tables: over some with no index, which take no memory.
+fn open_without(
+    alloc: Global,
+    tables: TablesHandle,
+    request: Request,
+    out: &mut ConverterHandle,
+) -> u8
+    requires { tables.tables ≡ None }
+    ensures opens { OpensConverter tables.tables request out.new result }
+    ensures unchanged { result ≢ OK → out.new ≡ out.old }
+{
+    let lent = Tables::new(alloc);
+    open_over(&lent, tables, request, out)
 }

@@ -7,12 +7,11 @@ ghost use Rattle.std.specs.declared.option.Option.TheVariants.{None, Some};
 ghost use Rattle.encoding_tables.specs.IndexLists.{AreAcceptedTables, IndexLists};
 ghost use Rattle.encoding_tables.specs.contracts.tables.Tables.{the_row};
 ghost use Rattle.encoding_front.specs.Encodings.{IsReady, lists_of};
-ghost use Rattle.jillapun_c.specs.HeldTables.{held_lists, lists_in_use};
+ghost use Rattle.jillapun_c.specs.HeldTables.{held_lists};
 ghost use Rattle.jillapun_c.specs.Ownership.{tables_handle_owns};
 
 use encoding_front::Encoding;
 use encoding_tables::Tables;
-use std::alloc::Global;
 use std::marker::Model;
 use std::{mem, ptr};
 
@@ -101,16 +100,6 @@ impl TablesHandle {
         }
     }
 
-    /// The tables that it holds, or some with no index, which take no memory.
-    pub(crate) fn or_empty(&self, alloc: Global) -> TablesInUse
-        ensures { lists_in_use result ≡ held_lists self.now.tables }
-    {
-        match self.lent() {
-            Some(tables) => TablesInUse::Held(tables),
-            None => TablesInUse::Empty(Tables::new(alloc)),
-        }
-    }
-
     /// The tables that it holds, where it cannot be moved.
     pub(crate) fn lent(&self) -> Option<&'static Tables>
         ensures held { MatchOption result (self.now.tables ≡ None)
@@ -118,26 +107,5 @@ impl TablesHandle {
         ensures lists { lists_of result ≡ held_lists self.now.tables }
     {
         self.copied().get()
-    }
-}
-
-/// The tables that a call looks up in.
-#[derive(Drop)]
-pub(crate) enum TablesInUse {
-    /// Those that a handle holds.
-    Held(&'static Tables),
-    /// Some with no index.
-    Empty(Tables),
-}
-
-impl TablesInUse {
-    /// A reference to them.
-    pub(crate) fn get(&self) -> &Tables
-        ensures { result.now ≡ lists_in_use self.now }
-    {
-        match self {
-            TablesInUse::Held(tables) => tables,
-            TablesInUse::Empty(tables) => tables,
-        }
     }
 }

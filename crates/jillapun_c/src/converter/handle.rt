@@ -5,10 +5,9 @@ ghost use Rattle.jillapun_c.specs.ConverterWords.{IsSoundConverter};
 ghost use Rattle.jillapun_c.specs.HeldTables.{held_lists};
 
 use crate::converter::Converter;
-use crate::converter::words::ConverterWords;
+use crate::converter::words::{ConverterWords, SavedStep};
 use crate::status::{CLOSED, FINISHED};
 use crate::tables_handle::TablesHandle;
-use encoding_tables::Tables;
 
 /// A conversion by steps. Begin with `{0}`, which holds none; `jillapun_converter_new` fills it.
 /// All that it keeps stands in it: it may be moved, a copy is a converter of its own that goes on
@@ -30,6 +29,7 @@ pub struct ConverterHandle {
 impl ConverterHandle {
     ghost use Rattle.std.specs.Prelude.{◌≡◌, false, MatchResult, Some};
     ghost use Rattle.jillapun_c.specs.ConverterCalls.{HoldsNoStep, HoldsStep, TellsWhyIdle};
+    ghost use Rattle.jillapun_c.specs.ConverterWords.{saved_step_in};
     ghost use Rattle.jillapun_c.specs.Converters.{step_view};
 
     /// One that holds nothing.
@@ -61,13 +61,12 @@ impl ConverterHandle {
         self.text_len = text.len();
     }
 
-    /// The converter that it holds, as one that goes on over its tables. Else the status: `CLOSED`,
+    /// What was saved of the converter that it holds, if that goes on. Else the status: `CLOSED`,
     /// it holds no converter; `FINISHED`, an end was reported.
     #[inline(always)]
-    pub(crate) fn opened<'t>(&self, tables: &'t Tables) -> Result<Converter<'t>, u8>
-        requires { tables.now ≡ held_lists self.now.tables.tables }
+    pub(crate) fn live(&self) -> Result<SavedStep, u8>
         ensures { MatchResult result
-            (λ c. HoldsStep self.now (step_view c) × (c.is_finished ≡ false))
+            (λ w. (saved_step_in self.now.words ≡ Some w) × (w.is_finished ≡ false))
             (λ status. TellsWhyIdle self.now status) }
     {
         let Some(saved) = self.words.saved() else {
@@ -76,6 +75,6 @@ impl ConverterHandle {
         if saved.is_finished {
             return Err(FINISHED);
         }
-        Ok(Converter::resumed(saved, &self.text[..self.text_len], tables))
+        Ok(saved)
     }
 }

@@ -1,9 +1,11 @@
 //! The export that makes a step of a conversion.
 
-ghost use Rattle.std.specs.Prelude.{◌≡◌, [], false, true};
+ghost use Rattle.std.specs.Prelude.{◌≡◌, [], false, None, Some, true};
 ghost use Rattle.jillapun_c.specs.ConverterCalls.{HoldsNoStep, HoldsStep, IsIdle, MakesStep};
 ghost use Rattle.jillapun_c.specs.ConverterRuns.{JoinsToCalls};
+ghost use Rattle.jillapun_c.specs.ConverterWords.{saved_step_in};
 ghost use Rattle.jillapun_c.specs.Converters.{ConvertsByStep, StepView, TellsStatus, step_view};
+ghost use Rattle.jillapun_c.specs.HeldTables.{held_lists};
 ghost use Rattle.jillapun_c.specs.declared.converter.progress.TheConstants.ConverterProgress as
     progress_;
 ghost use Rattle.jillapun_c.specs.declared.report.TheConstants.Report as report_;
@@ -11,10 +13,12 @@ ghost use Rattle.jillapun_c.specs.declared.status.TheConstants.{CLOSED, FINISHED
 
 use crate::converter::handle::ConverterHandle;
 use crate::converter::progress::ConverterProgress;
+use crate::converter::words::SavedStep;
 use crate::converter::{Converter, Stage};
 use crate::losses::Loss;
 use crate::report::{Report, told_report, told_stop};
 use crate::status::{GOES_ON, TOO_LONG};
+use encoding_tables::Tables;
 use recode::laws::stops_at_first_loss;
 use std::alloc::Global;
 
@@ -103,15 +107,67 @@ pub extern "C" fn jillapun_converter_step(
 {
     *progress = ConverterProgress::NONE;
     *report = Report::NONE;
-    let in_use = converter.tables.or_empty(alloc);
-    let mut held = match converter.opened(in_use.get()) {
+    let saved = match converter.live() {
         Err(status) => return status,
-        Ok(held) => held,
+        Ok(saved) => saved,
     };
+    match converter.tables.lent() {
+        Some(tables) => go_on(
+            tables, saved, converter, src, last, dst, losses, progress, report,
+        ),
+        None => go_on_without(
+            alloc, saved, converter, src, last, dst, losses, progress, report,
+        ),
+    }
+}
+
+// A step of the converter of which this was saved, over its tables.
+fn go_on(
+    tables: &Tables,
+    saved: SavedStep,
+    converter: &mut ConverterHandle,
+    src: &[u8],
+    last: bool,
+    dst: &mut [u8],
+    losses: &mut [Loss],
+    progress: &mut ConverterProgress,
+    report: &mut Report,
+) -> u8
+    requires tables { tables.now ≡ held_lists converter.old.tables.tables }
+    requires saved { saved_step_in converter.old.words ≡ Some saved }
+    ensures { (v : StepView) → HoldsStep converter.old v → MakesStep v converter.new src.now last
+        dst.old dst.new losses.old losses.new progress.new report.new result }
+{
+    let text = &converter.text[..converter.text_len];
+    let mut held = Converter::resumed(saved, text, tables);
     let status = convert_step(&mut held, src, last, dst, losses, progress, report);
-    let tables = converter.tables.copied();
-    converter.keep(tables, &held);
+    let handle = converter.tables.copied();
+    converter.keep(handle, &held);
     status
+}
+
+// The same if the handle has no tables: over some with no index, which take no memory. They stand
+// in a function of their own, since each call clears the room of all its variables.
+fn go_on_without(
+    alloc: Global,
+    saved: SavedStep,
+    converter: &mut ConverterHandle,
+    src: &[u8],
+    last: bool,
+    dst: &mut [u8],
+    losses: &mut [Loss],
+    progress: &mut ConverterProgress,
+    report: &mut Report,
+) -> u8
+    requires tables { converter.old.tables.tables ≡ None }
+    requires saved { saved_step_in converter.old.words ≡ Some saved }
+    ensures { (v : StepView) → HoldsStep converter.old v → MakesStep v converter.new src.now last
+        dst.old dst.new losses.old losses.new progress.new report.new result }
+{
+    let tables = Tables::new(alloc);
+    go_on(
+        &tables, saved, converter, src, last, dst, losses, progress, report,
+    )
 }
 
 // A step of a converter.
