@@ -288,14 +288,22 @@ class Crate:
         for edit in set(edits) - set(found):
             self.tell(edit, UNREADABLE, ["a text that it replaces does not stand in its file once"])
         errors = {}
-        rounds = rounds_of(found, self.folder)
-        for (together, _), error in zip(rounds, self.pool.map(lambda made: self.compile_error(made[1]), rounds)):
-            if error:
-                alone = self.pool.map(lambda edit: self.compile_error(edit.made_in({}, self.folder)), together)
-                errors |= {edit: error for edit, error in zip(together, alone) if error}
+        for found_here in self.pool.map(self.compile_errors, [together for together, _ in rounds_of(found, self.folder)]):
+            errors |= found_here
         for edit, error in errors.items():
             self.tell(edit, UNREADABLE, [error])
         return [edit for edit in found if edit not in errors]
+
+    def compile_errors(self, together):
+        """The edits of a round that cannot be compiled, each with its error: sought by halves."""
+        texts = {}
+        for edit in together:
+            texts = edit.made_in(texts, self.folder)
+        error = self.compile_error(texts)
+        if not error or len(together) == 1:
+            return {together[0]: error} if error else {}
+        half = len(together) // 2
+        return self.compile_errors(together[:half]) | self.compile_errors(together[half:])
 
     def compile_error(self, texts):
         """The first error of a pass over the sources that proves nothing, or none."""
