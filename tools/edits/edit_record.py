@@ -5,14 +5,16 @@
 
 `crates/NAME/edits/tried` has a line for each edit that was tried: its name, what came of it, the details, the checksums of
 the edit and of the code that it was tried on, the commit, the day and the kit, with tabs between them. The code of a crate
-is `src`, `specs` and `proofs`, its own and those of the crates that it stands on. An edit is new if no line has its name and
-its checksum. docs/STATUS.md has a line of it, which `make lint` compares, and out/pages/edits.md has the tables.
+is `src`, `specs` and `proofs`, its own and those of the crates that it stands on, without lines that are comments. An edit is
+new if no line has its name and its checksum. docs/STATUS.md has a line of it, which `make lint` compares, and
+out/pages/edits.md has the tables.
 """
 
 import dataclasses
 import functools
 import hashlib
 import os
+import re
 import sys
 
 sys.dont_write_bytecode = True
@@ -22,6 +24,9 @@ sys.path.append(os.path.join(os.path.dirname(os.path.abspath(__file__)), "..", "
 import edit_files
 import status
 from edit_files import CRATES, below, read
+
+# A line that is a comment, of Rattle or of its definitions.
+COMMENT = re.compile(r"\s*(//|--)")
 
 # What may come of an edit.
 REFUSED, RUN, STALE = "refused by the fact", "refuted by a run", "shows nothing"
@@ -57,6 +62,11 @@ def checksum_of_edit(edit):
     return checksum((repr(edit.changes) + "".join(edit.items) + edit.call).encode())
 
 
+def without_comments(text):
+    """A source without the lines that are comments: they change nothing that is proved."""
+    return "\n".join(line for line in text.split("\n") if not COMMENT.match(line))
+
+
 @functools.lru_cache(None)
 def own_checksum(folder):
     """That of the sources, definitions and proofs in a crate's folder."""
@@ -64,7 +74,7 @@ def own_checksum(folder):
     for part in ("src", "specs", "proofs"):
         for place, _, names in os.walk(os.path.join(folder, part)):
             paths = [os.path.join(place, name) for name in names if name.endswith((".rt", ".antt"))]
-            found += [(os.path.relpath(path, folder), read(path)) for path in paths]
+            found += [(os.path.relpath(path, folder), without_comments(read(path))) for path in paths]
     return checksum(repr(sorted(found)).encode())
 
 

@@ -22,8 +22,9 @@ use encoding_tables::{Flat, IndexKind, Ranges, Tables};
 /// The encoder of gb18030 or of GBK, by the index gb18030 and its ranges (the Encoding Standard,
 /// sections 10.1.2 and 10.2.2). ASCII is itself, and U+E5E5 is unmappable. Eighteen characters for
 /// private use have the two bytes of the standard's table. Another character is two bytes, by its
-/// least pointer of the index. One that the index lacks is four bytes by the ranges in gb18030, if
-/// a row has it, and else unmappable. In GBK U+20AC is 80. It has no state.
+/// least pointer of the index. One that the index lacks is four bytes in gb18030, by the ranges:
+/// U+E7C7 by pointer 7457, another by a valid pointer beside 7457 that a row gives it; else it is
+/// unmappable. In GBK U+20AC is 80. It has no state.
 #[derive(Drop)]
 pub struct Gb18030Encoder<'a> {
     index: Flat<'a>,

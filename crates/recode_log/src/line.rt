@@ -20,7 +20,9 @@ pub enum LogLine {
     /// start of the input, and `length` is how many bytes it has.
     Bad { offset: u64, length: u8 },
     /// A character that the target encoding has no bytes for. `index` is how many characters of
-    /// the text stand before it, and `scalar` is the character, which the line gives by its number.
+    /// the text stand before it, and `scalar` is the character, which the line gives by its number;
+    /// U+FFFD for U+000E, U+000F and U+001B, which ISO-2022-JP refuses (the Encoding Standard,
+    /// section 12.2.2).
     Lost { index: u64, scalar: char },
 }
 

@@ -15,8 +15,8 @@ use crate::codec::encoder_result::EncoderResult;
 /// reports each character without bytes, and does not write its reference.
 ///
 /// It keeps only the set in force, which ISO-2022-JP alone has. The caller keeps the unread text,
-/// which comes first in the next call. `last` says that the text ends with `src`. After it the
-/// encoder is as a new one.
+/// which comes first in the next call. `last` says that the text ends with `src`. If such a call
+/// returns `InputEmpty`, the encoder is as a new one.
 pub trait RawEncoder {
     /// What an encoder is to its callers.
     ghost parts: { Self → EncoderParts };

@@ -39,7 +39,7 @@ impl SavedBytes {
 /// another decoder of the same encoding goes on (`SinkDecoder::resume`).
 #[derive(Clone, Copy)]
 pub struct SavedPieces {
-    /// The number of the mode in force: 0 in an encoding without modes.
+    /// The number of the mode in force; any number in an encoding without modes.
     pub mode: u8,
     /// The bytes that are pending: read, but in no piece that is decided.
     pub pending: SavedBytes,
