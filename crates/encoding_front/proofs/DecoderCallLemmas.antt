@@ -22,7 +22,9 @@ use Rattle.encoding_front.specs.laws.Input.{text_scalars}
 use Rattle.encoding_front.specs.Marks.{marked_pieces, marked_text}
 use Rattle.encoding_front.specs.calls.OneShot.{IsDecoded}
 use Rattle.encoding_front.specs.calls.Stream.{IsMadeFrom, IsNewDecoder, DecoderView, finishes}
+use Rattle.encoding_front.specs.calls.Seeking.{is_sought}
 use Rattle.encoding_front.specs.declared.coder_result.CoderResult.{CoderResult}
+use Rattle.encoding_front.specs.declared.seeking.BomSet.{BomSet}
 use Rattle.encoding_front.specs.declared.encoding.Encoding.{Encoding}
 use Rattle.encoding_front.specs.declared.mark.Mark.{Mark}
 
@@ -82,19 +84,25 @@ reports_raw : (result : CoderResult) (b : ℕ) → Reports (raw_result result) b
 reports_raw CoderResult.InputEmpty b = refl
 reports_raw CoderResult.OutputFull b = refl
 
+-- what is sought after a call was sought before it
+pub sought_before : {a b : BomSet} → a ≡ b → IsTrue (is_sought a) → IsTrue (is_sought b)
+sought_before same s = subst (λ m. IsTrue (is_sought m)) same s
+
 pub text_ends : (was mid now : DecoderView) (outcome : DecoderResult) (result : CoderResult) (src left : List ℕ) (last : Bool) (n read : ℕ) (room : RoomLeft) (had : Bool) (V W Z : List ℕ → Type 0)
     → outcome ≡ raw_result result → left ≡ drop n src → ((t u : List ℕ) → V t → W u → Z (t ++ u))
     → TakesText was.state.pieces mid.state.pieces src last was.state.pending mid.state.pending n V had
     → ((r : List ℕ) → (IsTrue last → r ≡ []) → was.source (src ++ r) ≡ mid.source (drop n src ++ r))
+    → (IsTrue (is_sought mid.opening.sought) → mid.opening.sought ≡ was.opening.sought)
     → ((t : IndexLists) → IsMadeFrom t was → IsMadeFrom t mid)
     → DecoderCall mid now left last read W room outcome → TextCall was now src last (n + read) Z room result had
-text_ends was mid now outcome result src left last n read room had V W Z is left_is writes taken source made h =
+text_ends was mid now outcome result src left last n read room had V W Z is left_is writes taken source marks made h =
     let unread : drop read left ≡ drop (n + read) src = ap (λ x. drop read x) left_is ∙ drop-drop read n src in
     record {
       law = then_ends was.state.pieces mid.state.pieces now.state.pieces outcome src left last was.state.pending mid.state.pending now.state.pending n read now.state.pending had V W Z
           (ap (λ (o : DecoderResult). Reports o now.state.pending) is ∙ reports_raw result now.state.pending) left_is writes taken h.law;
       ends = subst (λ (o : DecoderResult). EndsWith now.state (drop (n + read) src) last room.free (two_in room.in_units) (replacement_len room.in_units) o) is (subst (λ (x : List ℕ). EndsWith now.state x last room.free (two_in room.in_units) (replacement_len room.in_units) outcome) unread h.ends);
       source = λ r e. source r e ∙ ap (λ x. mid.source (x ++ r)) (sym left_is) ∙ h.source r e ∙ ap (λ x. now.source (x ++ r)) unread;
+      marks = λ s. let k = h.marks s in (k.0 ∙ marks (sought_before k.0 s), k.1, sym unread ∙ k.2);
       finished = h.finished ∙ ap (finishes last) is;
       made = λ t is_made. h.made t (made t is_made);
     }

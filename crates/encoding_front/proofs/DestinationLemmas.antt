@@ -50,6 +50,7 @@ text_into v v' src last n V Z in_units free free' outcome had f e h = record {
   law = record { taken = h.law.taken; had = h.law.had; within = h.law.within; counted = h.law.counted; writes = f (text h.law.taken) h.law.writes; rest = h.law.rest };
   ends = subst (λ (k : ℕ). EndsWith v'.state (drop n src) last k (two_in in_units) (replacement_len in_units) (raw_result outcome)) e h.ends;
   source = h.source;
+  marks = h.marks;
   finished = h.finished;
   made = h.made;
 }
@@ -60,6 +61,7 @@ scalars_into v v' src last n V Z in_units free free' outcome f e h = record {
   law = record { taken = h.law.taken; well_formed = h.law.well_formed; within = h.law.within; counted = h.law.counted; writes = f (scalars h.law.taken) h.law.writes; rest = h.law.rest };
   ends = subst (λ (k : ℕ). EndsWith v'.state (drop n src) last k (two_in in_units) (replacement_len in_units) outcome) e h.ends;
   source = h.source;
+  marks = h.marks;
   finished = h.finished;
   made = h.made;
 }

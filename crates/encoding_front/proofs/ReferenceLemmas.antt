@@ -15,7 +15,7 @@ use Rattle.encoding_mem.specs.declared.codec.encoder_result.EncoderResult.TheVar
 use Rattle.encoding_mem.specs.declared.codec.form.Form.TheVariants.{Unmapped}
 use Rattle.encoding_mem.specs.declared.codec.form.EscapeState.{EscapeState}
 use Rattle.std.specs.Bool.{MatchBool}
-use Rattle.encoding_mem.specs.calls.EncoderRule.{Moves}
+use Rattle.encoding_mem.specs.calls.EncoderRule.{Moves, Tight}
 use Rattle.encoding_mem.specs.declared.codec.form.EscapeState.TheVariants.{Ascii}
 use Rattle.encoding_front.proofs.EncoderCallLemmas.{told_items}
 use Rattle.encoding_front.specs.calls.Encoder.{EncoderState, Puts, ReplacingEndsWith, Replaces, coding_in, kept_back, Encoded, Turned, referred, new_state}
@@ -252,9 +252,10 @@ pub ended : (x x' : EncoderState) (last : Bool) (outcome : CoderResult) (text wr
     → end ≡ size - kept_back x.encoding → kept_back x.encoding ≤ size → Going (coding_in x) last x.set text written s rest lost end
     → x' ≡ record x { set = x'.set } → rest ≡ prefix ++ rest' → AllMapped (coding_in x) prefix → Puts (coding_in x) s prefix w x'.set → Bytes (coding_in x) last s rest w x'.set rest'
     → (last ≡ false → last_set (coding_in x) s rest ≡ last_set (coding_in x) x'.set rest') → Moves (coding_in x) s x'.set → ReplacingEndsWith last outcome x'.set rest'
-    → (outcome ≡ CoderResult.OutputFull → end - length (written ++ w) < need_of x.encoding) → length (written ++ w) ≤ end
+    → (outcome ≡ CoderResult.OutputFull → end - length (written ++ w) < need_of x.encoding)
+    → (outcome ≡ CoderResult.OutputFull → Tight (coding_in x) OutputFull x'.set rest' (end - length (written ++ w))) → length (written ++ w) ≤ end
     → Replaces x last outcome text (written ++ w) x' rest' lost size
-ended x x' last outcome text written s rest lost w rest' prefix size end at enough g same split mapped put bytes sets moves ends full fits =
+ended x x' last outcome text written s rest lost w rest' prefix size end at enough g same split mapped put bytes sets moves ends full tight fits =
     let e = coding_in x in
     record {
       same = same;
@@ -269,6 +270,7 @@ ended x x' last outcome text written s rest lost w rest' prefix size end at enou
           (λ h. omega (arith, g.gone.told.0 h), λ h. g.gone.told.1 (omega arith));
       ends = ends;
       full = λ h. omega (arith, full h);
+      tight = λ h short. subst (λ (k : ℕ). Tight e OutputFull x'.set rest' (k - length (written ++ w))) at (tight h);
       kept = λ more. absurd (omega arith);
       few = λ less. absurd (omega arith);
       stops = λ before c after is unmapped reach.
@@ -296,6 +298,7 @@ reached x x' last outcome text written s rest lost w u rest' size end at enough 
       told = on.told;
       ends = ends;
       full = λ h. omega (arith, need_positive x.encoding);
+      tight = λ h short. absurd (omega (arith, at, reach, short));
       kept = λ more. record {
         before = g.prefix ++ p.reads.0;
         lost = p.reads.1;
@@ -331,6 +334,7 @@ too_few x last outcome text size less ends =
       told = none.told;
       ends = ends;
       full = λ h. omega (arith, need_positive x.encoding);
+      tight = λ h short. absurd (omega (arith, less, short));
       kept = λ more. absurd (omega arith);
       few = λ h. (refl, refl);
       stops = λ before c after is unmapped reach. absurd (not_nil before c after is);
@@ -394,7 +398,7 @@ input_empty x x1 x' last answer text old rest lost more rest' new size end n at 
     subst (λ (l : List ℕ). Replaces x last CoderResult.InputEmpty text l x' rest' lost size) (sym (new_is ∙ ap (λ l. old ++ l) bytes))
     (ended x x' last CoderResult.InputEmpty text old x1.set rest lost t.called rest' law.prefix size end at enough going
     call.same law.split law.reads (put_before (coding_in x) last InputEmpty x1.set rest t.called x'.set rest' law.prefix call.codec.law (call.codec.law.leaves.0 ∙ sym call.codec.law.leaves.1) law.split)
-    call.bytes law.sets call.moves call.codec.ends (λ h. absurd (cc)) (omega (arith, t.fits, left, length-append old t.called)))
+    call.bytes law.sets call.moves call.codec.ends (λ h. absurd (cc)) (λ h. absurd (cc)) (omega (arith, t.fits, left, length-append old t.called)))
 
 pub output_full : (x x1 x' : EncoderState) (last : Bool) (answer : EncoderResult) (text old rest : List ℕ) (lost : Bool) (more rest' new : List ℕ) (size end n : ℕ)
     → end ≡ size - kept_back x.encoding → kept_back x.encoding ≤ size → x1 ≡ record x { set = x1.set } → Going (coding_in x) last x.set text old x1.set rest lost end
@@ -407,7 +411,9 @@ output_full x x1 x' last answer text old rest lost more rest' new size end n at 
     subst (λ (l : List ℕ). Replaces x last CoderResult.OutputFull text l x' rest' lost size) (sym (new_is ∙ ap (λ l. old ++ l) bytes))
     (ended x x' last CoderResult.OutputFull text old x1.set rest lost t.called rest' law.prefix size end at enough going
     call.same law.split law.reads (put_before (coding_in x) last OutputFull x1.set rest t.called x'.set rest' law.prefix call.codec.law call.codec.law.leaves.0 law.split)
-    call.bytes law.sets call.moves call.codec.ends.1 (λ h. omega (arith, call.codec.ends.0, length-append old t.called)) (omega (arith, t.fits, left, length-append old t.called)))
+    call.bytes law.sets call.moves call.codec.ends.1 (λ h. omega (arith, call.codec.ends.0, length-append old t.called))
+    (λ h. subst (λ (k : ℕ). Tight (coding_in x) OutputFull x'.set rest' k) (omega (arith, left, length-append old t.called)) call.codec.tight)
+    (omega (arith, t.fits, left, length-append old t.called)))
 
 -- of a turn that writes a reference
 pub reference_reached : (x x1 x' : EncoderState) (last : Bool) (answer : EncoderResult) (u : ℕ) (outcome : CoderResult) (text old rest : List ℕ) (lost : Bool) (more rest' new : List ℕ) (size end n : ℕ)

@@ -2,7 +2,7 @@
 //! for.
 
 ghost use Rattle.std.specs.Prelude.{◌≡◌, ◌≢◌, ℕ, ◌<◌, ◌≤◌, ◌+◌, ◌-◌, ◌++◌, true, false, IsTrue};
-ghost use Rattle.std.specs.Prelude.{List, [], Some, length, take, drop, encode_utf8_all, refl};
+ghost use Rattle.std.specs.Prelude.{List, [], None, Some, length, take, drop, encode_utf8_all, refl};
 ghost use Rattle.std.specs.Prelude.{string_bytes, string_capacity, string_len, vec_capacity};
 ghost use Rattle.std.specs.Prelude.{vec_len};
 ghost use Rattle.std.specs.Str.{IsUtf8};
@@ -81,8 +81,7 @@ pub trait StreamDecoder {
             S.is_units last (length src.now) (length src.now - result.1)
             (S.free sink.old) (S.free sink.new) result.0 };
 
-    /// Whether a call with `last` has returned `InputEmpty`. Only `is_finished` and `encoding` may
-    /// be called after that.
+    /// Whether a call with `last` has returned `InputEmpty`. No call that decodes may follow.
     fn is_finished(&self) -> bool
         ensures { result ≡ (view self.now).finished };
 
@@ -106,13 +105,13 @@ pub trait StreamDecoder {
 ///   bytes are handed in again, first, in the next call.
 /// - `InputEmpty`: all is read. A call with `last` has then written the text of all that was to
 ///   come (`laws::last_calls_write_all_text`), and the decoder is finished: `is_finished` returns
-///   true, and only it and `encoding` may be called.
+///   true, and no call that decodes or asks for a length may follow.
 /// - `OutputFull`: make room, and call again with the unread bytes and `last` as it was, even if
 ///   nothing is unread. Room for 4 bytes or 2 units is always enough to go on.
 /// - `Malformed`, in calls without replacement: write U+FFFD or not, and call again as after
 ///   `OutputFull`. Calls with replacement write U+FFFD themselves.
 /// - Room of the size that the length query returns for the next bytes is enough for them, whatever
-///   they are.
+///   they are; without replacement up to the first malformed sequence.
 ///
 /// Calls with and without replacement, and into UTF-8 and UTF-16, may be mixed on one stream.
 #[derive(Drop)]
@@ -248,6 +247,8 @@ impl<'t> Decoder<'t> {
             src.now last (decoder_view self.new).opening.sought result }
         ensures source { (r : List ℕ) → (IsTrue last → r ≡ [])
             → (decoder_view self.old).source (src.now ++ r) ≡ (decoder_view self.new).source r }
+        ensures marks { result ≡ None
+            → (decoder_view self.new).opening.sought ≡ (decoder_view self.old).opening.sought }
         ensures finished { (decoder_view self.new).finished ≡ (decoder_view self.old).finished }
         ensures made { (t : IndexLists) → IsMadeFrom t (decoder_view self.old)
             → IsMadeFrom t (decoder_view self.new) }
@@ -350,8 +351,8 @@ impl<'t> Decoder<'t> {
         (outcome, read, written)
     }
 
-    /// Whether a call with `last` has returned `InputEmpty`. Only `is_finished` and `encoding` may
-    /// be called after that.
+    /// Whether a call with `last` has returned `InputEmpty`. No call that decodes or asks for a
+    /// length may follow.
     pub fn is_finished(&self) -> bool
         ensures { result ≡ (decoder_view self.now).finished }
     {
@@ -580,8 +581,9 @@ impl<'t> Decoder<'t> {
     /// malformed sequence. Returns how the call ended, how many bytes of `src` were read, and
     /// whether a malformed sequence was replaced.
     ///
-    /// The capacity stays as it is: `OutputFull` comes if fewer than 4 bytes of it are spare and
-    /// something is left to do, and not if as many are spare as `max_utf8_buffer_length` returns.
+    /// The capacity stays as it is: `OutputFull` comes only if fewer than 4 bytes of it are spare
+    /// then and something is left to do, and not if as many were spare as `max_utf8_buffer_length`
+    /// returns.
     /// The condition, that the decoder is not finished, is tested by `is_finished`.
     pub fn decode_to_string(
         &mut self,
@@ -609,8 +611,8 @@ impl<'t> Decoder<'t> {
     /// malformed sequence. Returns how the call ended, as `decode_to_utf8_without_replacement`
     /// does, and how many bytes of `src` were read.
     ///
-    /// The capacity stays as it is: `OutputFull` comes if fewer than 4 bytes of it are spare and
-    /// something is left to do, and not if as many are spare as
+    /// The capacity stays as it is: `OutputFull` comes only if fewer than 4 bytes of it are spare
+    /// then and something is left to do, and not if as many were spare as
     /// `max_utf8_buffer_length_without_replacement` returns. The condition, that the decoder is not
     /// finished, is tested by `is_finished`.
     pub fn decode_to_string_without_replacement(

@@ -5,7 +5,7 @@
 //! (`Encoding::for_label`), or what a byte order mark says (`Encoding::for_bom`). All but UTF-8,
 //! UTF-16BE, UTF-16LE, replacement and x-user-defined need indexes, which are handed in as
 //! `encoding_tables::Tables`. `Encoding::is_ready` reports whether they are there: it is the test
-//! of the condition of each call that takes tables.
+//! of the condition of each call that takes tables, but for those that go on from what was saved.
 //!
 //! A whole input is decoded by `Encoding::decode` and its variants, a whole text encoded by
 //! `Encoding::encode`. A stream is decoded by a `Decoder` and encoded by an `Encoder`, call by
@@ -16,7 +16,8 @@
 //!   again, first, in the next call.
 //! - Buffers may have any size. Room for 4 bytes or 2 units is enough to go on decoding, 4 bytes to
 //!   go on encoding, 14 with references; room of the size that the length query returns is enough
-//!   for all that is handed in.
+//!   for all that is handed in, up to the first malformed sequence or character without bytes that
+//!   is reported, and as long as no reference is written.
 //! - `last` is true in the call whose source ends the stream. The stream is converted when that
 //!   call, or one that repeats it with what is unread, returns `InputEmpty`. After it a decoder
 //!   takes no bytes, and an encoder is as a new one.

@@ -9,7 +9,9 @@ use Rattle.encoding_mem.specs.declared.codec.room.OutputUnit.{OutputUnit}
 use Rattle.encoding_tables.specs.IndexLists.{IndexLists}
 use Rattle.encoding_front.specs.calls.DecodedText.{TakesText, raw_result}
 use Rattle.encoding_front.specs.calls.Stream.{DecoderView, IsMadeFrom, finishes, room_asked}
+use Rattle.encoding_front.specs.calls.Seeking.{is_sought}
 use Rattle.encoding_front.specs.declared.coder_result.CoderResult.{CoderResult}
+use Rattle.encoding_front.specs.declared.seeking.BomSet.{BomSet}
 
 -- The room that is left after what a call wrote: whether it is counted in units of UTF-16, not in bytes of UTF-8, and
 -- how many of them are free.
@@ -29,6 +31,10 @@ free_units free = record { in_units = true; free = free }
 abbrev pub free_in_sink : (in_units : Bool) (free : ℕ) → RoomLeft
 free_in_sink in_units free = record { in_units = in_units; free = free }
 
+-- Marks are sought after a call only if it left nothing unread and more may come: those that were sought before it.
+abbrev pub SeeksOn : (before after : BomSet) → (last : Bool) → (unread : List ℕ) → Type 0
+SeeksOn before after last unread = IsTrue (is_sought after) → (after ≡ before) × (last ≡ false) × (unread ≡ [])
+
 -- Up to a malformed sequence: which pieces it took, whose scalars Writes says were written, and why it ended. How much
 -- has to be free for any character, and what U+FFFD takes, follows from what `left` counts (`two_in`,
 -- `replacement_len`). The encoding that the input turns out to be in does not depend on how it is cut. It is still of
@@ -37,6 +43,7 @@ pub record DecoderCall (before after : DecoderView) (src : List ℕ) (last : Boo
   pub law : StateLaw before.state after.state src last read Writes outcome
   pub ends : EndsWith after.state (drop read src) last left.free (two_in left.in_units) (replacement_len left.in_units) outcome
   pub source : (r : List ℕ) → (IsTrue last → r ≡ []) → before.source (src ++ r) ≡ after.source (drop read src ++ r)
+  pub marks : SeeksOn before.opening.sought after.opening.sought last (drop read src)
   pub finished : after.finished ≡ finishes last outcome
   pub made : (t : IndexLists) → IsMadeFrom t before → IsMadeFrom t after
 
@@ -45,6 +52,7 @@ pub record TextCall (before after : DecoderView) (src : List ℕ) (last : Bool) 
   pub law : TakesText before.state.pieces after.state.pieces src last before.state.pending after.state.pending read Writes had_errors
   pub ends : EndsWith after.state (drop read src) last left.free (two_in left.in_units) (replacement_len left.in_units) (raw_result outcome)
   pub source : (r : List ℕ) → (IsTrue last → r ≡ []) → before.source (src ++ r) ≡ after.source (drop read src ++ r)
+  pub marks : SeeksOn before.opening.sought after.opening.sought last (drop read src)
   pub finished : after.finished ≡ finishes last (raw_result outcome)
   pub made : (t : IndexLists) → IsMadeFrom t before → IsMadeFrom t after
 

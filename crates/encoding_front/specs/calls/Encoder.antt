@@ -6,7 +6,7 @@ use Rattle.encoding_mem.specs.declared.codec.reference.Reference.TheVariants.{De
 use Rattle.encoding_mem.specs.Coding.{Coding, IsMapped, last_set, lost_count, open_from, reference_bytes, spelled, whole_from}
 use Rattle.encoding_mem.specs.calls.EncoderCalls.{WritesPart, AccountsForText}
 use Rattle.encoding_mem.specs.calls.DecodedLength.{checked, bound_at}
-use Rattle.encoding_mem.specs.calls.EncoderRule.{EncoderCall, EncoderParts, Moves}
+use Rattle.encoding_mem.specs.calls.EncoderRule.{EncoderCall, EncoderParts, Moves, Tight}
 use Rattle.encoding_mem.specs.calls.EncodedLength.{bound_for}
 use Rattle.encoding_mem.specs.declared.codec.encoder_result.EncoderResult.{EncoderResult}
 use Rattle.encoding_mem.specs.declared.codec.form.EscapeState.{EscapeState}
@@ -101,8 +101,9 @@ Puts e s text written s' = written ≡ open_from Decimal e s text ++ e.escape (l
 
 -- A call with replacement on a text, into size bytes, the last of which are kept back. What is written is what the text
 -- that was read stands for, with references, and after it no more than the escape to the set that is then in force;
--- lost says whether there is a reference. Only a reference reaches into the kept bytes, and if one ends there, or where
--- they begin, nothing more is read or written.
+-- lost says whether there is a reference. If it is full before the kept bytes, what comes next does not fit before them.
+-- Only a reference reaches into the kept bytes, and if one ends there, or where they begin, nothing more is read or
+-- written.
 pub record Replaces (x : EncoderState) (last : Bool) (outcome : CoderResult) (text written : List ℕ) (x' : EncoderState) (rest : List ℕ) (lost : Bool) (size : ℕ) : Type 0 where
   pub same : x' ≡ record x { set = x'.set }
   pub prefix : List ℕ
@@ -115,6 +116,8 @@ pub record Replaces (x : EncoderState) (last : Bool) (outcome : CoderResult) (te
   pub told : IsTrue lost ↔ (0 < lost_count (coding_in x) prefix)
   pub ends : ReplacingEndsWith last outcome x'.set rest
   pub full : outcome ≡ CoderResult.OutputFull → size - kept_back x.encoding - length written < need_of x.encoding
+  pub tight : outcome ≡ CoderResult.OutputFull → length written < size - kept_back x.encoding
+      → Tight (coding_in x) EncoderResult.OutputFull x'.set rest (size - kept_back x.encoding - length written)
   pub kept : size - kept_back x.encoding < length written → EndsWithReference (coding_in x) x.set prefix written (size - kept_back x.encoding)
   pub few : size < kept_back x.encoding → (prefix ≡ []) × (written ≡ [])
   pub stops : (before : List ℕ) (c : ℕ) (after : List ℕ) → prefix ≡ before ++ c ∷ after → ¬ (IsMapped ((coding_in x).form c))

@@ -155,6 +155,7 @@ last_call_into_18 = record {
   told = (λ h. lit< tt, λ h. refl);
   ends = inr (refl, λ h. cc);
   full = λ h. lit< tt;
+  tight = λ h short. absurd (omega (arith, short));
   kept = λ h. record { before = 0xA5 ∷ []; lost = 0x1F4A9; is = refl; unmapped = λ h. h; whole = refl; begins = lit≤ tt };
   few = λ h. absurd (omega (arith, h));
   stops = λ before c after is lost reached. (only_pile_is_lost before c after is lost, refl);

@@ -10,7 +10,7 @@ use Rattle.encoding_front.specs.calls.DecodedText.{TakesText}
 use Rattle.encoding_front.specs.calls.DecoderCall.{DecoderCall, RoomLeft, TextCall}
 use Rattle.encoding_front.specs.calls.Resumed.{resumed_in}
 use Rattle.encoding_front.specs.calls.SavedDecoders.{CanBeResumed, IsSound, ReadsAlike, Saves, sought_reading}
-use Rattle.encoding_front.specs.calls.Stream.{DecoderView, IsMadeFrom}
+use Rattle.encoding_front.specs.calls.Stream.{DecoderView, IsMadeFrom, Opening}
 use Rattle.encoding_front.specs.declared.coder_result.CoderResult.{CoderResult}
 use Rattle.encoding_front.specs.declared.decoder.saved_decoder.SavedDecoder.{SavedDecoder}
 use Rattle.encoding_front.specs.laws.Ready.{AreThere-prop}
@@ -26,6 +26,7 @@ call_alike v u after src last read W left outcome h call = record {
   law = subst (λ (r : Reading). Takes (Reports outcome after.state.pending) r.pieces after.state.pieces src last r.pending after.state.pending read W) (sym h.state) call.law;
   ends = call.ends;
   source = λ r e. h.source (src ++ r) ∙ call.source r e;
+  marks = λ s. let k = call.marks s in (k.0 ∙ ap (λ (o : Opening). o.sought) (sym h.opening), k.1, k.2);
   finished = call.finished;
   made = λ t made. call.made t (made_alike t v u h made);
 }
@@ -36,6 +37,7 @@ text_alike v u after src last read W left outcome had_errors h call = record {
   law = subst (λ (r : Reading). TakesText r.pieces after.state.pieces src last r.pending after.state.pending read W had_errors) (sym h.state) call.law;
   ends = call.ends;
   source = λ r e. h.source (src ++ r) ∙ call.source r e;
+  marks = λ s. let k = call.marks s in (k.0 ∙ ap (λ (o : Opening). o.sought) (sym h.opening), k.1, k.2);
   finished = call.finished;
   made = λ t made. call.made t (made_alike t v u h made);
 }

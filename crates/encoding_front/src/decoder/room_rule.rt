@@ -20,8 +20,8 @@ pub struct RoomRule {
     pub may_be_utf8: bool,
     /// Whether the input may still turn out to begin with that of UTF-16BE or UTF-16LE.
     pub may_be_utf16: bool,
-    /// What is counted for bytes that are held while a mark is looked for: 2 if there are any, else
-    /// 0.
+    /// What is counted for bytes that were held while a mark was looked for, and are in no piece
+    /// yet: 2 if there are any, else 0.
     pub ahead: usize,
     /// How many bytes of a sequence are pending.
     pub pending: usize,

@@ -29,7 +29,7 @@ pub struct SavedDecoder {
     pub encoding: Encoding,
     /// The marks that it still looks for.
     pub sought: BomSet,
-    /// The bytes that it holds meanwhile.
+    /// The bytes that it held while it looked for a mark, and that are in no piece yet.
     pub held: SavedBytes,
     /// Whether its stream has ended.
     pub is_finished: bool,

@@ -27,6 +27,7 @@ returns-in-Some-clause-call g c =
           (λ x. unmarked mid.sought (state_of mid.inner).pieces (mid.held ++ x) settled) (λ x. unmarked mid.sought own.pieces (held.new.held ++ x) settled) rest looked.1 held.ensures.call.law;
       ends = ends_settled (held_state own held.new.held) (bom_decoder_state mid.sought own held.new.held (λ t. cc) (widest_by own.room mid.encoding (held.ensures.call.limits ∙ mid.room))) _ _ c.args.last _ _ _ held.result.0 (λ x. unmarked mid.sought own.pieces (held.new.held ++ x) settled) refl unread held.ensures.call.ends;
       source = λ r e. c.in-Some.ensures.source r e ∙ unnamed mid.sought mid.encoding (mid.held ++ r) settled ∙ sym (unnamed mid.sought mid.encoding (held.new.held ++ (drop (c.in-Some.taken + held.result.1) c.args.src.now ++ r)) settled);
+      marks = λ s. absurd (cc (sym s ∙ settled));
       finished = c.finishes-self.ensures;
       made = λ t made.
           let taken = c.in-Some.ensures.made t made in
