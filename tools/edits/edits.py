@@ -15,7 +15,7 @@ All crates take about 6 hours of processor time from nothing.
 In copies of the repository, with what checks have kept in `out/`, edits are made in rounds: of each function at most one
 edit in a round. First a pass over the sources finds edits that cannot be compiled. A check then says of each function
 whether it is proved, and of one that is not which goals are open. A function that calls one that is not proved is not
-looked at: its edit comes into a later round. An edit that changes no function, as that of a constant, and one that no round
+looked at: so no round has edits of both, as far as names tell, and else the edit comes into a later round. An edit that changes no function, as that of a constant, and one that no round
 decides, is tried alone. An edit is
 
 - refused by the fact, if a goal of its own function is open that no answer is written for: a clause, a condition of a
@@ -62,6 +62,8 @@ FUNCTION = re.compile(r'^ *(?:pub(?:\([^)]*\))? )?(?:extern "C" )?fn (\w+)')
 # The type of a block of methods, after its parameters and the trait that it implements, and before its arguments.
 BLOCK = re.compile(r"^(?:pub )?(?:impl|trait)\b(<.*?>)? (?:(\w+)(?:<.*?>)? for )?(\w+)(<.*>)?")
 WORD = re.compile(r"(?<!')\b[A-Za-z]\w*")
+# A call, by its name, with the dot or the type before it.
+CALLED = re.compile(r"(\.|\b[A-Z]\w*(?:::<[^()]*?>)?::)?\b(\w+)(?:::<[^()]*?>)?\(")
 
 # What a check says of a function; a note of an open goal stands before it.
 SAID = re.compile(r"fn \w+::(\S+): (.*)")
@@ -194,13 +196,57 @@ class Edit:
         return texts
 
 
-def rounds_of(edits, folder):
-    """The edits in rounds, each with its texts: of each function at most one edit in a round."""
+def functions_in(folder):
+    """The text of each function of a crate, by the path that a check names it by."""
+    found = {}
+    for place, _, names in os.walk(os.path.join(folder, "src")):
+        for name in (name for name in names if name.endswith(".rt")):
+            path = os.path.relpath(os.path.join(place, name), os.path.join(folder, "src"))
+            modules, block, function = [part for part in path[: -len(".rt")].split("/") if part not in ("lib", "main")], [], None
+            for line in read(os.path.join(place, name)).split("\n"):
+                begins, opens = FUNCTION.match(line), BLOCK.match(line)
+                if opens:
+                    block = [block_name(opens)]
+                if begins:
+                    function = "::".join([*modules, *(block if line.startswith(" ") else []), begins[1]])
+                    found[function] = ""
+                elif function and not line.lstrip().startswith("//"):
+                    found[function] += line + "\n"
+    return found
+
+
+def is_called(path, word):
+    """Whether a call may be of the function with this path: by the word before the name, which is a dot, a type or none."""
+    block = path.split("::")[-2:][0]
+    is_method = block[:1].isupper()
+    return is_method == bool(word) and (word in ("", ".") or word.startswith("Self:") or block.startswith(word.split(":")[0]))
+
+
+def reached_from(folder):
+    """The functions of a crate that each one calls, and those that these call, by their names alone: rather too many."""
+    texts = functions_in(folder)
+    named, calls = collections.defaultdict(list), {}
+    for path in texts:
+        named[path.split("::")[-1]].append(path)
+    for path, text in texts.items():
+        calls[path] = {other for word, name in CALLED.findall(text) for other in named.get(name, []) if is_called(other, word)} - {path}
+    is_more = True
+    while is_more:
+        more = {path: called.union(*(calls[other] for other in called)) for path, called in calls.items()}
+        is_more, calls = more != calls, more
+    return calls
+
+
+def rounds_of(edits, folder, reached=None):
+    """The edits in rounds, each with its texts: of each function at most one edit in a round, and, if it is known what calls
+    reach, none of functions one of which reaches another."""
+    reached = reached or {}
+    meets = lambda one, other: one.owner() == other.owner() or one.path in reached.get(other.path, ()) or other.path in reached.get(one.path, ())
     rounds = []
-    for edit in edits:
+    for edit in sorted(edits, key=lambda edit: len(reached.get(edit.path, ()))):
         for found in rounds:
             texts = edit.made_in(found[1], folder)
-            if texts and all(edit.owner() != other.owner() for other in found[0]):
+            if texts and not any(meets(edit, other) for other in found[0]):
                 found[0].append(edit)
                 found[1] = texts
                 break
@@ -250,7 +296,7 @@ class Crate:
 
     def __init__(self, name, folder, copies, slots, runs, record):
         self.name, self.folder, self.slots, self.runs, self.record = name, folder, slots, runs, record
-        self.told, self.right, self.open = [], {}, {}
+        self.told, self.right, self.open, self.reached = [], {}, {}, reached_from(folder)
         self.free, self.pool = queue.SimpleQueue(), concurrent.futures.ThreadPoolExecutor(len(copies))
         for copy in copies:
             self.free.put(copy)
@@ -265,9 +311,11 @@ class Crate:
         finally:
             self.free.put(folder)
 
-    def checked(self, texts, aside=None):
+    def checked(self, texts, aside=None, paths=()):
+        """What a check says with these texts: of these functions and of those that they call, or of all."""
+        only = [word for path in sorted(paths) for word in ("--only", path)]
         with self.copy(texts, aside) as folder:
-            return Check(*said(folder, "rt", "check"))
+            return Check(*said(folder, "rt", "check", *only))
 
     def tell(self, edit, kind, details=()):
         self.told.append(kind)
@@ -383,8 +431,8 @@ class Crate:
         is_decided, stale = True, {}
         while edits and is_decided:
             is_decided, left = False, []
-            rounds = rounds_of(edits, self.folder)
-            checks = self.pool.map(lambda found: self.checked(found[1]), rounds)
+            rounds = rounds_of(edits, self.folder, self.reached)
+            checks = self.pool.map(lambda found: self.checked(found[1], paths={edit.path for edit in found[0]}), rounds)
             for (together, _), check in zip(rounds, checks):
                 for edit in together:
                     if check.refusing(edit.path):
@@ -407,8 +455,9 @@ class Crate:
         edits, is_decided = list(stale), True
         while edits and is_decided:
             is_decided, left = False, []
-            rounds = rounds_of(edits, self.folder)
-            checks = self.pool.map(lambda found: self.checked(found[1], {edit.path: stale[edit] for edit in found[0]}), rounds)
+            rounds = rounds_of(edits, self.folder, self.reached)
+            failing = lambda together: {edit.path: stale[edit] for edit in together}
+            checks = self.pool.map(lambda found: self.checked(found[1], failing(found[0]), failing(found[0])), rounds)
             for (together, _), check in zip(rounds, checks):
                 for edit in together:
                     if edit.path in check.goals:
@@ -423,7 +472,7 @@ class Crate:
         """Finds the goals of functions that are open for the right body when answers are set aside."""
         left, found = dict(aside), aside
         while left and found:
-            check = self.checked({}, left)
+            check = self.checked({}, left, left)
             found = [path for path in left if path in check.goals]
             for path in found:
                 self.right.setdefault(path, {}).update(check.goals[path])
