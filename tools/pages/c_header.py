@@ -68,7 +68,8 @@ HEAD = """/*
  * overlaps nothing else that is handed in. While the call runs, no other thread writes to what is
  * handed in, or reads what the call may write to. Units of UTF-16 stand at even addresses, and
  * structs are aligned as their type needs. Memory that a call writes to need not be initialised,
- * except a handle, and a text (`_to_str`). A `bool` is 0 or 1.
+ * except a handle, a text (`_to_str`), and what a call changes in place (`jillapun_join_loss`,
+ * `jillapun_join_reports`, `jillapun_mem_ensure_utf16_validity`). A `bool` is 0 or 1.
  *
  * Handles. A handle, a struct with members that begin with `private_`, begins as `{0}` (in C++, as
  * `{}`), and is filled by a function with `_new` in its name. Its members are left alone: nothing
@@ -80,10 +81,11 @@ HEAD = """/*
  * other call is, and nothing else writes to it.
  *
  * Lengths. A function that writes and returns a length has written nothing if that is greater than
- * the room: so much is wanted. SIZE_MAX stands in place of a length if there is none.
+ * the room: so much is wanted. SIZE_MAX stands in place of a length if there is none; nothing was
+ * written then, unless the function's text says otherwise.
  *
- * Functions take memory by malloc and give it back by free. None prints, locks, starts a thread or
- * opens a file.
+ * `jillapun_tables_new` alone takes memory, by malloc and realloc, and gives back by free what it
+ * does not keep. No function prints, locks, starts a thread or opens a file.
  */"""
 
 PLATFORM = """#if SIZE_MAX != UINT64_MAX

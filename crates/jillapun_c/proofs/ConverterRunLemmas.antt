@@ -4,12 +4,13 @@ use Rattle.std.proofs.lemmas.Grind.{flat_map-append}
 use Rattle.std.proofs.lemmas.List.{drop-drop, length-take-le}
 use Rattle.encoding_mem.specs.Coding.{reference_bytes}
 use Rattle.encoding_mem.specs.Items.{Byte, Item, LostAt, MalformedAt}
+use Rattle.encoding_mem.specs.declared.codec.form.EscapeState.TheVariants.{Ascii}
 use Rattle.encoding_mem.specs.declared.codec.reference.Reference.{Reference}
 use Rattle.recode_log.specs.Line.{line_bytes}
 use Rattle.recode_log.specs.declared.line.LogLine.{LogLine}
 use Rattle.recode_log.specs.declared.line.LogLine.TheVariants.{Bad, Lost}
 use Rattle.recode.specs.Converter.{AllIsConverted, ConverterView, ConvertsPart, ConvertedSoFar, IsReportButCalls, found_items, owes, saved_job}
-use Rattle.recode.specs.Job.{input_text, lost_log_lines, target_of, trace, whole_trace}
+use Rattle.recode.specs.Job.{RunsThrough, input_pieces, input_text, lost_log_lines, target_of, trace, whole_trace}
 use Rattle.recode.specs.Policy.{reference_form, up_to_loss, written_under}
 use Rattle.recode.specs.TaggedByte.{TaggedByte, log_bytes, output_bytes, tagged, tagged_item}
 use Rattle.recode.specs.WrittenItems.{IsSpared, StopsAtLoss, lost_line_count}
@@ -20,11 +21,11 @@ use Rattle.recode.specs.declared.job.Job.{Job}
 use Rattle.recode.specs.declared.job.Policy.{Policy}
 use Rattle.recode.specs.declared.job.Report.{Report as RunReport}
 use Rattle.recode.specs.laws.Calls.{owed_on, part_none, taken_characters, taken_first, taken_on, taken_report, taken_whole}
-use Rattle.recode.specs.laws.Items.{log_bytes-append, log_bytes-bytes, log_bytes-lines, lost_line_count-append, lost_line_count-bytes, output_bytes-append, output_bytes-bytes, output_bytes-lines, spared_append, spared_bytes, tagged-append, written_spared, written_whole}
+use Rattle.recode.specs.laws.Items.{log_bytes-append, log_bytes-bytes, log_bytes-lines, lost_line_count-append, lost_line_count-bytes, lost_line_count-trace, output_bytes-append, output_bytes-bytes, output_bytes-lines, spared_append, spared_bytes, tagged-append, written_spared, written_whole}
 use Rattle.jillapun_c.proofs.ConverterTurnLemmas.{length_none, owes_split}
 use Rattle.jillapun_c.specs.ConverterRuns.{Carries, HasConverted, IsFirstPartOf, IsOverWith, JoinsToCalls, IsAtStage, EndsAtLoss, WritesUnder}
 use Rattle.jillapun_c.specs.ConverterTurns.{CanTurn, TurnEnds, MakesTurn, found_log, found_reference, stage_at}
-use Rattle.jillapun_c.specs.Conversions.{ConvertsInMemory, IsMadeOf, IsToldReport, IsToldStop}
+use Rattle.jillapun_c.specs.Conversions.{ConvertsInMemory, IsMadeOf, IsToldReport, IsToldStop, IsVerdict}
 use Rattle.jillapun_c.specs.Converters.{StepView, ConvertsAll, HandsOut, HoldsNothing, IsNewConverter, TellsStage, TellsStatus, held_losses, listed}
 use Rattle.jillapun_c.specs.Losses.{log_of_losses, loss_bytes}
 use Rattle.jillapun_c.specs.Room.{FillsRoom, IsFilled}
@@ -258,12 +259,16 @@ first_part j last input rest out records c h = record {
 -- of a status by which nothing was converted nothing is said
 nothing_said : (j : Job) (x y : List ℕ) (records : List Loss) (report : Report) (status : ℕ) → 1 < status → status ≢ 12 → ConvertsInMemory j x y records report status
 nothing_said j x y records report status big other = record {
-  made = λ d. absurd (elim d [ inl v ↦ elim v [ inl e ↦ omega (arith, e, big) | inr e ↦ omega (arith, e, big) ] | inr e ↦ other e ]);
-  counts = λ v. absurd (elim v [ inl e ↦ omega (arith, e, big) | inr e ↦ omega (arith, e, big) ]);
+  made = λ d. absurd (elim d [ inl v ↦ small v | inr e ↦ other e ]);
+  through = λ v. absurd (small v);
+  counts = λ v. absurd (small v);
   faithful = λ e. absurd (omega (arith, e, big));
   lossy = λ e. absurd (omega (arith, e, big));
   stopped = λ e. absurd (other e);
 }
+  where
+    small : IsVerdict status → ⊥
+    small v = elim v [ inl e ↦ omega (arith, e, big) | inr e ↦ omega (arith, e, big) ]
 
 told_ok : (b : Bool) (status : ℕ) → (b ≡ false → status ≡ 1) → status ≡ 0 → b ≡ true
 told_ok true status lossy ok = refl
@@ -277,10 +282,11 @@ never_stopped true status ok lossy is = omega (arith, ok refl, is)
 never_stopped false status ok lossy is = omega (arith, lossy refl, is)
 
 -- all was converted
-all_told : (j : Job) (x y : List ℕ) (records : List Loss) (p : RunReport) (characters : ℕ) (report : Report) (status : ℕ) → IsMadeOf j x y records → IsReportButCalls j x p
+all_told : (j : Job) (x y : List ℕ) (records : List Loss) (p : RunReport) (characters : ℕ) (report : Report) (status : ℕ) → IsMadeOf j x y records → RunsThrough j x → IsReportButCalls j x p
     → characters ≡ length (input_text j x) → IsToldReport p characters report status → ConvertsInMemory j x y records report status
-all_told j x y records p characters report status made r counted t = record {
+all_told j x y records p characters report status made through r counted t = record {
   made = λ d. made;
+  through = λ v. through;
   counts = λ v. record { read = t.read ∙ r.read; bad = t.bad ∙ r.bad; lost = t.lost ∙ r.lost; characters = t.characters_ ∙ counted; no_character = t.no_character };
   faithful = λ ok. r.faithful.0 (told_ok p.faithful status t.lossy ok);
   lossy = λ lossy f. told_lossy p.faithful status t.faithful lossy (r.faithful.1 f);
@@ -298,6 +304,9 @@ stop_written : (p : Policy) (before ref more : List Item) (index scalar : ℕ) �
 stop_written p before ref more index scalar is first = ap (λ q. written_under q ((before ++ (LostAt index scalar ∷ ref)) ++ more)) is
     ∙ ap up_to_loss (append_assoc before (LostAt index scalar ∷ ref) more) ∙ written_spared Policy.Stop before (LostAt index scalar ∷ (ref ++ more)) (λ _. first)
 
+no_verdict : (status : ℕ) → status ≡ 12 → IsVerdict status → ⊥
+no_verdict status is v = elim v [ inl e ↦ omega (arith, e, is) | inr e ↦ omega (arith, e, is) ]
+
 -- the policy stopped it
 stop_told : FirstLaw → (j : Job) (last : Bool) (x rest y : List ℕ) (records : List Loss) (v : ConverterView) (items : List Item) (index scalar : ℕ) (report : Report) (status : ℕ)
     → ConvertedSoFar j last x rest items v → EndsAtLoss j.policy index scalar items → WritesUnder j.policy items y (log_of_losses records)
@@ -311,7 +320,8 @@ stop_told law j last x rest y records v items index scalar report status taken s
     ∙ ap (λ z. written_under j.policy (z ++ owes v (rest ++ []))) stops.is ∙ stop_written j.policy stops.before ref (owes v (rest ++ [])) index scalar stops.policy stops.first in
     record {
       made = λ d. record { is_output = w.is_output ∙ ap (λ z. output_bytes (tagged z)) (own ∙ sym all); is_log = w.is_log ∙ ap (λ z. log_bytes (tagged z)) (own ∙ sym all) };
-      counts = λ v. absurd (elim v [ inl e ↦ omega (arith, e, told.stopped) | inr e ↦ omega (arith, e, told.stopped) ]);
+      through = λ v. absurd (no_verdict status told.stopped v);
+      counts = λ v. absurd (no_verdict status told.stopped v);
       faithful = λ e. absurd (omega (arith, e, told.stopped));
       lossy = λ e. absurd (omega (arith, e, told.stopped));
       stopped = λ e. record {
@@ -343,6 +353,7 @@ stage_told law Open j last x rest y records v items report status taken w stands
       let done = tells.done is in
       all_told j x y records done.0 v.state.counts.index report status
       (record { is_output = w.is_output ∙ ap (λ z. output_bytes (tagged (written_under j.policy z))) all; is_log = w.is_log ∙ ap (λ z. log_bytes (tagged (written_under j.policy z))) all })
+      (λ stop. omega (arith, stands stop, ap lost_line_count all, lost_line_count-trace (reference_form j.policy) (target_of j) Ascii 0 0 (input_pieces j x)))
       (taken_report j x items v done.0 end o.whole done.1) (taken_characters j x items v end o.whole) done.2
   | inr is ↦ nothing_said j x y records report status (omega (arith, (tells.open_ is).1)) (λ e. omega (arith, e, (tells.open_ is).1))
 ]

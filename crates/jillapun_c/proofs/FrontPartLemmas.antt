@@ -1,7 +1,8 @@
 -- What a call did of a part of a text, if it did not come to the end of it, it did of the text: of encoders.
-use Rattle.std.proofs.Common.{◌≡◌, ◌≢◌, ℕ, ◌≤◌, inl, inr, Bool, true, false, List, [], ◌++◌, length, refl, sym, ◌∙◌, ap, arith, append_assoc, encode_utf8_all, length-append}
+use Rattle.std.proofs.Common.{◌∷◌, ◌≡◌, ◌≢◌, ℕ, ◌≤◌, inl, inr, Bool, true, false, List, [], ◌++◌, length, refl, sym, ◌∙◌, ap, arith, append_assoc, encode_utf8_all, length-append}
 use Rattle.std.proofs.lemmas.List.{append-nil}
 use Rattle.std.specs.Bool.{MatchBool}
+use Rattle.encoding_mem.specs.calls.EncoderRule.{Tight}
 use Rattle.encoding_mem.specs.Coding.{AllMapped, Coding, bytes_from, last_set, open_from, whole_from}
 use Rattle.encoding_mem.specs.calls.EncoderCalls.{WritesPart}
 use Rattle.encoding_mem.specs.laws.EncoderCalls.{encoded_bytes, last_set-append}
@@ -126,6 +127,16 @@ replacing_more last CoderResult.InputEmpty s' rest more ends h = absurd (ends re
 replacing_more last CoderResult.OutputFull s' rest more ends (inl some) = inl (omega (arith, some, length-append rest more))
 replacing_more last CoderResult.OutputFull s' rest more ends (inr p) = let no = p.0 in absurd (cc)
 
+tight_replaced : (e : Coding) (outcome : CoderResult) (s' : EscapeState) (rest more : List ℕ) (room : ℕ) → outcome ≡ CoderResult.OutputFull
+    → ReplacingEndsWith false outcome s' rest → Tight e raw_.OutputFull s' rest room → Tight e raw_.OutputFull s' (rest ++ more) room
+tight_replaced e outcome s' [] more room is ends h = absurd (none outcome is ends)
+  where
+    none : (o : CoderResult) → o ≡ CoderResult.OutputFull → ReplacingEndsWith false o s' [] → ⊥
+    none CoderResult.InputEmpty is ends = cc
+    none CoderResult.OutputFull is (inl some) = omega (arith, some)
+    none CoderResult.OutputFull is (inr p) = let no = p.0 in cc
+tight_replaced e outcome s' (c ∷ rest) more room is ends h = h
+
 pub replaced_more : (x : EncoderState) (last : Bool) (outcome : CoderResult) (part written : List ℕ) (x' : EncoderState) (rest more : List ℕ) (lost : Bool) (size : ℕ) → outcome ≢ CoderResult.InputEmpty
     → Replaces x false outcome part written x' rest lost size → Replaces x last outcome (part ++ more) written x' (rest ++ more) lost size
 replaced_more x last outcome part written x' rest more lost size ends h = record {
@@ -139,6 +150,7 @@ replaced_more x last outcome part written x' rest more lost size ends h = record
   told = h.told;
   ends = replacing_more last outcome x'.set rest more ends h.ends;
   full = h.full;
+  tight = λ is short. tight_replaced (coding_in x) outcome x'.set rest more _ is h.ends (h.tight is short);
   kept = h.kept;
   few = h.few;
   stops = h.stops;

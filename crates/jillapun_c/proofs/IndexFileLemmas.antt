@@ -4,7 +4,8 @@ use Rattle.std.proofs.lemmas.Bool.Decides.{not_from_Decides}
 use Rattle.std.proofs.lemmas.Slice.Eq.{bytes_eq-Decides}
 use Rattle.std.proofs.lemmas.Bool.{cases_eq}
 use Rattle.std.specs.Str.{bytes_eq}
-use Rattle.encoding_tables.specs.FileNames.{file_name_of}
+use Rattle.encoding_tables.specs.FileNames.{FileNamesDiffer, file_name_of}
+use Rattle.encoding_front.specs.Encodings.{no_lists}
 use Rattle.encoding_tables.specs.Kinds.{index_size, is_ranges}
 use Rattle.encoding_tables.specs.calls.Slots.{slot_of}
 use Rattle.encoding_tables.specs.IndexLists.{IndexLists, has}
@@ -15,15 +16,15 @@ use Rattle.encoding_index.specs.declared.fault.LoadFault.TheVariants.{Text, Tabl
 use Rattle.encoding_tables.specs.TableFaults.{flat_fault, range_fault}
 use Rattle.encoding_tables.specs.declared.table_fault.TableFault.{TableFault}
 use Rattle.std.proofs.lemmas.List.{take_all}
-use Rattle.std.proofs.lemmas.List.Elements.{All-push, All-pop, All-weaker}
+use Rattle.std.proofs.lemmas.List.Elements.{All-head, All-nil, All-pop, All-push, All-tail, All-weaker}
 use Rattle.std.proofs.lemmas.Option.{slice_get-get_or}
 use Rattle.std.proofs.Math.Seq.{take-suc}
 use Rattle.std.specs.Bool.{MatchBool}
 use Rattle.std.specs.Option.{option_map, option_or}
-use Rattle.std.specs.Prelude.{if◌then◌else◌, is_some}
+use Rattle.std.specs.Prelude.{All, if◌then◌else◌, is_some}
 use Rattle.encoding_tables.specs.declared.index_kind.IndexKind.{IndexKind}
 use Rattle.encoding_tables.specs.declared.index_kind.IndexKind.TheVariants.{Ibm866, Gb18030Ranges}
-use Rattle.jillapun_c.specs.IndexFiles.{AddsIndex, HoldFiles, IsFileFault, IsLoaded, IsRefusedAt}
+use Rattle.jillapun_c.specs.IndexFiles.{AddsIndex, HaveOwnNames, HoldFiles, IsFileFault, IsFileOf, IsLoaded, IsRefusedAt}
 use Rattle.jillapun_c.specs.declared.index_files.FileFault.{FileFault}
 use Rattle.jillapun_c.specs.declared.index_files.IndexFile.{IndexFile}
 use Rattle.encoding_tables.specs.declared.index_kind.TheConstants.IndexKind.{ALL as KINDS}
@@ -89,6 +90,41 @@ index_is_new tables kind text = elim (is_ranges kind) as (λ r.
       | false ↦ flat_is_new (is_some (tables.flats kind)) kind (text_list (index_size kind) text)
     ]
 
+-- and the text is without a fault
+text_took : (text : Option IndexFault) (table : Option TableFault) → option_or (option_map Text text) (option_map Table table) ≡ None → text ≡ None
+text_took None table e = refl
+text_took (Some fault) table e = cc
+
+rows_alone : (there : Bool) (rows : List (ℕ × ℕ)) → range_fault there rows ≡ None → range_fault false rows ≡ None
+rows_alone true rows e = cc
+rows_alone false rows e = e
+
+flat_alone : (there : Bool) (kind : IndexKind) (flat : List ℕ) → flat_fault there kind flat ≡ None → flat_fault false kind flat ≡ None
+flat_alone true kind flat e = cc
+flat_alone false kind flat e = e
+
+-- what tables take tables with no index take
+index_alone : (tables : IndexLists) (kind : IndexKind) (text : List ℕ) → table_fault tables kind text ≡ None → table_fault no_lists kind text ≡ None
+index_alone tables kind text = elim (is_ranges kind) as (λ r.
+    (if r then range_fault (is_some tables.rows) (text_rows text)
+    else flat_fault (if r then is_some tables.rows else is_some (tables.flats kind)) kind (text_list (index_size kind) text)) ≡ None
+    → (if r then range_fault false (text_rows text)
+    else flat_fault (if r then false else false) kind (text_list (index_size kind) text)) ≡ None) [
+      | true ↦ rows_alone (is_some tables.rows) (text_rows text)
+      | false ↦ flat_alone (is_some (tables.flats kind)) kind (text_list (index_size kind) text)
+    ]
+
+no_fault : (text : Option IndexFault) (table : Option TableFault) → text ≡ None → table ≡ None → option_or (option_map Text text) (option_map Table table) ≡ None
+no_fault None None e f = refl
+no_fault None (Some fault) e f = cc
+no_fault (Some fault) table e f = cc
+
+taken_alone : (tables : IndexLists) (kind : IndexKind) (text : List ℕ) → load_fault tables kind text ≡ None → load_fault no_lists kind text ≡ None
+unfolding load_fault
+taken_alone tables kind text taken = no_fault (text_fault kind text) (table_fault no_lists kind text)
+    (text_took (text_fault kind text) (table_fault tables kind text) taken)
+    (index_alone tables kind text (table_took (text_fault kind text) (table_fault tables kind text) taken))
+
 taken_is_new : (tables : IndexLists) (kind : IndexKind) (text : List ℕ) → load_fault tables kind text ≡ None → has tables kind ≡ false
 unfolding load_fault
 taken_is_new tables kind text taken = index_is_new tables kind text (table_took (text_fault kind text) (table_fault tables kind text) taken)
@@ -120,25 +156,42 @@ keeps_absent old new kind other keeps apart = elim (is_ranges other) as (λ r. i
 both : {b : Bool} → b ≡ true → b ≡ false → ⊥
 both e f = cc
 
-adds_file : (files : List IndexFile) (old new : IndexLists) (file : IndexFile) → HoldFiles files old → AddsIndex old new file → HoldFiles (files ++ file ∷ []) new
-adds_file files old new file holds adds = record {
+-- a name that no file has yet
+names_push : (files : List IndexFile) (file : IndexFile) → HaveOwnNames files → All (λ earlier. file.name.now ≢ earlier.name.now) files → HaveOwnNames (files ++ file ∷ [])
+names_push [] file names others = (All-nil (λ later. later.name.now ≢ file.name.now), tt)
+names_push (first ∷ files) file names others = (
+  All-push (λ later. later.name.now ≢ first.name.now) files file names.0 (All-head (λ earlier. file.name.now ≢ earlier.name.now) first files others),
+  names_push files file names.1 (All-tail (λ earlier. file.name.now ≢ earlier.name.now) first files others),
+)
+
+-- an index that tables do not have is that of no file that they hold
+other_name : FileNamesDiffer → (old : IndexLists) (kind : IndexKind) (file earlier : IndexFile) → IsFileOf kind file → has old kind ≡ false → IsLoaded old earlier → file.name.now ≢ earlier.name.now
+other_name differ old kind file earlier named absent l = λ same.
+    both (subst (λ k. has old k ≡ true) (differ l.kind kind (l.named ∙ sym same ∙ sym named)) (loaded_has old l.kind earlier.text.now l.loads)) absent
+
+adds_file : FileNamesDiffer → (files : List IndexFile) (old new : IndexLists) (file : IndexFile) → HoldFiles files old → AddsIndex old new file → HoldFiles (files ++ file ∷ []) new
+adds_file differ files old new file holds adds = record {
   loaded = All-push (IsLoaded new) files file
       (All-weaker (IsLoaded old) (IsLoaded new) (λ earlier l. record {
         kind = l.kind;
         named = l.named;
+        faultless = l.faultless;
         loads = keeps_loaded old new adds.kind l.kind earlier.text.now adds.keeps
             (λ same. both (subst (λ k. has old k ≡ true) same (loaded_has old l.kind earlier.text.now l.loads)) (taken_is_new old adds.kind file.text.now adds.taken))
             l.loads;
       }) files holds.loaded)
-      (record { kind = adds.kind; named = adds.named; loads = adds.loads });
+      (record { kind = adds.kind; named = adds.named; faultless = taken_alone old adds.kind file.text.now adds.taken; loads = adds.loads });
+  apart = names_push files file holds.apart
+      (All-weaker (IsLoaded old) (λ earlier. file.name.now ≢ earlier.name.now) (λ earlier l.
+      other_name differ old adds.kind file earlier adds.named (taken_is_new old adds.kind file.text.now adds.taken) l) files holds.loaded);
   others = λ kind apart. let parts = All-pop (λ f. file_name_of kind ≢ f.name.now) (files ++ file ∷ []) files (Some file) refl apart in
       keeps_absent old new adds.kind kind adds.keeps (λ same. parts.1 (ap file_name_of same ∙ adds.named)) (holds.others kind parts.0);
 }
 
-pub one_more : (files : List IndexFile) (n : ℕ) (d : IndexFile) (old new : IndexLists) → n < length files → HoldFiles (take n files) old → AddsIndex old new (get_or files n d)
+pub one_more : FileNamesDiffer → (files : List IndexFile) (n : ℕ) (d : IndexFile) (old new : IndexLists) → n < length files → HoldFiles (take n files) old → AddsIndex old new (get_or files n d)
     → HoldFiles (take (n + 1) files) new
-one_more files n d old new within holds adds = let next : suc n ≡ n + 1 = omega arith in
-    subst (λ m. HoldFiles (take m files) new) next (subst (λ fs. HoldFiles fs new) (sym (take-suc files n d within)) (adds_file (take n files) old new (get_or files n d) holds adds))
+one_more differ files n d old new within holds adds = let next : suc n ≡ n + 1 = omega arith in
+    subst (λ m. HoldFiles (take m files) new) next (subst (λ fs. HoldFiles fs new) (sym (take-suc files n d within)) (adds_file differ (take n files) old new (get_or files n d) holds adds))
 
 pub all_of_them : (files : List IndexFile) (n : ℕ) (tables : IndexLists) → length files ≤ n → HoldFiles (take n files) tables → HoldFiles files tables
 all_of_them files n tables past holds = subst (λ fs. HoldFiles fs tables) (take_all n files past) holds

@@ -63,6 +63,7 @@ text_over v v' src last n old mid new w free outcome had puts size h = record {
   };
   ends = subst (λ (k : ℕ). EndsWith v'.state (drop n src) last k (two_in false) (replacement_len false) (raw_result outcome)) size h.ends;
   source = h.source;
+  marks = h.marks;
   finished = h.finished;
   made = h.made;
 }
@@ -81,6 +82,7 @@ scalars_over v v' src last n old mid new w free outcome puts size h = record {
   };
   ends = subst (λ (k : ℕ). EndsWith v'.state (drop n src) last k (two_in false) (replacement_len false) outcome) size h.ends;
   source = h.source;
+  marks = h.marks;
   finished = h.finished;
   made = h.made;
 }

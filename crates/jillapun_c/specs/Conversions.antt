@@ -3,7 +3,7 @@ use Rattle.std.specs.Prelude.{◌≡◌, ◌⊎◌, ◌<◌, ◌≤◌, ℕ, Lis
 use Rattle.encoding_mem.specs.Piece.{malformed_count}
 use Rattle.encoding_mem.specs.Coding.{lost_count}
 use Rattle.recode_log.specs.declared.line.LogLine.TheVariants.{Lost}
-use Rattle.recode.specs.Job.{Faithful, input_pieces, input_text, log_of, lost_log_lines, output_of, target_of}
+use Rattle.recode.specs.Job.{Faithful, RunsThrough, input_pieces, input_text, log_of, lost_log_lines, output_of, target_of}
 use Rattle.recode.specs.declared.job.Job.{Job}
 use Rattle.recode.specs.declared.job.Policy.{Policy}
 use Rattle.recode.specs.declared.job.Report.{Report as RunReport}
@@ -50,9 +50,10 @@ abbrev pub IsDone : (status : ℕ) → Type 0
 IsDone status = IsVerdict status ⊎ (status ≡ STOPPED)
 
 -- What a status says of a job on an input, and of the bytes and records that were made: if something was converted,
--- they are what the job makes of it.
+-- they are what the job makes of it; and if all was, the policy stopped nothing.
 pub record ConvertsInMemory (j : Job) (input output : List ℕ) (losses : List Loss) (report : Report) (status : ℕ) : Type 0 where
   pub made : IsDone status → IsMadeOf j input output losses
+  pub through : IsVerdict status → RunsThrough j input
   pub counts : IsVerdict status → AreCountsOf j input report
   pub faithful : status ≡ OK → Faithful j input
   pub lossy : status ≡ LOSSY → ¬ (Faithful j input)

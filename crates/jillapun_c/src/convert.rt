@@ -19,7 +19,8 @@ use std::alloc::Global;
 /// `mark` says what becomes of a byte order mark at the start (`SNIFF`, `REMOVE`, `KEEP`), `policy`
 /// what is written for a character without bytes (`DECIMAL`, `HEXADECIMAL`, `STOP`), and `limit`
 /// how many bytes the input may have; a greater number than 2^48 counts as that. Any number of
-/// threads may call at once, over the same tables.
+/// threads may call at once, over the same tables, which have the indexes of both encodings; or
+/// `{0}` if neither needs any.
 ///
 /// - `OK`: nothing was malformed, and the output, read again, is the text of the input.
 /// - `LOSSY`: all was converted, and something was lost. `losses` may be empty even so: some
@@ -87,7 +88,8 @@ fn convert_over(
     }
 }
 
-// The same over tables with no index, which take no memory.
+// The same over tables with no index, which take no memory. They stand in a function of their own,
+// since each call clears the room of all its variables.
 fn convert_without(
     alloc: Global,
     request: Request,

@@ -108,7 +108,7 @@ impl<'t> Converter<'t> {
 }
 
 /// Makes a converter of a new input, from the encoding with the number `from` to the output
-/// encoding of that with the number `to`. `mark`, `policy` and `limit` are as for
+/// encoding of that with the number `to`. `tables`, `mark`, `policy` and `limit` are as for
 /// `jillapun_convert`. What `out` held is overwritten, whether or not its end was reported.
 ///
 /// Returns `OK`, and `out` holds the converter. Else nothing is made, and `out` stays as it is:
@@ -158,7 +158,8 @@ fn open_over(lent: &Tables, tables: TablesHandle, request: Request, out: &mut Co
     }
 }
 
-// The same if the handle has no tables: over some with no index, which take no memory.
+// The same if the handle has no tables: over some with no index, which take no memory. They stand
+// in a function of their own, since each call clears the room of all its variables.
 fn open_without(
     alloc: Global,
     tables: TablesHandle,

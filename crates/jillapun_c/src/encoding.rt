@@ -113,9 +113,9 @@ pub extern "C" fn jillapun_is_single_byte(encoding: u8) -> bool
     }
 }
 
-/// Whether each byte below 80 stands for the character of its number if a character begins there,
-/// and such a character is written as that byte: so in all encodings but UTF-16BE, UTF-16LE,
-/// replacement and ISO-2022-JP. False if no encoding has the number.
+/// Whether each byte below 80 (hexadecimal) stands for the character of its number if a character
+/// begins there, and such a character is written as that byte: so in all encodings but UTF-16BE,
+/// UTF-16LE, replacement and ISO-2022-JP. False if no encoding has the number.
 #[unsafe(no_mangle)]
 pub extern "C" fn jillapun_is_ascii_compatible(encoding: u8) -> bool
     ensures { MatchOption (encoding_at encoding) (result ≡ false)

@@ -7,6 +7,7 @@ ghost use Rattle.jillapun_c.specs.IndexFiles.{AddsIndex, HoldFiles, IsFileFault}
 ghost use Rattle.jillapun_c.specs.IndexFiles.{IsRefusedAt, told_of};
 
 use encoding_index::{LoadFault, load};
+use encoding_tables::laws::file_names;
 use encoding_tables::{IndexKind, TableFault, Tables};
 use std::alloc::Global;
 
@@ -83,6 +84,7 @@ pub(crate) fn load_files(
     ensures holds { OnOk result (HoldFiles files.now tables.new) }
     ensures refused { IfErr result (λ e. IsRefusedAt files.now e.0 e.1) }
 {
+    file_names();
     for (number, file) in files.iter().enumerate() {
         if let Err(fault) = load_file(alloc, file, tables) {
             return Err((number, fault));

@@ -26,7 +26,8 @@ use encoding_front::{Encoding, Mark};
 /// encoding of `to` is not compatible with ASCII (UTF-16BE, UTF-16LE, ISO-2022-JP, replacement), or
 /// if a number stands for nothing.
 ///
-/// The outputs of all parts, in a row, are the output for the whole. So are their records of
+/// The outputs of all parts, in a row, are the output for the whole, if that is within the limit: a
+/// part is compared by itself. So are their records of
 /// losses, once `jillapun_join_loss` has moved them, and what is reported of the parts, once
 /// `jillapun_join_reports` has added it. Nothing was lost of the whole if nothing was lost of any
 /// part. A part that the policy stops is the last, and is not added: the stop of the whole has its

@@ -20,12 +20,12 @@ pub struct Report {
     /// by itself, are moved by it.
     pub characters: u64,
     /// The bytes of the output, in memory: so many stand at the start of `dst`, or, at `ROOM`, so
-    /// many are wanted. 0 if nothing was written, and in a conversion by steps: its calls report
-    /// it.
+    /// many are wanted, `SIZE_MAX` if more are. 0 if nothing was written, and in a conversion by
+    /// steps: its calls report it.
     pub written: u64,
     /// The records of losses, in memory: so many stand at the start of `losses`, or, at `ROOM`, so
-    /// many are wanted. 0 if nothing was written, and in a conversion by steps: its calls report
-    /// it.
+    /// many are wanted, `SIZE_MAX` if more are. 0 if nothing was written, and in a conversion by
+    /// steps: its calls report it.
     pub losses: u64,
     /// At `STOPPED`, how many characters of the text stand before the lost one. Else 0.
     pub index: u64,

@@ -5,7 +5,8 @@
 
 /// All was done. Of a conversion: nothing was lost.
 pub const OK: u8 = 0;
-/// All was converted, and something was lost: the output, read again, is not the text of the input.
+/// All was done, and something was lost: U+FFFD stands for a malformed sequence, or a reference for
+/// a character without bytes; or, of a conversion, the output, read again, is another text.
 pub const LOSSY: u8 = 1;
 /// A number stands for no encoding, handling of marks or policy, or a name for no index file.
 /// Nothing was done.
@@ -17,7 +18,7 @@ pub const NOT_READY: u8 = 3;
 pub const BAD_INDEX: u8 = 4;
 /// Memory was refused. Nothing was kept, and the call can be made again.
 pub const NO_MEMORY: u8 = 5;
-/// The handle holds nothing: it is zeroed, or was freed. Nothing was done.
+/// The handle is `{0}`: no stream or conversion was begun in it. Nothing was done.
 pub const CLOSED: u8 = 6;
 /// The handle that is to be filled holds something already. Nothing was done.
 pub const IN_USE: u8 = 7;

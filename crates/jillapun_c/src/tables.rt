@@ -14,7 +14,7 @@ use std::alloc::Global;
 #[repr(C)]
 #[derive(Clone, Copy)]
 pub struct IndexFault {
-    /// Which of the files, counted from 0.
+    /// Which of the files, counted from 0; or how many they are, if memory was refused after all.
     pub file: usize,
     /// The line of its text, counted from 1; 0 if the fault is in no line alone.
     pub line: usize,
@@ -24,13 +24,14 @@ pub struct IndexFault {
 /// be used, or all that the Encoding Standard publishes. The texts are not needed after the call.
 ///
 /// Returns `OK`, and `out` holds the tables; or `IN_USE`, it holds some already. On an error `out`
-/// is as it was, and `fault`, which else stays as it was, says which file it is: `UNKNOWN`, no
-/// index has a file of that name; `BAD_INDEX`, the text has a fault, or the index was loaded
-/// already; `NO_MEMORY`, memory was refused, and the call can be made again.
+/// is as it was, and `fault`, which else stays as it was, says which file is the first that was not
+/// loaded: `UNKNOWN`, no index has a file of that name; `BAD_INDEX`, the text has a fault, or a
+/// file before it is of the same index; `NO_MEMORY`, memory was refused, and the call can be made
+/// again.
 ///
 /// The tables are never freed, so that they can be shared by all threads: load them once. An index
 /// that is wanted later is loaded into a handle of its own: a decoder or an encoder needs none but
-/// those of its encoding.
+/// those of its encoding, and a conversion those of both encodings, in one handle.
 #[unsafe(no_mangle)]
 pub extern "C" fn jillapun_tables_new(
     alloc: Global,

@@ -15,7 +15,8 @@ use encoding_tables::Tables;
 use std::marker::Model;
 use std::{mem, ptr};
 
-/// Tables of indexes, loaded by `jillapun_tables_new`. Begin with `{0}`, which holds no tables.
+/// Tables of indexes, loaded by `jillapun_tables_new`. Begin with `{0}`, which holds none, and does
+/// wherever tables are handed in for encodings that need no index.
 ///
 /// The tables live as long as the process, and are never changed. So a copy of this is as good as
 /// this, and any number of threads may use the same tables at once.

@@ -10,6 +10,7 @@ use crate::tables_handle::TablesHandle;
 /// that it keeps stands in it: it may be moved, a copy is a decoder of its own that goes on from
 /// here, and nothing has to be freed. Nothing but this library, or a copy of what it wrote, may be
 /// written into it.
+///
 /// Calls that take a `const` one may be made by any number of threads at once, and others by one
 /// thread at a time.
 #[repr(C)]

@@ -20,8 +20,8 @@ use crate::status::OK;
 /// malformed sequence. What it does and returns is as of `jillapun_decoder_decode_to_utf8`, but for
 /// this: if a character of `dst` is overwritten in part, its other bytes become 00, so what was
 /// UTF-8 is UTF-8 after the call. Of what stands behind the bytes that were written the call looks
-/// at three, and it changes those of them that go on with a character (80 to BF), whether or not
-/// `dst` was UTF-8.
+/// at three, and it changes those at their start that go on with a character (80 to BF), whether or
+/// not `dst` was UTF-8.
 #[unsafe(no_mangle)]
 pub extern "C" fn jillapun_decoder_decode_to_str(
     decoder: &mut DecoderHandle,

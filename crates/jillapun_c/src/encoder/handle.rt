@@ -11,6 +11,7 @@ use encoding_mem::form::EscapeState;
 /// that it keeps stands in it: it may be moved, a copy is an encoder of its own that goes on from
 /// here, and nothing has to be freed. Nothing but this library, or a copy of what it wrote, may be
 /// written into it.
+///
 /// Calls that take a `const` one may be made by any number of threads at once, and others by one
 /// thread at a time.
 #[repr(C)]

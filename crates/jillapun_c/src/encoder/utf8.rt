@@ -32,8 +32,8 @@ use crate::status::{CLOSED, NOT_UTF8, OK};
 /// returns `NOT_UTF8`. A character must not be cut between two calls.
 ///
 /// Else nothing is done, and all of `progress` is 0: `NOT_UTF8`, the text begins with a malformed
-/// sequence, or with a character of which the end is not there; `CLOSED`, the handle holds no
-/// encoder.
+/// sequence, or with a character of which the end is not there; if it does not, `CLOSED`, the
+/// handle holds no encoder.
 #[unsafe(no_mangle)]
 pub extern "C" fn jillapun_encoder_encode_from_utf8(
     encoder: &mut EncoderHandle,
@@ -92,8 +92,8 @@ pub extern "C" fn jillapun_encoder_encode_from_utf8(
 /// `jillapun_encoder_encode_from_utf8`.
 ///
 /// Else nothing is done, and all of `progress` is 0: `NOT_UTF8`, the text begins with a malformed
-/// sequence, or with a character of which the end is not there; `CLOSED`, the handle holds no
-/// encoder.
+/// sequence, or with a character of which the end is not there; if it does not, `CLOSED`, the
+/// handle holds no encoder.
 #[unsafe(no_mangle)]
 pub extern "C" fn jillapun_encoder_encode_from_utf8_without_replacement(
     encoder: &mut EncoderHandle,

@@ -129,9 +129,9 @@ pub extern "C" fn jillapun_mem_convert_latin1_to_utf8(src: &[u8], dst: &mut [u8]
 /// Converts Latin1 to UTF-8 at the start of a text, and returns how many bytes were written. If a
 /// character of `dst` is overwritten in part, its other bytes become 00, so what was UTF-8 is UTF-8
 /// after the call. Of what stands behind the bytes that were written the call looks at three, and
-/// it changes those of them that go on with a character (80 to BF), whether or not `dst` was UTF-8.
-/// Room: twice as many bytes as `src` has; if `dst` is shorter, nothing is written and that number
-/// is returned.
+/// it changes those at their start that go on with a character (80 to BF), whether or not `dst` was
+/// UTF-8. Room: twice as many bytes as `src` has; if `dst` is shorter, nothing is written and that
+/// number is returned.
 #[unsafe(no_mangle)]
 pub extern "C" fn jillapun_mem_convert_latin1_to_str(src: &[u8], dst: &mut [u8]) -> usize
     ensures converts { 2 * length src.now ≤ length dst.old

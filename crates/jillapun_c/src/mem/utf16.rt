@@ -45,9 +45,9 @@ pub extern "C" fn jillapun_mem_convert_utf16_to_utf8(src: &[u16], dst: &mut [u8]
 /// Converts UTF-16 to UTF-8 at the start of a text, with U+FFFD for each surrogate in no pair, and
 /// returns how many bytes were written. If a character of `dst` is overwritten in part, its other
 /// bytes become 00, so what was UTF-8 is UTF-8 after the call. Of what stands behind the bytes that
-/// were written the call looks at three, and it changes those of them that go on with a character
-/// (80 to BF), whether or not `dst` was UTF-8. Room: three bytes for each unit of `src`; if `dst`
-/// is shorter, nothing is written and that number is returned.
+/// were written the call looks at three, and it changes those at their start that go on with a
+/// character (80 to BF), whether or not `dst` was UTF-8. Room: three bytes for each unit of `src`;
+/// if `dst` is shorter, nothing is written and that number is returned.
 #[unsafe(no_mangle)]
 pub extern "C" fn jillapun_mem_convert_utf16_to_str(src: &[u16], dst: &mut [u8]) -> usize
     ensures converts { 3 * length src.now ≤ length dst.old

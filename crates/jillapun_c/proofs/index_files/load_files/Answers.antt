@@ -10,7 +10,7 @@ returns-in-Err-clause-refused c =
 
 pub loop-number-preserved : goal.loop-number-preserved
 loop-number-preserved c =
-    one_more c.args.files.now c.loop-number.number _ c.loop-number.tables c.load_file.new.tables c.loop-number-test.true c.loop-number.invariant c.in_default.ensures.adds
+    one_more c.file_names.ensures c.args.files.now c.loop-number.number _ c.loop-number.tables c.load_file.new.tables c.loop-number-test.true c.loop-number.invariant c.in_default.ensures.adds
 
 pub returns-clause-holds : goal.returns-clause-holds
 returns-clause-holds c = all_of_them c.args.files.now c.loop-number.number c.loop-number.tables c.loop-number-test.false c.loop-number.invariant
