@@ -5,7 +5,6 @@ use Rattle.std.specs.Option.{option_or}
 use Rattle.std.specs.Bool.{MatchBool}
 use Rattle.std.proofs.lemmas.Bool.{false_from_ne_true, cases_Bool}
 use Rattle.std.proofs.lemmas.List.{take-append-drop}
-use Rattle.std.proofs.lemmas.Option.{IfSome_then}
 use Rattle.std.proofs.lemmas.List.Elements.{Contains-append_left, Contains-append_right}
 use Rattle.encoding_tables.specs.IndexLists.{IndexLists, has}
 use Rattle.encoding_tables.specs.Kinds.{is_ranges, index_size}
@@ -21,7 +20,8 @@ use Rattle.encoding_index.specs.declared.fault.LoadFault.{LoadFault}
 use Rattle.encoding_index.specs.declared.fault.LoadFault.TheVariants.{Text, Table}
 use Rattle.encoding_index.specs.Loads.{KeepsOtherKinds, Loads, load_fault, table_fault, text_fault}
 use Rattle.recode.specs.IndexFaults.{AddsOnly}
-use Rattle.recode.specs.Program.{AddsFromFiles, AreKept, AreOfFiles, FileTexts, IsOfText}
+use Rattle.recode.specs.Program.{AddsFromFiles, AreKept, AreOfFiles, FileTexts, IsOfFile, IsSameIndex}
+use Rattle.recode.specs.laws.KeptIndexes.{has_still}
 
 pub loaded_there : (new : IndexLists) (kind : IndexKind) (text : List ℕ) → Loads new kind text → has new kind ≡ true
 loaded_there new kind text h = elim (cases_Bool (is_ranges kind)) [
@@ -35,30 +35,34 @@ ranges_are_one Gb18030Ranges h = refl
 ranges_are_one _ h = cc
 
 -- the index of another kind stays as it is
-stays : (old new : IndexLists) (kind k : IndexKind) → k ≢ kind → KeepsOtherKinds old new kind → MatchBool (is_ranges k) (new.rows ≡ old.rows) (new.flats k ≡ old.flats k)
+stays : (old new : IndexLists) (kind k : IndexKind) → k ≢ kind → KeepsOtherKinds old new kind → IsSameIndex old new k
 stays old new kind k apart keeps = elim (cases_Bool (is_ranges k)) [
   | inl is ↦ rw is (keeps.1 (false_from_ne_true (is_ranges kind) (λ yes. apart (ranges_are_one k is ∙ sym (ranges_are_one kind yes)))))
   | inr not ↦ rw not (keeps.0 k apart)
 ]
 
-there_still : (b : Bool) (rows rows' : Option (List (ℕ × ℕ))) (flat flat' : Option (List ℕ)) → MatchBool b (rows' ≡ rows) (flat' ≡ flat) → (if b then is_some rows' else is_some flat') ≡ (if b then is_some rows else is_some flat)
-there_still true rows rows' flat flat' same = ap is_some same
-there_still false rows rows' flat flat' same = ap is_some same
+same_twice : (b : Bool) (rows rows' rows'' : Option (List (ℕ × ℕ))) (flat flat' flat'' : Option (List ℕ)) → MatchBool b (rows' ≡ rows) (flat' ≡ flat) → MatchBool b (rows'' ≡ rows') (flat'' ≡ flat') → MatchBool b (rows'' ≡ rows) (flat'' ≡ flat)
+same_twice true rows rows' rows'' flat flat' flat'' first then_ = then_ ∙ first
+same_twice false rows rows' rows'' flat flat' flat'' first then_ = then_ ∙ first
 
 loaded_still : (b : Bool) (rows rows' : Option (List (ℕ × ℕ))) (flat flat' : Option (List ℕ)) (r : List (ℕ × ℕ)) (f : List ℕ) → MatchBool b (rows' ≡ rows) (flat' ≡ flat) → MatchBool b (rows ≡ Some r) (flat ≡ Some f) → MatchBool b (rows' ≡ Some r) (flat' ≡ Some f)
 loaded_still true rows rows' flat flat' r f same was = same ∙ was
 loaded_still false rows rows' flat flat' r f same was = same ∙ was
 
-pub load_keeps : (old new : IndexLists) (kind : IndexKind) (text : List ℕ) → Loads new kind text → KeepsOtherKinds old new kind → AreKept old new
-load_keeps old new kind text loads keeps k was = elim (same_or_apart k kind) [
-  | inl same ↦ rw same (loaded_there new kind text loads)
-  | inr apart ↦ there_still (is_ranges k) _ _ _ _ (stays old new kind k apart keeps) ∙ was
-]
+-- nothing is both there and not there
+not_both : {X : Type 0} (b : Bool) → b ≡ true → b ≡ false → X
+not_both b is not = cc
 
--- what is there stays there
-pub there_kept : (old new : IndexLists) (kinds : List IndexKind) → AreKept old new → AreThere old kinds → AreThere new kinds
-there_kept old new [] kept there = tt
-there_kept old new (k ∷ ks) kept there = (kept k there.0, there_kept old new ks kept there.1)
+-- what two calls keep
+lost_nowhere : (old mid new : IndexLists) → AreKept old mid → AreKept mid new → AreKept old new
+lost_nowhere old mid new first then_ kind was =
+    same_twice (is_ranges kind) _ _ _ _ _ _ (first kind was) (then_ kind (has_still old mid kind (first kind was) ∙ was))
+
+load_keeps : (old new : IndexLists) (kind : IndexKind) → has old kind ≡ false → KeepsOtherKinds old new kind → AreKept old new
+load_keeps old new kind lacking keeps k was = elim (same_or_apart k kind) [
+  | inl same ↦ not_both (has old k) was (rw same lacking)
+  | inr apart ↦ stays old new kind k apart keeps
+]
 
 pub there_more : (t : IndexLists) (kinds : List IndexKind) (kind : IndexKind) → AreThere t kinds → has t kind ≡ true → AreThere t (kinds ++ kind ∷ [])
 there_more t [] kind there this = (this, tt)
@@ -81,31 +85,43 @@ unfolding load_fault
 load_met_no_fault old kind text result value Y ok h =
     no_fault (text_fault kind text) (table_fault old kind text) (ended (load_fault old kind text) result value Y ok h)
 
-other_of_file : (old new : IndexLists) (kind k : IndexKind) (told : Option (List ℕ)) → k ≢ kind → KeepsOtherKinds old new kind
-    → (has old k ≡ true → IfSome told (IsOfText old k)) → has new k ≡ true → IfSome told (IsOfText new k)
-other_of_file old new kind k told apart keeps was now =
-    let same = stays old new kind k apart keeps in
-    IfSome_then told (was (sym (there_still (is_ranges k) _ _ _ _ same) ∙ now))
-    (λ text of_old. record { faultless = of_old.faultless; loads = loaded_still (is_ranges k) _ _ _ _ (text_rows text) (text_list (index_size k) text) same of_old.loads })
+-- an index that is kept is of its file still
+of_file_still : (old new : IndexLists) (kind : IndexKind) (told : Option (List ℕ)) → IsSameIndex old new kind → IsOfFile old kind told → IsOfFile new kind told
+of_file_still old new kind told same was = record {
+  text = was.text;
+  known = was.known;
+  faultless = was.faultless;
+  loads = loaded_still (is_ranges kind) _ _ _ _ (text_rows was.text) (text_list (index_size kind) was.text) same was.loads;
+}
 
 pub load_adds : (holds holds' : FileTexts) (dir : List ℕ) (old new : IndexLists) (kind : IndexKind) (text : List ℕ)
-    → ((d f : List ℕ) → holds' d f ≡ holds d f) → IfSome (holds dir (file_name_of kind)) (λ t. text ≡ t) → text_fault kind text ≡ None → Loads new kind text
+    → ((d f : List ℕ) → holds' d f ≡ holds d f) → IfSome (holds dir (file_name_of kind)) (λ t. text ≡ t) → text_fault kind text ≡ None → has old kind ≡ false → Loads new kind text
     → KeepsOtherKinds old new kind → AddsFromFiles holds holds' dir old new
-load_adds holds holds' dir old new kind text same told faultless loads keeps = record {
+load_adds holds holds' dir old new kind text same told faultless lacking loads keeps = record {
   same = same;
-  added = λ was k now. elim (same_or_apart k kind) [
-    | inl this ↦ rw this
-        (IfSome_then (holds dir (file_name_of kind)) told (λ t is. rw (← is) record { faultless = faultless; loads = loads }))
-    | inr apart ↦ other_of_file old new kind k (holds dir (file_name_of k)) apart keeps (was k) now
+  kept = load_keeps old new kind lacking keeps;
+  added = λ k not now. elim (same_or_apart k kind) [
+    | inl this ↦ rw this record { text = text; known = told; faultless = faultless; loads = loads }
+    | inr apart ↦ not_both (has new k) now (has_still old new k (stays old new kind k apart keeps) ∙ not)
   ];
 }
 
 pub adds_more : (a b c : FileTexts) (dir : List ℕ) (old mid new : IndexLists) → AddsFromFiles a b dir old mid → AddsFromFiles b c dir mid new → AddsFromFiles a c dir old new
 adds_more a b c dir old mid new first then_ = record {
   same = λ d f. then_.same d f ∙ first.same d f;
-  added = λ was k now. rw (← first.same dir (file_name_of k))
-      (then_.added (λ k now. rw (first.same dir (file_name_of k)) (first.added was k now)) k now);
+  kept = lost_nowhere old mid new first.kept then_.kept;
+  added = λ kind not now. elim (cases_Bool (has mid kind)) [
+    | inl by_then ↦ of_file_still mid new kind (a dir (file_name_of kind)) (then_.kept kind by_then) (first.added kind not by_then)
+    | inr not_yet ↦ rw (first.same dir (file_name_of kind)) at (then_.added kind not_yet now)
+  ];
 }
+
+-- if all indexes were of their files, all are
+pub of_files_still : (holds holds' : FileTexts) (dir : List ℕ) (old new : IndexLists) → AddsFromFiles holds holds' dir old new → AreOfFiles holds dir old → AreOfFiles holds dir new
+of_files_still holds holds' dir old new adds were kind now = elim (cases_Bool (has old kind)) [
+  | inl was ↦ of_file_still old new kind (holds dir (file_name_of kind)) (adds.kept kind was) (were kind was)
+  | inr not ↦ adds.added kind not now
+]
 
 -- there is no index yet
 none_there : (b : Bool) (rows : Option (List (ℕ × ℕ))) (flat : Option (List ℕ)) → rows ≡ None → flat ≡ None → (if b then is_some rows else is_some flat) ≡ true → ⊥
@@ -119,7 +135,7 @@ adds_to_none holds dir tables flats rows kind now = absurd (none_there (is_range
 pub load_adds_only : (old new : IndexLists) (kind : IndexKind) → KeepsOtherKinds old new kind → AddsOnly old new (kind ∷ [])
 load_adds_only old new kind keeps k now = elim (same_or_apart k kind) [
   | inl same ↦ inr (0, omega arith, sym same)
-  | inr apart ↦ inl (sym (there_still (is_ranges k) _ _ _ _ (stays old new kind k apart keeps)) ∙ now)
+  | inr apart ↦ inl (sym (has_still old new k (stays old new kind k apart keeps)) ∙ now)
 ]
 
 -- what two calls put there

@@ -1,11 +1,13 @@
 -- What the program does and returns for its words.
-use Rattle.std.specs.Prelude.{◌≡◌, ◌≢◌, ◌⊎◌, ℕ, List, Option, None, IfSome, true}
+use Rattle.std.specs.Prelude.{◌≡◌, ◌≢◌, ◌⊎◌, ℕ, List, Option, None, IfSome, false, true}
+use Rattle.std.specs.Bool.{MatchBool}
 use Rattle.encoding_front.specs.Encodings.{HasLabel}
 use Rattle.encoding_front.specs.declared.encoding.Encoding.{Encoding}
 use Rattle.encoding_front.specs.declared.mark.Mark.{Mark}
 use Rattle.encoding_index.specs.Loads.{Loads, text_fault}
 use Rattle.encoding_tables.specs.FileNames.{file_name_of}
 use Rattle.encoding_tables.specs.IndexLists.{IndexLists, has}
+use Rattle.encoding_tables.specs.Kinds.{is_ranges}
 use Rattle.encoding_tables.specs.declared.index_kind.IndexKind.{IndexKind}
 use Rattle.recode_log.specs.Counted.{TellsMessage}
 use Rattle.recode_log.specs.declared.counted.Counted.{Counted}
@@ -70,8 +72,10 @@ pub record AskForText (words : List (List ℕ)) : Type 0 where
   pub asked : AsksFor words request
   pub text : IsText request
 
--- the index of the kind is what this text stands for, which has no fault
-pub record IsOfText (tables : IndexLists) (kind : IndexKind) (text : List ℕ) : Type 0 where
+-- the index of the kind was loaded from a text without a fault: that of its file, if that is known
+pub record IsOfFile (tables : IndexLists) (kind : IndexKind) (told : Option (List ℕ)) : Type 0 where
+  pub text : List ℕ
+  pub known : IfSome told (λ all. text ≡ all)
   pub faultless : text_fault kind text ≡ None
   pub loads : Loads tables kind text
 
@@ -79,18 +83,23 @@ pub record IsOfText (tables : IndexLists) (kind : IndexKind) (text : List ℕ) :
 abbrev pub FileTexts : Type 0
 FileTexts = (dir file : List ℕ) → Option (List ℕ)
 
--- each index that is there is what its file in the folder holds, if that is known
+-- each index that is there was loaded from a text without a fault: that of its file in the folder, if that is known
 abbrev pub AreOfFiles : FileTexts → List ℕ → IndexLists → Type 0
-AreOfFiles holds dir tables = (kind : IndexKind) → has tables kind ≡ true → IfSome (holds dir (file_name_of kind)) (IsOfText tables kind)
+AreOfFiles holds dir tables = (kind : IndexKind) → has tables kind ≡ true → IsOfFile tables kind (holds dir (file_name_of kind))
 
--- what is put into the tables is what files hold, and these stay as they are
+-- tables before and after a call have the same index of the kind, or both have none
+abbrev pub IsSameIndex : IndexLists → IndexLists → IndexKind → Type 0
+IsSameIndex old new kind = MatchBool (is_ranges kind) (new.rows ≡ old.rows) (new.flats kind ≡ old.flats kind)
+
+-- each index that was there is there, as it was
+abbrev pub AreKept : IndexLists → IndexLists → Type 0
+AreKept old new = (kind : IndexKind) → has old kind ≡ true → IsSameIndex old new kind
+
+-- files stay as they are, as does each index that was there, and each new one was loaded from its file in the folder
 pub record AddsFromFiles (holds holds' : FileTexts) (dir : List ℕ) (old new : IndexLists) : Type 0 where
   pub same : (d f : List ℕ) → holds' d f ≡ holds d f
-  pub added : AreOfFiles holds dir old → AreOfFiles holds dir new
-
--- each index that was there is there
-abbrev pub AreKept : IndexLists → IndexLists → Type 0
-AreKept old new = (kind : IndexKind) → has old kind ≡ true → has new kind ≡ true
+  pub kept : AreKept old new
+  pub added : (kind : IndexKind) → has old kind ≡ false → has new kind ≡ true → IsOfFile new kind (holds dir (file_name_of kind))
 
 -- The promise of `convert`, of a reader, a writer and a log, with room for 4096 bytes in each read: what it did, and what
 -- that says by the status, and of what devices say of their bytes, if they do.

@@ -5,6 +5,7 @@ pub mod Parts
 pub mod WrittenItems
 pub mod Slices
 pub mod IndexFaults
+pub mod Program
 pub mod Conversion
 pub mod Work
 pub mod Converter

@@ -3,3 +3,4 @@ pub mod Items
 pub mod Calls
 pub mod Parts
 pub mod SavedConverters
+pub mod KeptIndexes

@@ -94,10 +94,11 @@ fn tell_fault<L: Write>(log: &mut Counted<L>, fault: Fault)
 /// - 4 (`FAULT`): a call of a device failed, the input has more bytes than the job's limit, or the
 ///   policy is `Policy::Stop` and a character has no bytes. Output and log have a prefix of what is
 ///   right for the bytes read, however they go on. If the policy stopped, they have all that comes
-///   before the character, and its line. After that the log has the message of the first fault, as
-///   `recode: write fault` or `recode: unmappable INDEX SCALAR`, and a line feed; what can't be
-///   written of that is dropped. The first fault is that of the run, or else that of the writer's
-///   flush, or else that of the log's.
+///   before the character, the escape that would come before its reference, and its line. After
+///   that the log has the message of the first fault, as `recode: write fault` or
+///   `recode: unmappable INDEX SCALAR`, and a line feed; what can't be written of that is dropped.
+///   The first fault is that of the run, or else that of the writer's flush, or else that of the
+///   log's.
 ///
 /// Devices are called as by `run`, then the writer and the log are flushed once, also after a
 /// fault, and then the message is written, as by `recode_log::deliver::tell`.

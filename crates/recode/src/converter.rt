@@ -84,7 +84,7 @@ trait Viewed {
 ///
 ///     let mut converter = Converter::new(job);
 ///     let mut room = [0; 4096];
-///     for chunk in chunks {
+///     for chunk in input.chunks(4096) {
 ///         let mut rest = chunk;
 ///         loop {
 ///             let (result, read, written) = converter.convert(rest, &mut room, false);
@@ -94,12 +94,13 @@ trait Viewed {
 ///                 ConverterResult::InputEmpty => break,
 ///                 ConverterResult::OutputFull => {}
 ///                 ConverterResult::Found(LogLine::Bad { offset, length }) => {
-///                     println!("{length} malformed bytes at offset {offset}");
+///                     println!(rt; "{length} malformed bytes at offset {offset}")?;
 ///                 }
 ///                 ConverterResult::Found(LogLine::Lost { index, scalar }) => {
-///                     println!("character {index} has no bytes: {scalar:?}");
-///                     let len = write_reference(scalar, Reference::Decimal, &mut room);
-///                     output.write_all(&room[..len])?;
+///                     println!(rt; "character {index} has no bytes: {scalar:?}")?;
+///                     let mut reference = [0; 10];
+///                     let len = write_reference(scalar, Reference::Decimal, &mut reference);
+///                     output.write_all(&reference[..len])?;
 ///                 }
 ///             }
 ///         }
@@ -162,8 +163,8 @@ impl<'t> Converter<'t> {
         self.over
     }
 
-    /// Whether the end was read, and text waits that is still to be written. The test of a
-    /// condition of `convert`.
+    /// If it is true after a call, the end was read: the call was given `last`, and left nothing of
+    /// `src`. After `InputEmpty` it is false. The test of a condition of `convert`.
     pub fn is_ended(&self) -> bool
         ensures { result ≡ (converter_view self.now).ended }
     {

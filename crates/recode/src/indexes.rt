@@ -7,7 +7,7 @@ ghost use Rattle.encoding_tables.specs.IndexLists.{has};
 ghost use Rattle.encoding_front.specs.Encodings.{IsReady, needs_of};
 ghost use Rattle.recode.specs.IndexFaults.{AddsOnly, IsReadFault, IsStartFault, LacksOne};
 ghost use Rattle.recode.specs.IndexFaults.{ReportsFault, table_fault_name};
-ghost use Rattle.recode.specs.Program.{AddsFromFiles, AreKept};
+ghost use Rattle.recode.specs.Program.{AddsFromFiles};
 
 use encoding_front::Encoding;
 use encoding_index::{IndexFaultKind, LoadFault, load};
@@ -123,7 +123,6 @@ fn load_index<S: IndexSource>(
         (S.holds source.old dir.now (file_name_of kind))) }
     ensures added { AddsOnly tables.old tables.new (kind ∷ []) }
     ensures once { has tables.old kind ≡ true → source.new ≡ source.old }
-    ensures kept { AreKept tables.old tables.new }
     ensures files { AddsFromFiles (S.holds source.old) (S.holds source.new) dir.now tables.old
         tables.new }
 {
@@ -143,7 +142,9 @@ fn load_index<S: IndexSource>(
 }
 
 /// Puts the indexes that the encoding needs into the tables, and no others, each once, in the order
-/// of `needs`. An index that is there already is not loaded again.
+/// of `needs`. An index that is there already is not loaded again: it stays as it is. A new one is
+/// what a text without a fault stands for: that of its file in the folder `dir`, if the source says
+/// what the file holds.
 ///
 /// The error is that of the first whose file is missing or faulty, or at which memory was refused:
 /// those before it are there, and none after it was loaded.
@@ -158,7 +159,6 @@ pub fn load_indexes<S: IndexSource>(
     ensures lacking { IfErr result (LacksOne (S.holds source.old) dir.now tables.old tables.new
         (needs_of encoding)) }
     ensures added { AddsOnly tables.old tables.new (needs_of encoding) }
-    ensures kept { AreKept tables.old tables.new }
     ensures files { AddsFromFiles (S.holds source.old) (S.holds source.new) dir.now tables.old
         tables.new }
 {

@@ -168,9 +168,9 @@ pub struct Report {
     pub bad: u64,
     /// The lines of the log that report a lost character.
     pub lost: u64,
-    /// The calls of codecs, those that read the output back among them, whatever the sizes of the
-    /// buffers: at least `3 * bad + lost + 2`, two more if the input has a byte, and at most
-    /// `37 * read + 9`.
+    /// The calls of codecs, those that read the output back among them. A run or a session reports,
+    /// whatever the sizes of the buffers, at least `3 * bad + lost + 2`, two more if the input has
+    /// a byte, and at most `37 * read + 9`. For a `Converter` no bound is promised.
     pub calls: u64,
     /// The encoding of the input, as its byte order mark says if one of another encoding is taken.
     pub encoding: Encoding,

@@ -218,7 +218,8 @@ impl<'t> Session<'t> {
 ///   policy is `Policy::Stop` and a character has no bytes (`Unmappable`). Output and log have a
 ///   prefix of what is right for the bytes read, however they go on. At `Read` and `TooLong` it is
 ///   all that the bytes before the last read decide, with each piece that ends three or more bytes
-///   before their end. At `Unmappable` it is all that comes before the character, and its line.
+///   before their end. At `Unmappable` it is all that comes before the character, the escape that
+///   would come before its reference, and its line.
 ///
 /// Conditions: the job is valid (`Job::is_valid`), the buffers are enough (`Buffers::is_enough`),
 /// and at most 2^64 - 2 calls of each device have failed (`Counted::failures`).

@@ -3,12 +3,13 @@ use Rattle.std.specs.Prelude.{◌≡◌, ℕ, List, Some, None, codes, refl}
 use Rattle.std.proofs.Common.{Bor}
 use Rattle.encoding_index.specs.IndexLine.{is_skipped, row_in}
 use Rattle.encoding_index.specs.IndexText.{row_fault}
-use Rattle.encoding_index.specs.Loads.{load_fault}
+use Rattle.encoding_index.specs.Loads.{load_fault, text_fault}
 use Rattle.encoding_index.specs.declared.fault.IndexFaultKind.TheVariants.{Order}
 use Rattle.encoding_index.specs.declared.fault.LoadFault.TheVariants.{Text}
 use Rattle.encoding_tables.specs.IndexLists.{IndexLists}
 use Rattle.encoding_tables.specs.declared.index_kind.IndexKind.TheVariants.{Jis0208}
 use Rattle.recode.specs.IndexFaults.{IsStartFault}
+use Rattle.recode.specs.Program.{IsOfFile}
 use Rattle.recode.specs.declared.indexes.StartFault.{StartFault}
 
 -- its third line has the pointer of the first again
@@ -24,3 +25,11 @@ not_missing t file h = let known : Some repeated ≡ None = h.1 in cc
 
 not_another_file : (t : IndexLists) (file : Bor (List ℕ)) → file.now ≡ codes "index-big5.txt" → IsStartFault t Jis0208 None (StartFault.Missing file) → ⊥
 not_another_file t file named h = let same : codes "index-big5.txt" ≡ codes "index-jis0208.txt" = rw (← named) h.0 in cc
+
+-- it gives no index
+no_index : (t : IndexLists) → IsOfFile t Jis0208 (Some repeated) → ⊥
+unfolding is_skipped row_in row_fault repeated
+no_index t h =
+    let fault : text_fault Jis0208 repeated ≡ Some (record { line = 3; kind = Order }) = refl in
+    let none : text_fault Jis0208 repeated ≡ None = rw h.known at h.faultless in
+    cc

@@ -1,11 +1,12 @@
 use Rattle.encoding_front.specs.Encodings.{needs_of}
-use Rattle.recode.proofs.LoadLemmas.{adds_more, there_kept}
+use Rattle.recode.specs.laws.KeptIndexes.{there_kept}
+use Rattle.recode.proofs.LoadLemmas.{adds_more}
 use Rattle.recode.proofs.ShellLemmas.{ok_of}
 use Rattle.recode.proofs.entry.load_both.Goals as goal
 
 pub returns-clause-from : goal.returns-clause-from
 returns-clause-from g c =
-    ok_of c.load_indexes-2.result (there_kept c.load_indexes.new.tables c.load_indexes-2.new.tables (needs_of c.args.from) c.load_indexes-2.ensures.kept c.in_ok-load_indexes.ensures.there)
+    ok_of c.load_indexes-2.result (there_kept c.load_indexes.new.tables c.load_indexes-2.new.tables (needs_of c.args.from) c.load_indexes-2.ensures.files.kept c.in_ok-load_indexes.ensures.there)
 
 pub returns-clause-files : goal.returns-clause-files
 returns-clause-files g c =

@@ -2,7 +2,7 @@ use Rattle.std.proofs.Common.{◌≡◌, ◌⊎◌, ◌↔◌, ℕ, List, Option
 use Rattle.encoding_front.specs.Encodings.{HasLabel}
 use Rattle.encoding_front.specs.declared.encoding.Encoding.{Encoding}
 use Rattle.recode.specs.Program.{IsUnknown}
-use Rattle.recode.proofs.LoadLemmas.{adds_to_none}
+use Rattle.recode.proofs.LoadLemmas.{adds_to_none, of_files_still}
 use Rattle.recode.proofs.entry.run_words.Goals as goal
 
 unknown_of : (r : Option Encoding) (label bytes : List ℕ) → bytes ≡ label → r ≡ None → ((e : Encoding) → (r ≡ Some e) ↔ HasLabel e bytes) → IsUnknown label
@@ -40,7 +40,7 @@ returns g c = inr (inr (
     limit = refl;
     valid = record { tables = c.accepted.ensures; from = c.in-Ok.ensures.from; to = c.in-Ok.ensures.to; limit = c.requires.limit };
   },
-  c.in-Ok.ensures.files.added
+  of_files_still (g.S.IndexSource.holds c.args.source.now) (g.S.IndexSource.holds c.load_both.new.source) c.args.words.indexes.now c.new-tables.result c.load_both.new.tables c.in-Ok.ensures.files
       (adds_to_none (g.S.IndexSource.holds c.args.source.now) c.args.words.indexes.now c.new-tables.result c.new-tables.ensures.flats c.new-tables.ensures.rows),
   c.convert_in_buffers.ensures,
 ))

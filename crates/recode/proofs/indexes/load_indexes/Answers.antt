@@ -3,7 +3,8 @@ use Rattle.std.proofs.lemmas.Result.{err_from_is_err_and}
 use Rattle.encoding_tables.specs.FileNames.{file_name_of}
 use Rattle.std.proofs.lemmas.List.{take_more, take-append-drop}
 use Rattle.encoding_tables.specs.declared.index_kind.IndexKind.{IndexKind}
-use Rattle.recode.proofs.LoadLemmas.{adds_first, adds_more, adds_only_more, there_kept, there_more}
+use Rattle.recode.specs.laws.KeptIndexes.{there_kept}
+use Rattle.recode.proofs.LoadLemmas.{adds_first, adds_more, adds_only_more, there_more}
 use Rattle.recode.proofs.indexes.load_indexes.Goals as goal
 
 pub loop-kind-preserved : goal.loop-kind-preserved
@@ -12,11 +13,10 @@ loop-kind-preserved g c =
     let within : c.loop-kind.kind-index < length kinds = omega (arith, c.loop-kind-test.true, c.loop-kind.auto.kind-index-end) in
     record {
       there = rw (take_more kinds c.loop-kind.kind-index IndexKind.Ibm866 within)
-          (there_more c.load_index.new.tables _ _ (there_kept c.loop-kind.tables c.load_index.new.tables _ c.load_index.ensures.kept c.loop-kind.invariant.there)
+          (there_more c.load_index.new.tables _ _ (there_kept c.loop-kind.tables c.load_index.new.tables _ c.load_index.ensures.files.kept c.loop-kind.invariant.there)
           c.in_ok-load_index.ensures.there);
       added = rw (take_more kinds c.loop-kind.kind-index IndexKind.Ibm866 within)
           (adds_only_more _ c.loop-kind.tables c.load_index.new.tables _ _ c.loop-kind.invariant.added c.load_index.ensures.added);
-      kept = λ kind was. c.load_index.ensures.kept kind (c.loop-kind.invariant.kept kind was);
       files = adds_more (g.S.IndexSource.holds c.args.source.now) (g.S.IndexSource.holds c.loop-kind.source) (g.S.IndexSource.holds c.load_index.new.source) c.args.dir.now c.args.tables.now c.loop-kind.tables
           c.load_index.new.tables c.loop-kind.invariant.files c.load_index.ensures.files;
     }

@@ -1,0 +1,23 @@
+-- Worked rows: indexes that stay as they are.
+use Rattle.std.specs.Prelude.{◌≡◌, ◌∷◌, [], ℕ, List, Option, None, Some, refl}
+use Rattle.encoding_tables.specs.IndexLists.{IndexLists}
+use Rattle.encoding_tables.specs.declared.index_kind.IndexKind.TheVariants.{Gb18030Ranges, Ibm866}
+use Rattle.recode.specs.Program.{AreKept, IsSameIndex}
+
+-- tables with this list of each kind, and these rows
+abbrev tables_of : Option (List ℕ) → Option (List (ℕ × ℕ)) → IndexLists
+tables_of flat rows = record { flats = λ kind. flat; rows = rows }
+
+-- the list is the same, and the rows are others
+same_list : IsSameIndex (tables_of (Some (233 ∷ [])) None) (tables_of (Some (233 ∷ [])) (Some [])) Ibm866
+same_list = refl
+
+other_rows : IsSameIndex (tables_of (Some (233 ∷ [])) None) (tables_of (Some (233 ∷ [])) (Some [])) Gb18030Ranges → ⊥
+other_rows h = let same : Some [] ≡ None = h in cc
+
+-- the list that was there is there, but is another
+other_list : AreKept (tables_of (Some []) None) (tables_of (Some (233 ∷ [])) None) → ⊥
+other_list h = apart 233 [] (h Ibm866 refl)
+  where
+    apart : (scalar : ℕ) (rest : List ℕ) → Some (scalar ∷ rest) ≡ Some [] → ⊥
+    apart scalar rest e = cc
