@@ -377,6 +377,8 @@ def listing():
     return [
         "//! What `--list` prints.",
         "",
+        "ghost use Rattle.recode_words.specs.Request.{IsLine};",
+        "",
         "// The %s encodings, in the order of `Encoding`, a line each: the name, and after it the labels," % count(),
         '// as the Encoding Standard has them (section 4.2, "Names and labels").',
         'const LISTING: &str = "\\',
@@ -384,7 +386,9 @@ def listing():
         '";',
         "",
         "// What `--list` prints.",
-        "pub(crate) fn listing() -> &'static str {",
+        "pub(crate) fn listing() -> &'static str",
+        "    ensures { IsLine result.now }",
+        "{",
         "    LISTING",
         "}",
     ]

@@ -11,7 +11,7 @@ use Rattle.encoding_tables.specs.Kinds.{is_ranges}
 use Rattle.encoding_tables.specs.declared.index_kind.IndexKind.{IndexKind}
 use Rattle.recode_log.specs.Counted.{TellsMessage}
 use Rattle.recode_log.specs.declared.counted.Counted.{Counted}
-use Rattle.recode_words.specs.Request.{AsksFor, HasMeaninglessValue, IsRefusedByClap}
+use Rattle.recode_words.specs.Request.{AsksFor, HasMeaninglessValue, IsLine, IsRefusedByClap}
 use Rattle.recode_words.specs.declared.request.Request.{Request}
 use Rattle.recode_words.specs.declared.request.Request.TheVariants.{Run, Help, Version, List as Listing}
 use Rattle.recode_words.specs.declared.words.MarkWord.{MarkWord}
@@ -110,9 +110,9 @@ pub record IsConversionOn {R W L : Type 0} (remaining : R → Option (List ℕ))
   pub told : TellWhatPassed (devices_of before) (devices_of after)
       (told_in remaining contents logged before.reader before.writer before.log) (told_in remaining contents logged after.reader after.writer after.log)
 
--- a message was written to a writer
+-- a message, which ends with a line feed, was written to a writer
 abbrev pub TellsSome : {T : Type 0} → (before after : Counted T) → Type 0
-TellsSome before after = (message : List ℕ) × TellsMessage before after message
+TellsSome before after = (message : List ℕ) × IsLine message × TellsMessage before after message
 
 -- Nothing is read, and nothing is written but a message to the log.
 pub record IsLeftAlone {R W L : Type 0} (before after : Ports R W L) : Type 0 where

@@ -1,10 +1,11 @@
 //! The program over any devices and index files: arguments, labels, indexes, then a conversion.
 
-ghost use Rattle.std.specs.Prelude.{◌≡◌, ◌⊎◌, ◌≤◌, ◌<◌, ◌^◌, ◌-◌, length, map, OnOk};
+ghost use Rattle.std.specs.Prelude.{◌≡◌, ◌⊎◌, ◌≤◌, ◌<◌, ◌^◌, ◌-◌, IfOk, OnOk, length, map, string_bytes};
 ghost use Rattle.encoding_front.specs.Encodings.{IsReady, output_encoding_of};
 ghost use Rattle.recode_log.specs.Counted.{failures_of};
 ghost use Rattle.recode.specs.Devices.{HaveFailedAtMost, devices_in, ports};
 ghost use Rattle.recode.specs.Job.{IsValidJob};
+ghost use Rattle.recode_words.specs.Request.{IsLine};
 ghost use Rattle.recode.specs.Program.{AddsFromFiles, AnswersProgram, AnswersWords};
 ghost use Rattle.recode.specs.Program.{IsConversionOn, TellsSome, mark_of_word, policy_of_word};
 
@@ -17,7 +18,7 @@ use encoding_tables::Tables;
 use recode_log::counted::Counted;
 use recode_log::deliver::tell;
 use recode_words::{MarkWord, PivotWord, PolicyWord, Request, Words, WordsFault, parse_words};
-use std::alloc::Global;
+use std::alloc::{AllocError, Global};
 use std::io::{Read, Write};
 
 /// The status if the words are refused, or a label in them is unknown.
@@ -29,7 +30,8 @@ pub const NOT_STARTED: u8 = 3;
 
 // Writes a text that the words ask for.
 fn tell_text<W: Write>(writer: &mut Counted<W>, text: &str) -> u8
-    requires { failures_of writer.old < 2 ^ 64 - 1 }
+    requires counts { failures_of writer.old < 2 ^ 64 - 1 }
+    requires line { IsLine text.now }
     ensures status { result ≡ 0 }
     ensures told { TellsSome writer.old writer.new }
 {
@@ -39,12 +41,22 @@ fn tell_text<W: Write>(writer: &mut Counted<W>, text: &str) -> u8
 
 // Reports why the words are refused.
 fn refuse_words<L: Write>(log: &mut Counted<L>, message: &str) -> u8
-    requires { failures_of log.old < 2 ^ 64 - 1 }
+    requires counts { failures_of log.old < 2 ^ 64 - 1 }
+    requires line { IsLine message.now }
     ensures status { result ≡ 2 }
     ensures told { TellsSome log.old log.new }
 {
     tell(log, message.as_bytes());
     REFUSED
+}
+
+// What is reported of a fault of the start, a line.
+fn start_message(alloc: Global, fault: &StartFault) -> Result<String, AllocError>
+    ensures { IfOk result (λ text. IsLine (string_bytes text)) }
+{
+    let mut text = format!(in alloc; "recode: {fault}")?;
+    text.push_str("\n")?;
+    Ok(text)
 }
 
 // Reports which index is not there, or that memory was refused.
@@ -53,7 +65,7 @@ fn refuse_start<L: Write>(alloc: Global, log: &mut Counted<L>, fault: &StartFaul
     ensures status { result ≡ 3 }
     ensures told { TellsSome log.old log.new }
 {
-    match format!(in alloc; "recode: {fault}\n") {
+    match start_message(alloc, fault) {
         Ok(message) => tell(log, message.as_bytes()),
         Err(_) => tell(log, b"recode: out of memory\n"),
     }

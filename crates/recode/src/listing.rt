@@ -2,6 +2,8 @@
 
 // Written by tools/generate_encodings.py from tools/encodings.toml; do not edit.
 
+ghost use Rattle.recode_words.specs.Request.{IsLine};
+
 // The forty encodings, in the order of `Encoding`, a line each: the name, and after it the labels,
 // as the Encoding Standard has them (section 4.2, "Names and labels").
 const LISTING: &str = "\
@@ -48,6 +50,8 @@ x-user-defined: x-user-defined
 ";
 
 // What `--list` prints.
-pub(crate) fn listing() -> &'static str {
+pub(crate) fn listing() -> &'static str
+    ensures { IsLine result.now }
+{
     LISTING
 }
