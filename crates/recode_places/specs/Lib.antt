@@ -4,5 +4,6 @@ pub mod Logs
 pub mod Fits
 pub mod Fates
 pub mod Findings
+pub mod Stops
 pub mod calls
 pub mod examples

@@ -3,4 +3,5 @@ pub mod Entries
 pub mod Fits
 pub mod Fates
 pub mod Findings
+pub mod Stops
 pub mod Places

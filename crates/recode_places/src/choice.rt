@@ -1,11 +1,13 @@
 //! Which characters and malformed sequences are reported.
 
 ghost use Rattle.std.specs.Prelude.{◌≡◌, ℕ, ◌+◌, ◌<◌, ◌≤◌, List, [], ◌∷◌, length};
-ghost use Rattle.std.specs.Prelude.{IfOk, IfSome, IsOk, IsTrue, None, OnOk, Some, false, true};
+ghost use Rattle.std.specs.Prelude.{IfErr, IfOk, IfSome, IsOk, IsTrue, None, OnOk, Some, false};
+ghost use Rattle.std.specs.Prelude.{true};
 ghost use Rattle.std.specs.Str.{chars};
 ghost use Rattle.encoding_mem.specs.Piece.{Piece, malformed};
 ghost use Rattle.recode_places.specs.Fits.{Fits, FitsFrom, GoesOn, IsLeftOfLog};
 ghost use Rattle.recode_places.specs.Entries.{IsOfCharacter};
+ghost use Rattle.recode_places.specs.Stops.{IsOfItsLog, IsUnfit};
 ghost use Rattle.recode_places.specs.Logs.{IsLogEnd, TakesLines, ended, unknown};
 ghost use Rattle.recode_places.specs.declared.fates.Fate.{Fate};
 ghost use Rattle.recode_places.specs.calls.LogViews.{NamesFound, NamesMalformed, TakesSome};
@@ -78,7 +80,8 @@ impl<'t, L: Read> Choice<'t, L> {
         }
     }
 
-    /// Whether nothing is reported of the characters of a text, the first of which has this index.
+    /// If this is true, nothing is reported of the characters of a text, the first of which has
+    /// this index. It may be false of any text, which costs only time.
     pub fn passes_over(&self, index: u64, text: &str) -> bool
         ensures kept { IsTrue result → AreKeptIfAsked (asked_by self.now).target (chars text.now) }
         ensures fits { (offset : ℕ) (t : List ℕ) (ps : List Piece) → IsTrue result
@@ -113,7 +116,7 @@ impl<'t, L: Read> Choice<'t, L> {
     }
 
     /// What is reported of this character, which has this index, if anything is. The error is that
-    /// of the log.
+    /// of the log, `Unfit` or `Log`: without a log there is none.
     pub fn character(&mut self, index: u64, c: char) -> Result<Option<Finding>, Stop>
         ensures of { IfOk result (λ found. IfSome found (IsOfCharacter c)) }
         ensures told { IfOk result (IsToldOf (asked_by self.old) c) }
@@ -124,6 +127,7 @@ impl<'t, L: Read> Choice<'t, L> {
             → IsLeftOfLog (FitsFrom index offset (c ∷ t) ps) (choice_left L.remaining self.old)
             → GoesOn result (FitsFrom (index + 1) offset t ps)
             (choice_left L.remaining self.new) }
+        ensures stop { IfErr result (IsOfItsLog (asked_by self.old)) }
     {
         match &mut self.log {
             Some(log) => {
@@ -163,7 +167,8 @@ impl<'t, L: Read> Choice<'t, L> {
     }
 
     /// Whether this malformed sequence is reported, for which the U+FFFD with this index stands:
-    /// each is, if there is no log. The error is that of the log.
+    /// each is, if there is no log. The error is that of the log, `Unfit` or `Log`: without a log
+    /// there is none.
     pub fn malformed(&mut self, index: u64, offset: u64, length: u8) -> Result<bool, Stop>
         ensures told { IfOk result (λ is_told. (asked_by self.old).has_log ≡ false
             → is_told ≡ true) }
@@ -175,6 +180,7 @@ impl<'t, L: Read> Choice<'t, L> {
             (choice_left L.remaining self.old)
             → GoesOn result (Fits (index + 1) (offset + length) ps)
             (choice_left L.remaining self.new) }
+        ensures stop { IfErr result (IsOfItsLog (asked_by self.old)) }
     {
         match &mut self.log {
             Some(log) => log.names_malformed(index, offset, length),
@@ -182,10 +188,13 @@ impl<'t, L: Read> Choice<'t, L> {
         }
     }
 
-    /// Tells that the input is at its end: the error is `Unfit` if the log has one more line.
+    /// Tells that the input is at its end. The error is `Unfit`, if the log has one more line, or
+    /// something that is none: without a log there is no error.
     pub fn finish(&self) -> Result<(), Stop>
         ensures lines { OnOk result (TakesLines (choice_left L.remaining self.now) ended []) }
         ensures fits { IsLeftOfLog IsLogEnd (choice_left L.remaining self.now) → IsOk result }
+        ensures log { IfErr result (IsOfItsLog (asked_by self.now)) }
+        ensures stop { IfErr result IsUnfit }
     {
         match &self.log {
             Some(log) => log.finish(),

@@ -1,5 +1,7 @@
 //! What is reported of a place, and why a walk may end early.
 
+ghost use Rattle.std.specs.Prelude.{◌≡◌};
+
 use crate::place::Place;
 use thiserror::Error;
 
@@ -62,9 +64,9 @@ pub enum Refusal {
 }
 
 impl From<Refusal> for Stop {
-    ghost use Rattle.recode_places.specs.Fits.{IsNotUnfit};
+    ghost use Rattle.recode_places.specs.Stops.{stop_of};
 
-    ghost from_gives = { λ _ stop. IsNotUnfit stop };
+    ghost from_gives = { λ refusal stop. stop ≡ stop_of refusal };
 
     fn from(refusal: Refusal) -> Stop {
         match refusal {

@@ -1,10 +1,11 @@
 //! What the lines of a log name, matched by number.
 
 ghost use Rattle.std.specs.Prelude.{◌≡◌, ◌↔◌, ℕ, ◌+◌, ◌<◌, ◌≤◌, List, [], ◌∷◌, length};
-ghost use Rattle.std.specs.Prelude.{IfOk, IsTrue, IsErr, IsOk, OnOk};
+ghost use Rattle.std.specs.Prelude.{IfErr, IfOk, IsTrue, IsErr, IsOk, OnOk};
 ghost use Rattle.encoding_mem.specs.Piece.{Piece, malformed};
 ghost use Rattle.recode_places.specs.Logs.{IsLoggedAs};
 ghost use Rattle.recode_places.specs.Fits.{IsOutside};
+ghost use Rattle.recode_places.specs.Stops.{IsOfLog, IsUnfit};
 ghost use Rattle.recode_places.specs.calls.Ready.{IsLineIfAny, IsLineIfAny-prop};
 
 use crate::entry::Stop;
@@ -26,6 +27,7 @@ impl<L: Read + Drop> LogMatch<L> {
     ghost use Rattle.recode_places.specs.Fits.{Fits, IsLeftOfLog};
     ghost use Rattle.recode_places.specs.Logs.{TakesLines};
     ghost use Rattle.recode_places.specs.calls.LogViews.{match_left, whole_log};
+    ghost use Rattle.recode_places.specs.declared.entry.Stop.TheVariants.{Log};
 
     /// The log that the reader gives. Its first line is read. The error is `Log`, if a read fails.
     pub fn new(reader: L) -> Result<LogMatch<L>, Stop>
@@ -34,6 +36,7 @@ impl<L: Read + Drop> LogMatch<L> {
         ensures fits { IfOk result (λ log. (index offset : ℕ) (ps : List Piece)
             → IsLeftOfLog (Fits index offset ps) (whole_log (L.remaining reader))
             → IsLeftOfLog (Fits index offset ps) (match_left L.remaining log)) }
+        ensures err { IfErr result (λ stop. stop ≡ Log) }
     {
         let mut lines = LogLines::new(reader);
         let next = lines.next_line()?;
@@ -47,16 +50,18 @@ impl<L: Read> LogMatch<L> {
     ghost use Rattle.recode_places.specs.calls.LogViews.{NamesCharacter, NamesMalformed};
     ghost use Rattle.recode_places.specs.calls.LogViews.{NamesSequence, TakesSome, match_left};
 
+    // The error that the last line that was read is not of the input.
     fn unfit<T>(&self) -> Result<T, Stop>
-        ensures { IsErr result }
+        ensures err { IsErr result }
+        ensures stop { IfErr result IsUnfit }
     {
         Err(Stop::Unfit {
             line: self.lines.number(),
         })
     }
 
-    /// Whether no line that comes next names a character of a text of so many bytes, whose first
-    /// character has this index.
+    /// If this is true, no line that comes next names a character of a text of so many bytes, whose
+    /// first character has this index. It may be false of any text, which costs only time.
     pub fn passes_over(&self, index: u64, len: usize) -> bool
         ensures fits { (offset : ℕ) (t : List ℕ) (ps : List Piece) → IsTrue result
             → length t ≤ len
@@ -73,7 +78,8 @@ impl<L: Read> LogMatch<L> {
     /// Whether the next line names this character, which has this index. Its line is read.
     ///
     /// The error is `Unfit` if the line names a character that was passed, or another character
-    /// with this index, and `Log` if the log can't be read. A log that fits is never refused.
+    /// with this index, or if what comes next is no line; and `Log` if the log can't be read. There
+    /// is no other. A log that fits is never refused.
     pub fn names_character(&mut self, index: u64, c: char) -> Result<bool, Stop>
         ensures named { IfOk result (λ is_named. TakesSome (match_left L.remaining self.old)
             (match_left L.remaining self.new) (NamesCharacter index c is_named)) }
@@ -81,6 +87,7 @@ impl<L: Read> LogMatch<L> {
             → IsLeftOfLog (FitsFrom index offset (c ∷ t) ps) (match_left L.remaining self.old)
             → GoesOn result (FitsFrom (index + 1) offset t ps)
             (match_left L.remaining self.new) }
+        ensures stop { IfErr result IsOfLog }
     {
         match self.next {
             NextLine::Line(
@@ -113,6 +120,7 @@ impl<L: Read> LogMatch<L> {
             (match_left L.remaining self.old)
             → GoesOn result (FitsFrom index (offset + length) (0xFFFD ∷ []) ps)
             (match_left L.remaining self.new) }
+        ensures stop { IfErr result IsOfLog }
     {
         match self.next {
             NextLine::Line(
@@ -139,8 +147,10 @@ impl<L: Read> LogMatch<L> {
     /// Whether the next line names this malformed sequence, or the U+FFFD with this index that
     /// stands for it. Both lines are read, if both are there.
     ///
-    /// The error is `Unfit` if the line names something that was passed, and `Log` if the log can't
-    /// be read. A log that fits is never refused.
+    /// The error is `Unfit` if the line names something that was passed, a sequence of another
+    /// length with this offset, or another character with this index, or if what comes next is no
+    /// line; and `Log` if the log can't be read. There is no other. A log that fits is never
+    /// refused.
     pub fn names_malformed(&mut self, index: u64, offset: u64, length: u8) -> Result<bool, Stop>
         ensures named { IfOk result (λ is_named. TakesSome (match_left L.remaining self.old)
             (match_left L.remaining self.new) (NamesMalformed index offset length is_named)) }
@@ -149,6 +159,7 @@ impl<L: Read> LogMatch<L> {
             (match_left L.remaining self.old)
             → GoesOn result (Fits (index + 1) (offset + length) ps)
             (match_left L.remaining self.new) }
+        ensures stop { IfErr result IsOfLog }
     {
         if self.names_sequence(offset, length)? {
             self.names_character(index, '\u{FFFD}')?;
@@ -158,10 +169,12 @@ impl<L: Read> LogMatch<L> {
         }
     }
 
-    /// Tells that the input is at its end. The error is `Unfit` if the log has one more line.
+    /// Tells that the input is at its end. The error is `Unfit`, if the log has one more line, or
+    /// something that is none.
     pub fn finish(&self) -> Result<(), Stop>
         ensures end { OnOk result (match_left L.remaining self.now ≡ ended) }
         ensures fits { IsLeftOfLog IsLogEnd (match_left L.remaining self.now) → IsOk result }
+        ensures stop { IfErr result IsUnfit }
     {
         match self.next {
             NextLine::End => Ok(()),

@@ -12,6 +12,7 @@ ghost use Rattle.recode_places.specs.Entries.{TellsTrue, TellsTrueIn};
 ghost use Rattle.recode_places.specs.Findings.{TellsFound, found_in, found_in_text};
 ghost use Rattle.recode_places.specs.Fits.{Fits, FitsFrom, GoesOn, IsLeftOfLog, IsNotUnfit};
 ghost use Rattle.recode_places.specs.Logs.{TellsLines, bytes, ended};
+ghost use Rattle.recode_places.specs.Stops.{CanStopWalk, IsOfLogOrVisitor};
 ghost use Rattle.recode_places.specs.declared.entry.Finding.{Finding};
 ghost use Rattle.recode_places.specs.calls.LogViews.{choice_left};
 ghost use Rattle.recode_places.specs.calls.FatesViews.{TellsFates, asked_by};
@@ -114,6 +115,7 @@ fn tell_character<L: Read, V: Visitor>(
         (choice_left L.remaining choice.old)
         → GoesOn result (FitsFrom (place.old.index + 1) offset t ps)
         (choice_left L.remaining choice.new) }
+    ensures stop { IfErr result (IsOfLogOrVisitor (asked_by choice.old)) }
 {
     match choice.character(place.index, c)? {
         Some(finding) => visitor.entry(Entry {
@@ -151,6 +153,7 @@ fn tell_text<L: Read, V: Visitor>(
         → IsLeftOfLog (FitsFrom place.old.index offset (chars text.now) ps)
         (choice_left L.remaining choice.old)
         → GoesOn result (Fits place.new.index offset ps) (choice_left L.remaining choice.new) }
+    ensures stop { IfErr result (IsOfLogOrVisitor (asked_by choice.old)) }
 {
     if choice.passes_over(place.index, text) {
         place.pass_text(text);
@@ -185,6 +188,7 @@ fn tell_malformed<L: Read, V: Visitor>(
         (choice_left L.remaining choice.old)
         → GoesOn result (Fits (place.index + 1) (offset + length) ps)
         (choice_left L.remaining choice.new) }
+    ensures stop { IfErr result (IsOfLogOrVisitor (asked_by choice.old)) }
 {
     if choice.malformed(place.index, offset, length)? {
         visitor.entry(Entry {
@@ -224,6 +228,7 @@ impl<'t> Walk<'t> {
             (chunk.now ++ r)
             → MatchResult result (λ p. FitsAhead (walk_state self.new)
             (choice_left L.remaining choice.new) (drop p.read chunk.now ++ r)) IsNotUnfit }
+        ensures stop { IfErr result (IsOfLogOrVisitor (asked_by choice.old)) }
     {
         let (outcome, read, written) = self
             .decoder
@@ -281,6 +286,7 @@ impl<'t> Walk<'t> {
             (chunk.now ++ r)
             → MatchResult result (λ _. FitsAhead (walk_state self.new)
             (choice_left L.remaining choice.new) r) IsNotUnfit }
+        ensures stop { IfErr result (IsOfLogOrVisitor (asked_by choice.old)) }
     {
         let last = chunk.is_empty();
         let mut buffer = [0; TEXT];
@@ -306,8 +312,9 @@ impl<'t> Walk<'t> {
 /// loses, or folds, if folds are asked for, each with its place, in the order of the input. The
 /// U+FFFD of a malformed sequence is not reported by itself.
 ///
-/// The error is what the choice or the visitor ended with (`Unfit`, `Log`, `Write`, `Memory`),
-/// `Input` if a read fails, or `TooLong` if the input has more than 2^48 bytes. It is not `Unfit`
+/// The error is what the visitor ended with (`Write`,
+/// `Memory`), what the log did, if the choice goes by one (`Unfit`, `Log`), `Input` if a read
+/// fails, or `TooLong`, which comes only if the input has more than 2^48 bytes. It is not `Unfit`
 /// if the log fits the input: if each line names what stands in the input, in its order. The
 /// condition, that the indexes of the encoding are there, is tested by `Encoding::is_ready`.
 pub fn tell_places<R: Read, L: Read, V: Visitor>(
@@ -332,6 +339,7 @@ pub fn tell_places<R: Read, L: Read, V: Visitor>(
         → IsLeftOfLog (Fits 0 0
         (marked_pieces reading.entry.tables.now reading.entry.mark reading.entry.from x))
         (choice_left L.remaining choice.old) → IfErr result IsNotUnfit }
+    ensures stop { IfErr result (CanStopWalk (asked_by choice.old) (R.remaining reader.old)) }
 {
     let mut walk = Walk {
         decoder: Decoder::new(reading.from, reading.mark, Some(reading.tables)),
