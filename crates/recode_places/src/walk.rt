@@ -3,6 +3,7 @@
 ghost use Rattle.std.specs.Prelude.{◌≡◌, ◌^◌, ◌<◌, ◌≤◌, ◌+◌, ◌++◌, ◌∷◌, [], ℕ, List};
 ghost use Rattle.std.specs.Prelude.{IfErr, IfOk, IfSome, MatchResult, OnErr, OnOk, Some, drop};
 ghost use Rattle.std.specs.Prelude.{false, length, true};
+ghost use Rattle.std.specs.Io.KnownBytes.{IsAtEnd};
 ghost use Rattle.std.specs.Str.{chars};
 ghost use Rattle.encoding_mem.specs.Piece.{Piece, malformed, sizes, text};
 ghost use Rattle.encoding_front.specs.Encodings.{IsReady};
@@ -312,7 +313,7 @@ impl<'t> Walk<'t> {
 /// loses, or folds, if folds are asked for, each with its place, in the order of the input. The
 /// U+FFFD of a malformed sequence is not reported by itself.
 ///
-/// The error is what the visitor ended with (`Write`,
+/// On success the input was read to its end. The error is what the visitor ended with (`Write`,
 /// `Memory`), what the log did, if the choice goes by one (`Unfit`, `Log`), `Input` if a read
 /// fails, or `TooLong`, which comes only if the input has more than 2^48 bytes. It is not `Unfit`
 /// if the log fits the input: if each line names what stands in the input, in its order. The
@@ -340,6 +341,7 @@ pub fn tell_places<R: Read, L: Read, V: Visitor>(
         (marked_pieces reading.entry.tables.now reading.entry.mark reading.entry.from x))
         (choice_left L.remaining choice.old) → IfErr result IsNotUnfit }
     ensures stop { IfErr result (CanStopWalk (asked_by choice.old) (R.remaining reader.old)) }
+    ensures end { OnOk result (IsAtEnd (R.remaining reader.new)) }
 {
     let mut walk = Walk {
         decoder: Decoder::new(reading.from, reading.mark, Some(reading.tables)),
