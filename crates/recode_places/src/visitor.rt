@@ -1,6 +1,7 @@
 //! Who is handed the places.
 
-ghost use Rattle.std.specs.Prelude.{◌≡◌, List, Option, OnErr, OnOk, Some};
+ghost use Rattle.std.specs.Prelude.{◌≡◌, ◌++◌, ◌∷◌, [], List, Option};
+ghost use Rattle.std.specs.Prelude.{IfErr, IsOk, OnErr, OnOk, Some};
 ghost use Rattle.recode_places.specs.Entries.{HasOneMore};
 ghost use Rattle.recode_places.specs.declared.entry.Entry.{Entry};
 
@@ -28,19 +29,31 @@ pub trait Visitor {
         ensures err { OnErr result (told self.new ≡ told self.old) };
 }
 
-/// A vector takes the entries alone. The error is `Memory`.
+/// A vector takes the entries alone. An entry is refused with `Memory`, and nothing else is.
 impl Visitor for Vec<Entry> {
+    ghost use Rattle.recode_places.specs.declared.entry.Refusal.TheVariants.{Memory};
+
     ghost told = { λ s. Some s.items };
 
-    fn characters(&mut self, _text: &str) -> Result<(), Refusal> {
+    fn characters(&mut self, _text: &str) -> Result<(), Refusal>
+        ensures told { self.new.items ≡ self.old.items }
+        ensures ok { IsOk result }
+    {
         Ok(())
     }
 
-    fn malformed(&mut self, _bytes: &[u8], _encoding: Encoding) -> Result<(), Refusal> {
+    fn malformed(&mut self, _bytes: &[u8], _encoding: Encoding) -> Result<(), Refusal>
+        ensures told { self.new.items ≡ self.old.items }
+        ensures ok { IsOk result }
+    {
         Ok(())
     }
 
-    fn entry(&mut self, entry: Entry) -> Result<(), Refusal> {
+    fn entry(&mut self, entry: Entry) -> Result<(), Refusal>
+        ensures ok { OnOk result (self.new.items ≡ self.old.items ++ (entry ∷ [])) }
+        ensures err { OnErr result (self.new.items ≡ self.old.items) }
+        ensures refusal { IfErr result (λ refusal. refusal ≡ Memory) }
+    {
         match self.push(entry) {
             Ok(()) => Ok(()),
             Err(_) => Err(Refusal::Memory),
