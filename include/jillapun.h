@@ -12,7 +12,8 @@
  * overlaps nothing else that is handed in. While the call runs, no other thread writes to what is
  * handed in, or reads what the call may write to. Units of UTF-16 stand at even addresses, and
  * structs are aligned as their type needs. Memory that a call writes to need not be initialised,
- * except a handle, and a text (`_to_str`). A `bool` is 0 or 1.
+ * except a handle, a text (`_to_str`), and what a call changes in place (`jillapun_join_loss`,
+ * `jillapun_join_reports`, `jillapun_mem_ensure_utf16_validity`). A `bool` is 0 or 1.
  *
  * Handles. A handle, a struct with members that begin with `private_`, begins as `{0}` (in C++, as
  * `{}`), and is filled by a function with `_new` in its name. Its members are left alone: nothing
@@ -24,10 +25,11 @@
  * other call is, and nothing else writes to it.
  *
  * Lengths. A function that writes and returns a length has written nothing if that is greater than
- * the room: so much is wanted. SIZE_MAX stands in place of a length if there is none.
+ * the room: so much is wanted. SIZE_MAX stands in place of a length if there is none; nothing was
+ * written then, unless the function's text says otherwise.
  *
- * Functions take memory by malloc and give it back by free. None prints, locks, starts a thread or
- * opens a file.
+ * `jillapun_tables_new` alone takes memory, by malloc and realloc, and gives back by free what it
+ * does not keep. No function prints, locks, starts a thread or opens a file.
  */
 
 #ifndef JILLAPUN_H
@@ -59,8 +61,8 @@ enum {
     /** All was done. Of a conversion: nothing was lost. */
     JILLAPUN_OK = 0,
     /**
-     * All was converted, and something was lost: the output, read again, is not the text of the
-     * input.
+     * All was done, and something was lost: U+FFFD stands for a malformed sequence, or a reference
+     * for a character without bytes; or, of a conversion, the output, read again, is another text.
      */
     JILLAPUN_LOSSY = 1,
     /**
@@ -77,7 +79,7 @@ enum {
     JILLAPUN_BAD_INDEX = 4,
     /** Memory was refused. Nothing was kept, and the call can be made again. */
     JILLAPUN_NO_MEMORY = 5,
-    /** The handle holds nothing: it is zeroed, or was freed. Nothing was done. */
+    /** The handle is `{0}`: no stream or conversion was begun in it. Nothing was done. */
     JILLAPUN_CLOSED = 6,
     /** The handle that is to be filled holds something already. Nothing was done. */
     JILLAPUN_IN_USE = 7,
@@ -266,7 +268,8 @@ typedef struct {
 } jillapun_bytes;
 
 /**
- * Tables of indexes, loaded by `jillapun_tables_new`. Begin with `{0}`, which holds no tables.
+ * Tables of indexes, loaded by `jillapun_tables_new`. Begin with `{0}`, which holds none, and
+ * does wherever tables are handed in for encodings that need no index.
  *
  * The tables live as long as the process, and are never changed. So a copy of this is as good
  * as this, and any number of threads may use the same tables at once.
@@ -288,7 +291,9 @@ typedef struct {
 
 /** Why an index file was not loaded. */
 typedef struct {
-    /** Which of the files, counted from 0. */
+    /**
+     * Which of the files, counted from 0; or how many they are, if memory was refused after all.
+     */
     size_t file;
     /** The line of its text, counted from 1; 0 if the fault is in no line alone. */
     size_t line;
@@ -313,8 +318,10 @@ typedef struct {
  * A decoder of a stream. Begin with `{0}`, which holds none; `jillapun_decoder_new` fills it.
  * All that it keeps stands in it: it may be moved, a copy is a decoder of its own that goes on
  * from here, and nothing has to be freed. Nothing but this library, or a copy of what it wrote,
- * may be written into it. Calls that take a `const` one may be made by any number of threads at
- * once, and others by one thread at a time.
+ * may be written into it.
+ *
+ * Calls that take a `const` one may be made by any number of threads at once, and others by one
+ * thread at a time.
  *
  * It takes 40 bytes.
  */
@@ -353,8 +360,10 @@ typedef struct {
  * An encoder of a stream. Begin with `{0}`, which holds none; `jillapun_encoder_new` fills it.
  * All that it keeps stands in it: it may be moved, a copy is an encoder of its own that goes on
  * from here, and nothing has to be freed. Nothing but this library, or a copy of what it wrote,
- * may be written into it. Calls that take a `const` one may be made by any number of threads at
- * once, and others by one thread at a time.
+ * may be written into it.
+ *
+ * Calls that take a `const` one may be made by any number of threads at once, and others by one
+ * thread at a time.
  *
  * It takes 24 bytes.
  */
@@ -433,14 +442,14 @@ typedef struct {
     uint64_t characters;
     /**
      * The bytes of the output, in memory: so many stand at the start of `dst`, or, at
-     * `JILLAPUN_ROOM`, so many are wanted. 0 if nothing was written, and in a conversion by steps:
-     * its calls report it.
+     * `JILLAPUN_ROOM`, so many are wanted, `SIZE_MAX` if more are. 0 if nothing was written, and in
+     * a conversion by steps: its calls report it.
      */
     uint64_t written;
     /**
      * The records of losses, in memory: so many stand at the start of `losses`, or, at
-     * `JILLAPUN_ROOM`, so many are wanted. 0 if nothing was written, and in a conversion by steps:
-     * its calls report it.
+     * `JILLAPUN_ROOM`, so many are wanted, `SIZE_MAX` if more are. 0 if nothing was written, and in
+     * a conversion by steps: its calls report it.
      */
     uint64_t losses;
     /** At `JILLAPUN_STOPPED`, how many characters of the text stand before the lost one. Else 0. */
@@ -609,9 +618,9 @@ uint8_t jillapun_output_encoding(uint8_t encoding);
 bool jillapun_is_single_byte(uint8_t encoding);
 
 /**
- * Whether each byte below 80 stands for the character of its number if a character begins
- * there, and such a character is written as that byte: so in all encodings but UTF-16BE,
- * UTF-16LE, replacement and ISO-2022-JP. False if no encoding has the number.
+ * Whether each byte below 80 (hexadecimal) stands for the character of its number if a
+ * character begins there, and such a character is written as that byte: so in all encodings but
+ * UTF-16BE, UTF-16LE, replacement and ISO-2022-JP. False if no encoding has the number.
  */
 bool jillapun_is_ascii_compatible(uint8_t encoding);
 
@@ -646,13 +655,13 @@ uint8_t jillapun_tables_is_ready(jillapun_tables tables, uint8_t encoding);
  *
  * Returns `JILLAPUN_OK`, and `out` holds the tables; or `JILLAPUN_IN_USE`, it holds some
  * already. On an error `out` is as it was, and `fault`, which else stays as it was, says which
- * file it is: `JILLAPUN_UNKNOWN`, no index has a file of that name; `JILLAPUN_BAD_INDEX`, the
- * text has a fault, or the index was loaded already; `JILLAPUN_NO_MEMORY`, memory was refused,
- * and the call can be made again.
+ * file is the first that was not loaded: `JILLAPUN_UNKNOWN`, no index has a file of that name;
+ * `JILLAPUN_BAD_INDEX`, the text has a fault, or a file before it is of the same index;
+ * `JILLAPUN_NO_MEMORY`, memory was refused, and the call can be made again.
  *
  * The tables are never freed, so that they can be shared by all threads: load them once. An
  * index that is wanted later is loaded into a handle of its own: a decoder or an encoder needs
- * none but those of its encoding.
+ * none but those of its encoding, and a conversion those of both encodings, in one handle.
  */
 uint8_t jillapun_tables_new(const jillapun_index_file *files, size_t files_len,
     jillapun_tables *out, jillapun_index_fault *fault);
@@ -730,8 +739,8 @@ uint8_t jillapun_decoder_latin1_byte_compatible_up_to(const jillapun_decoder *de
  * malformed sequence. What it does and returns is as of `jillapun_decoder_decode_to_utf8`, but
  * for this: if a character of `dst` is overwritten in part, its other bytes become 00, so what
  * was UTF-8 is UTF-8 after the call. Of what stands behind the bytes that were written the call
- * looks at three, and it changes those of them that go on with a character (80 to BF), whether
- * or not `dst` was UTF-8.
+ * looks at three, and it changes those at their start that go on with a character (80 to BF),
+ * whether or not `dst` was UTF-8.
  */
 uint8_t jillapun_decoder_decode_to_str(jillapun_decoder *decoder, const uint8_t *src,
     size_t src_len, uint8_t *dst, size_t dst_len, bool last, jillapun_progress *progress);
@@ -949,8 +958,8 @@ uint8_t jillapun_encoder_encode_from_utf16_without_replacement(jillapun_encoder 
  * calls.
  *
  * Else nothing is done, and all of `progress` is 0: `JILLAPUN_NOT_UTF8`, the text begins with a
- * malformed sequence, or with a character of which the end is not there; `JILLAPUN_CLOSED`, the
- * handle holds no encoder.
+ * malformed sequence, or with a character of which the end is not there; if it does not,
+ * `JILLAPUN_CLOSED`, the handle holds no encoder.
  */
 uint8_t jillapun_encoder_encode_from_utf8(jillapun_encoder *encoder, const uint8_t *text,
     size_t text_len, uint8_t *dst, size_t dst_len, bool last, jillapun_encoder_progress *progress);
@@ -973,8 +982,8 @@ uint8_t jillapun_encoder_encode_from_utf8(jillapun_encoder *encoder, const uint8
  * `jillapun_encoder_encode_from_utf8`.
  *
  * Else nothing is done, and all of `progress` is 0: `JILLAPUN_NOT_UTF8`, the text begins with a
- * malformed sequence, or with a character of which the end is not there; `JILLAPUN_CLOSED`, the
- * handle holds no encoder.
+ * malformed sequence, or with a character of which the end is not there; if it does not,
+ * `JILLAPUN_CLOSED`, the handle holds no encoder.
  */
 uint8_t jillapun_encoder_encode_from_utf8_without_replacement(jillapun_encoder *encoder,
     const uint8_t *text, size_t text_len, uint8_t *dst, size_t dst_len, bool last,
@@ -1051,7 +1060,8 @@ uint8_t jillapun_encode(jillapun_tables tables, uint8_t encoding, const uint8_t 
  * `JILLAPUN_REMOVE`, `JILLAPUN_KEEP`), `policy` what is written for a character without bytes
  * (`JILLAPUN_DECIMAL`, `JILLAPUN_HEXADECIMAL`, `JILLAPUN_STOP`), and `limit` how many bytes the
  * input may have; a greater number than 2^48 counts as that. Any number of threads may call at
- * once, over the same tables.
+ * once, over the same tables, which have the indexes of both encodings; or `{0}` if neither
+ * needs any.
  *
  * - `JILLAPUN_OK`: nothing was malformed, and the output, read again, is the text of the input.
  * - `JILLAPUN_LOSSY`: all was converted, and something was lost. `losses` may be empty even so:
@@ -1078,7 +1088,7 @@ uint8_t jillapun_convert(jillapun_tables tables, uint8_t from, uint8_t to, uint8
 
 /**
  * Makes a converter of a new input, from the encoding with the number `from` to the output
- * encoding of that with the number `to`. `mark`, `policy` and `limit` are as for
+ * encoding of that with the number `to`. `tables`, `mark`, `policy` and `limit` are as for
  * `jillapun_convert`. What `out` held is overwritten, whether or not its end was reported.
  *
  * Returns `JILLAPUN_OK`, and `out` holds the converter. Else nothing is made, and `out` stays
@@ -1140,8 +1150,9 @@ uint8_t jillapun_converter_step(jillapun_converter *converter, const uint8_t *sr
  * or the output encoding of `to` is not compatible with ASCII (UTF-16BE, UTF-16LE, ISO-2022-JP,
  * replacement), or if a number stands for nothing.
  *
- * The outputs of all parts, in a row, are the output for the whole. So are their records of
- * losses, once `jillapun_join_loss` has moved them, and what is reported of the parts, once
+ * The outputs of all parts, in a row, are the output for the whole, if that is within the
+ * limit: a part is compared by itself. So are their records of losses, once
+ * `jillapun_join_loss` has moved them, and what is reported of the parts, once
  * `jillapun_join_reports` has added it. Nothing was lost of the whole if nothing was lost of
  * any part. A part that the policy stops is the last, and is not added: the stop of the whole
  * has its `scalar`, and its `index` with the `characters` of the parts before.
@@ -1325,8 +1336,8 @@ size_t jillapun_mem_convert_latin1_to_utf8(const uint8_t *src, size_t src_len, u
  * Converts Latin1 to UTF-8 at the start of a text, and returns how many bytes were written. If
  * a character of `dst` is overwritten in part, its other bytes become 00, so what was UTF-8 is
  * UTF-8 after the call. Of what stands behind the bytes that were written the call looks at
- * three, and it changes those of them that go on with a character (80 to BF), whether or not
- * `dst` was UTF-8. Room: twice as many bytes as `src` has; if `dst` is shorter, nothing is
+ * three, and it changes those at their start that go on with a character (80 to BF), whether or
+ * not `dst` was UTF-8. Room: twice as many bytes as `src` has; if `dst` is shorter, nothing is
  * written and that number is returned.
  */
 size_t jillapun_mem_convert_latin1_to_str(const uint8_t *src, size_t src_len, uint8_t *dst,
@@ -1397,9 +1408,9 @@ size_t jillapun_mem_convert_utf16_to_utf8(const jillapun_char16 *src, size_t src
  * Converts UTF-16 to UTF-8 at the start of a text, with U+FFFD for each surrogate in no pair,
  * and returns how many bytes were written. If a character of `dst` is overwritten in part, its
  * other bytes become 00, so what was UTF-8 is UTF-8 after the call. Of what stands behind the
- * bytes that were written the call looks at three, and it changes those of them that go on with
- * a character (80 to BF), whether or not `dst` was UTF-8. Room: three bytes for each unit of
- * `src`; if `dst` is shorter, nothing is written and that number is returned.
+ * bytes that were written the call looks at three, and it changes those at their start that go
+ * on with a character (80 to BF), whether or not `dst` was UTF-8. Room: three bytes for each
+ * unit of `src`; if `dst` is shorter, nothing is written and that number is returned.
  */
 size_t jillapun_mem_convert_utf16_to_str(const jillapun_char16 *src, size_t src_len, uint8_t *dst,
     size_t dst_len);

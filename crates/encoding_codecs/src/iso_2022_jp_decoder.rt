@@ -352,8 +352,8 @@ fn entry_first_piece(entry: Option<char>) -> FirstPiece
 /// These are malformed, one byte each: from 80 on any, 0E, 0F and 1B if no whole escape begins
 /// there; in katakana all but 21 to 5F; in the two-byte set all but 21 to 7E, and a first byte that
 /// the end or 1B cuts off. Two bytes are malformed if the second is another byte that is not 21 to
-/// 7E, or their pointer has no entry. An escape gives nothing, but one with nothing between it and the next
-/// escape is malformed: 3 bytes. Up to five bytes may be pending.
+/// 7E, or their pointer has no entry. An escape gives nothing, but one with nothing between it and
+/// the next escape is malformed: 3 bytes. Up to five bytes may be pending.
 pub type Iso2022JpDecoder<'a> = CodecDecoder<Iso2022JpRule<'a>>;
 
 impl<'a> CodecDecoder<Iso2022JpRule<'a>> {

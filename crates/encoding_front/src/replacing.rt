@@ -56,8 +56,8 @@ fn outcome<S: Source>(encoder: &Encoder<'_>, source: &S, last: bool) -> CoderRes
     }
 }
 
-/// Encodes what is left of a source, and writes a reference for each character without bytes. Returns how the call
-/// ended, the bytes written, and whether a reference was written.
+/// Encodes what is left of a source, and writes a reference for each character without bytes.
+/// Returns how the call ended, the bytes written, and whether a reference was written.
 pub(crate) fn encode_replacing<S: Source>(
     encoder: &mut Encoder<'_>,
     source: &mut S,
