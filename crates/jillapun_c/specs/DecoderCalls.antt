@@ -1,8 +1,9 @@
 -- What a call of a decoder's handle does.
-use Rattle.std.specs.Prelude.{◌≡◌, ◌≢◌, ℕ, Bool, true, false, List, length, Option, MatchOption, None, unwrap_or}
+use Rattle.std.specs.Prelude.{◌≡◌, ◌≢◌, ℕ, Bool, true, false, List, drop, encode_utf8_all, length, Option, MatchOption, None, unwrap_or}
 use Rattle.encoding_mem.specs.declared.codec.decoder_result.DecoderResult.{DecoderResult}
 use Rattle.encoding_mem.specs.declared.codec.decoder_result.DecoderResult.TheVariants as raw_
 use Rattle.encoding_mem.specs.declared.codec.room.OutputUnit.{OutputUnit}
+use Rattle.encoding_mem.specs.calls.Writing.{Adds, encode_utf16_all}
 use Rattle.encoding_tables.specs.IndexLists.{IndexLists}
 use Rattle.encoding_front.specs.calls.DecoderCall.{DecoderCall, IfRoomAsked, RoomLeft, TextCall}
 use Rattle.encoding_front.specs.calls.SavedDecoders.{ReadsAlike}
@@ -15,6 +16,7 @@ use Rattle.jillapun_c.specs.EncodingNumbers.{encoding_at, mark_at}
 use Rattle.jillapun_c.specs.HeldDecoders.{HoldsDecoder, saved_in}
 use Rattle.jillapun_c.specs.HeldTables.{held_lists}
 use Rattle.jillapun_c.specs.Openings.{IfReady}
+use Rattle.jillapun_c.specs.Room.{TextIsPut}
 use Rattle.jillapun_c.specs.declared.decoder.handle.DecoderHandle.{DecoderHandle}
 use Rattle.jillapun_c.specs.declared.progress.Progress.{Progress}
 use Rattle.jillapun_c.specs.declared.status.TheConstants.{CLOSED, FINISHED, INPUT_EMPTY, MALFORMED, OK, OUTPUT_FULL, REFUSED, UNKNOWN}
@@ -75,6 +77,29 @@ pub record AnswersDecoder (h : DecoderHandle) (status : ℕ) (Then : DecoderView
   pub closed : saved_in h.words ≡ None → status ≡ CLOSED
   pub finished : (v : DecoderView) → HoldsOne h v → v.finished ≡ true → status ≡ FINISHED
   pub done : (v : DecoderView) → HoldsOne h v → v.finished ≡ false → (status ≡ OK) × Then v
+
+-- a text stands at the start of a room as UTF-8
+abbrev pub StandsAsUtf8 : (old text new : List ℕ) (written : ℕ) → Type 0
+StandsAsUtf8 old text new written = Adds old 0 (encode_utf8_all text) new written
+
+-- a text stands at the start of a room as UTF-16
+abbrev pub StandsAsUtf16 : (old text new : List ℕ) (written : ℕ) → Type 0
+StandsAsUtf16 old text new written = Adds old 0 (encode_utf16_all text) new written
+
+-- a text stands as UTF-8 at the start of another one, which stays a text
+abbrev pub StandsOverText : (old text new : List ℕ) (written : ℕ) → Type 0
+StandsOverText old text new written = TextIsPut old (encode_utf8_all text) new written
+
+-- What a call of a decoder's handle does that writes U+FFFD, by how its text stands in the room, and by what counts the
+-- room that is left.
+abbrev pub DecodesInto : OutputUnit → (Stands : (old text new : List ℕ) → ℕ → Type 0) (free_in : ℕ → RoomLeft) (before after : DecoderHandle) (src : List ℕ) (last : Bool) (dst dst' : List ℕ) → Progress → (status : ℕ) → Type 0
+DecodesInto unit Stands free_in before after src last dst dst' progress status = AnswersDecoder before status
+    (λ v. Decodes unit v after src last (λ text. Stands dst text dst' progress.written) (length dst) (free_in (length (drop progress.written dst'))) progress)
+
+-- The same of a call that ends at each malformed sequence.
+abbrev pub DecodesIntoUpToFault : OutputUnit → (Stands : (old text new : List ℕ) → ℕ → Type 0) (free_in : ℕ → RoomLeft) (before after : DecoderHandle) (src : List ℕ) (last : Bool) (dst dst' : List ℕ) → Progress → (status : ℕ) → Type 0
+DecodesIntoUpToFault unit Stands free_in before after src last dst dst' progress status = AnswersDecoder before status
+    (λ v. DecodesUpToFault unit v after src last (λ text. Stands dst text dst' progress.written) (length dst) (free_in (length (drop progress.written dst'))) progress)
 
 -- the room that is asked for the text of so many bytes is reported; SIZE_MAX if it is more than a length can say
 abbrev pub AsksRoom : OutputUnit → DecoderHandle → (size length status : ℕ) → Type 0

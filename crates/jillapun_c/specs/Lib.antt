@@ -9,6 +9,7 @@ pub mod ConverterTurns
 pub mod ConverterWords
 pub mod Converters
 pub mod DecoderCalls
+pub mod EncodedTexts
 pub mod EncoderCalls
 pub mod EncoderWords
 pub mod EncodingNumbers

@@ -1,10 +1,9 @@
 //! The exports that decode to UTF-8 over a text.
 
-ghost use Rattle.std.specs.Prelude.{◌≡◌, ◌≢◌, drop, length, encode_utf8_all};
+ghost use Rattle.std.specs.Prelude.{◌≡◌, ◌≢◌};
 ghost use Rattle.encoding_mem.specs.declared.codec.room.OutputUnit.TheVariants.{Bytes, Replaced};
 ghost use Rattle.encoding_front.specs.calls.DecoderCall.{free_bytes};
-ghost use Rattle.jillapun_c.specs.DecoderCalls.{AnswersDecoder, Decodes, DecodesUpToFault};
-ghost use Rattle.jillapun_c.specs.Room.{TextIsPut};
+ghost use Rattle.jillapun_c.specs.DecoderCalls.{DecodesInto, DecodesIntoUpToFault, StandsOverText};
 ghost use Rattle.jillapun_c.specs.declared.progress.TheConstants.Progress.{NONE};
 ghost use Rattle.jillapun_c.specs.declared.status.TheConstants.{OK};
 
@@ -30,10 +29,8 @@ pub extern "C" fn jillapun_decoder_decode_to_str(
     last: bool,
     progress: &mut Progress,
 ) -> u8
-    ensures decodes { AnswersDecoder decoder.old result
-        (λ v. Decodes Replaced v decoder.new src.now last
-        (λ text. TextIsPut dst.old (encode_utf8_all text) dst.new progress.new.written)
-        (length dst.old) (free_bytes (length (drop progress.new.written dst.new))) progress.new) }
+    ensures decodes { DecodesInto Replaced StandsOverText free_bytes decoder.old decoder.new src.now
+        last dst.old dst.new progress.new result }
     ensures unchanged { result ≢ OK → (dst.new ≡ dst.old) × (decoder.new ≡ decoder.old) }
     ensures nothing { result ≢ OK → progress.new ≡ NONE }
     ensures tables { decoder.new.tables.tables ≡ decoder.old.tables.tables }
@@ -58,10 +55,8 @@ pub extern "C" fn jillapun_decoder_decode_to_str_without_replacement(
     last: bool,
     progress: &mut Progress,
 ) -> u8
-    ensures decodes { AnswersDecoder decoder.old result
-        (λ v. DecodesUpToFault Bytes v decoder.new src.now last
-        (λ text. TextIsPut dst.old (encode_utf8_all text) dst.new progress.new.written)
-        (length dst.old) (free_bytes (length (drop progress.new.written dst.new))) progress.new) }
+    ensures decodes { DecodesIntoUpToFault Bytes StandsOverText free_bytes decoder.old decoder.new
+        src.now last dst.old dst.new progress.new result }
     ensures unchanged { result ≢ OK → (dst.new ≡ dst.old) × (decoder.new ≡ decoder.old) }
     ensures nothing { result ≢ OK → progress.new ≡ NONE }
     ensures tables { decoder.new.tables.tables ≡ decoder.old.tables.tables }

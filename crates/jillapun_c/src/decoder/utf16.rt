@@ -1,10 +1,9 @@
 //! The exports that decode to UTF-16.
 
-ghost use Rattle.std.specs.Prelude.{◌≡◌, ◌≢◌, drop, length};
-ghost use Rattle.encoding_mem.specs.calls.Writing.{Adds, encode_utf16_all};
+ghost use Rattle.std.specs.Prelude.{◌≡◌, ◌≢◌};
 ghost use Rattle.encoding_mem.specs.declared.codec.room.OutputUnit.TheVariants.{Units};
 ghost use Rattle.encoding_front.specs.calls.DecoderCall.{free_units};
-ghost use Rattle.jillapun_c.specs.DecoderCalls.{AnswersDecoder, Decodes, DecodesUpToFault};
+ghost use Rattle.jillapun_c.specs.DecoderCalls.{DecodesInto, DecodesIntoUpToFault, StandsAsUtf16};
 ghost use Rattle.jillapun_c.specs.declared.progress.TheConstants.Progress.{NONE};
 ghost use Rattle.jillapun_c.specs.declared.status.TheConstants.{OK};
 
@@ -31,10 +30,8 @@ pub extern "C" fn jillapun_decoder_decode_to_utf16(
     last: bool,
     progress: &mut Progress,
 ) -> u8
-    ensures decodes { AnswersDecoder decoder.old result
-        (λ v. Decodes Units v decoder.new src.now last
-        (λ text. Adds dst.old 0 (encode_utf16_all text) dst.new progress.new.written)
-        (length dst.old) (free_units (length (drop progress.new.written dst.new))) progress.new) }
+    ensures decodes { DecodesInto Units StandsAsUtf16 free_units decoder.old decoder.new src.now
+        last dst.old dst.new progress.new result }
     ensures unchanged { result ≢ OK → (dst.new ≡ dst.old) × (decoder.new ≡ decoder.old) }
     ensures nothing { result ≢ OK → progress.new ≡ NONE }
     ensures tables { decoder.new.tables.tables ≡ decoder.old.tables.tables }
@@ -79,10 +76,8 @@ pub extern "C" fn jillapun_decoder_decode_to_utf16_without_replacement(
     last: bool,
     progress: &mut Progress,
 ) -> u8
-    ensures decodes { AnswersDecoder decoder.old result
-        (λ v. DecodesUpToFault Units v decoder.new src.now last
-        (λ text. Adds dst.old 0 (encode_utf16_all text) dst.new progress.new.written)
-        (length dst.old) (free_units (length (drop progress.new.written dst.new))) progress.new) }
+    ensures decodes { DecodesIntoUpToFault Units StandsAsUtf16 free_units decoder.old decoder.new
+        src.now last dst.old dst.new progress.new result }
     ensures unchanged { result ≢ OK → (dst.new ≡ dst.old) × (decoder.new ≡ decoder.old) }
     ensures nothing { result ≢ OK → progress.new ≡ NONE }
     ensures tables { decoder.new.tables.tables ≡ decoder.old.tables.tables }

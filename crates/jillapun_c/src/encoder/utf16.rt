@@ -1,10 +1,9 @@
 //! The exports that encode UTF-16.
 
-ghost use Rattle.std.specs.Prelude.{◌≡◌, ◌≢◌, ◌≤◌, true, drop, length};
+ghost use Rattle.std.specs.Prelude.{◌≡◌, ◌≢◌, ◌≤◌, true, length};
 ghost use Rattle.std.specs.Char.Utf16.{utf16_lossy_chars};
 ghost use Rattle.encoding_mem.specs.Conversions.{IsUnitBoundary};
-ghost use Rattle.jillapun_c.specs.Coders.{encoder_in};
-ghost use Rattle.jillapun_c.specs.EncoderCalls.{AnswersEncoder, EncodesAll, EncodesUpToLost};
+ghost use Rattle.jillapun_c.specs.EncodedTexts.{EncodesFrom, EncodesFromUpToLost};
 ghost use Rattle.jillapun_c.specs.declared.encoder_progress.TheConstants.EncoderProgress.{NONE};
 ghost use Rattle.jillapun_c.specs.declared.status.TheConstants.{OK};
 
@@ -31,10 +30,8 @@ pub extern "C" fn jillapun_encoder_encode_from_utf16(
     last: bool,
     progress: &mut EncoderProgress,
 ) -> u8
-    ensures encodes { AnswersEncoder (encoder_in encoder.old) result
-        (λ e. EncodesAll true e (encoder_in encoder.new) last (utf16_lossy_chars text.now)
-        (utf16_lossy_chars (drop progress.new.read text.now)) (length text.now) dst.old dst.new
-        progress.new) }
+    ensures encodes { EncodesFrom true utf16_lossy_chars encoder.old encoder.new text.now last
+        dst.old dst.new progress.new result }
     ensures read { result ≡ OK → (progress.new.read ≤ length text.now)
         × IsUnitBoundary text.now progress.new.read }
     ensures unchanged { result ≢ OK → (dst.new ≡ dst.old) × (encoder.new ≡ encoder.old) }
@@ -77,10 +74,8 @@ pub extern "C" fn jillapun_encoder_encode_from_utf16_without_replacement(
     last: bool,
     progress: &mut EncoderProgress,
 ) -> u8
-    ensures encodes { AnswersEncoder (encoder_in encoder.old) result
-        (λ e. EncodesUpToLost true e (encoder_in encoder.new) last (utf16_lossy_chars text.now)
-        (utf16_lossy_chars (drop progress.new.read text.now)) (length text.now) dst.old dst.new
-        progress.new) }
+    ensures encodes { EncodesFromUpToLost true utf16_lossy_chars encoder.old encoder.new text.now
+        last dst.old dst.new progress.new result }
     ensures read { result ≡ OK → (progress.new.read ≤ length text.now)
         × IsUnitBoundary text.now progress.new.read }
     ensures unchanged { result ≢ OK → (dst.new ≡ dst.old) × (encoder.new ≡ encoder.old) }

@@ -1,12 +1,12 @@
 //! The exports that encode UTF-8.
 
-ghost use Rattle.std.specs.Prelude.{◌≡◌, ◌≢◌, [], false, drop, length};
+ghost use Rattle.std.specs.Prelude.{◌≡◌, ◌≢◌, [], false};
 ghost use Rattle.std.specs.Str.{IsUtf8, chars};
 ghost use Rattle.encoding_mem.specs.Conversions.{text_prefix};
 ghost use Rattle.encoding_front.specs.calls.Encoder.{ReadsText};
-ghost use Rattle.jillapun_c.specs.Coders.{encoder_in};
-ghost use Rattle.jillapun_c.specs.EncoderCalls.{AnswersEncoder, EncodesAll, EncodesUpToLost};
-ghost use Rattle.jillapun_c.specs.TextParts.{BeginsMalformed, IsToldOfPart};
+ghost use Rattle.jillapun_c.specs.EncodedTexts.{EncodesBefore, EncodesBeforeUpToLost};
+ghost use Rattle.jillapun_c.specs.EncodedTexts.{EncodesFrom, EncodesFromUpToLost};
+ghost use Rattle.jillapun_c.specs.TextParts.{BeginsMalformed};
 ghost use Rattle.jillapun_c.specs.declared.encoder_progress.TheConstants.EncoderProgress.{NONE};
 ghost use Rattle.jillapun_c.specs.declared.status.TheConstants.{NOT_UTF8, OK};
 
@@ -43,14 +43,10 @@ pub extern "C" fn jillapun_encoder_encode_from_utf8(
     progress: &mut EncoderProgress,
 ) -> u8
     ensures malformed { BeginsMalformed text.now → result ≡ NOT_UTF8 }
-    ensures encodes { IsUtf8 text.now → AnswersEncoder (encoder_in encoder.old) result
-        (λ e. EncodesAll false e (encoder_in encoder.new) last (chars text.now)
-        (chars (drop progress.new.read text.now)) (length text.now) dst.old dst.new progress.new) }
+    ensures encodes { IsUtf8 text.now → EncodesFrom false chars encoder.old encoder.new text.now
+        last dst.old dst.new progress.new result }
     ensures encodes_before { ¬ (IsUtf8 text.now) → text_prefix text.now ≢ []
-        → AnswersEncoder (encoder_in encoder.old) result (λ e. IsToldOfPart false progress.new
-        (EncodesAll false e (encoder_in encoder.new) false (chars (text_prefix text.now))
-        (chars (drop progress.new.read (text_prefix text.now))) (length (text_prefix text.now))
-        dst.old dst.new)) }
+        → EncodesBefore encoder.old encoder.new text.now dst.old dst.new progress.new result }
     ensures read { result ≡ OK → ReadsText (text_prefix text.now) progress.new.read }
     ensures unchanged { result ≢ OK → (dst.new ≡ dst.old) × (encoder.new ≡ encoder.old) }
     ensures nothing { result ≢ OK → progress.new ≡ NONE }
@@ -103,14 +99,10 @@ pub extern "C" fn jillapun_encoder_encode_from_utf8_without_replacement(
     progress: &mut EncoderProgress,
 ) -> u8
     ensures malformed { BeginsMalformed text.now → result ≡ NOT_UTF8 }
-    ensures encodes { IsUtf8 text.now → AnswersEncoder (encoder_in encoder.old) result
-        (λ e. EncodesUpToLost false e (encoder_in encoder.new) last (chars text.now)
-        (chars (drop progress.new.read text.now)) (length text.now) dst.old dst.new progress.new) }
-    ensures encodes_before { ¬ (IsUtf8 text.now) → text_prefix text.now ≢ []
-        → AnswersEncoder (encoder_in encoder.old) result (λ e. IsToldOfPart false progress.new
-        (EncodesUpToLost false e (encoder_in encoder.new) false (chars (text_prefix text.now))
-        (chars (drop progress.new.read (text_prefix text.now))) (length (text_prefix text.now))
-        dst.old dst.new)) }
+    ensures encodes { IsUtf8 text.now → EncodesFromUpToLost false chars encoder.old encoder.new
+        text.now last dst.old dst.new progress.new result }
+    ensures encodes_before { ¬ (IsUtf8 text.now) → text_prefix text.now ≢ [] → EncodesBeforeUpToLost
+        encoder.old encoder.new text.now dst.old dst.new progress.new result }
     ensures read { result ≡ OK → ReadsText (text_prefix text.now) progress.new.read }
     ensures unchanged { result ≢ OK → (dst.new ≡ dst.old) × (encoder.new ≡ encoder.old) }
     ensures nothing { result ≢ OK → progress.new ≡ NONE }
