@@ -15,8 +15,8 @@ All crates take about 6 hours of processor time from nothing.
 In copies of the repository, with what checks have kept in `out/`, edits are made in rounds: of each function at most one
 edit in a round. First a pass over the sources finds edits that cannot be compiled. A check then says of each function
 whether it is proved, and of one that is not which goals are open. A function that calls one that is not proved is not
-looked at: so no round has edits of both, as far as names tell, and else the edit comes into a later round. An edit that changes no function, as that of a constant, and one that no round
-decides, is tried alone. An edit is
+looked at: so no round has edits of both, as far as names tell, and else the edit comes into a later round. An edit that
+changes no function, as that of a constant, and one that no round decides, is tried alone. An edit is
 
 - refused by the fact, if a goal of its own function is open that no answer is written for: a clause, a condition of a
   call, a bound, an invariant. Of an edit that changes no function a goal of any function counts, and a row of `specs/`;
