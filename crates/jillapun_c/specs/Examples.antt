@@ -1,6 +1,6 @@
 -- The numbers and the words of the definitions, worked.
 use Rattle.std.proofs.Common.{arith, inl, inr}
-use Rattle.std.specs.Prelude.{◌≡◌, ℕ, Bool, true, false, None, Some, [], ◌∷◌, codes, refl}
+use Rattle.std.specs.Prelude.{◌≡◌, ℕ, Bool, true, false, None, Some, List, [], ◌∷◌, codes, refl}
 use lib.Utf8.{encode}
 use Rattle.std.specs.Fmt.{digits}
 use Rattle.encoding_mem.specs.declared.codec.decoder_result.DecoderResult.TheVariants as decoded
@@ -22,7 +22,7 @@ use Rattle.jillapun_c.specs.EncoderWords.{encoder_of}
 use Rattle.jillapun_c.specs.EncodingNumbers.{encoding_at, mark_at, needed_file}
 use Rattle.jillapun_c.specs.HeldDecoders.{saved_as, saved_in}
 use Rattle.encoding_front.specs.Encodings.{no_lists}
-use Rattle.jillapun_c.specs.IndexFiles.{told_of}
+use Rattle.jillapun_c.specs.IndexFiles.{HaveOwnNames, told_of}
 use Rattle.jillapun_c.specs.Room.{HoldsFront, rest_cleared}
 use Rattle.jillapun_c.specs.TextParts.{IsLookedAt, most_read, told_outcome}
 use Rattle.jillapun_c.specs.Whole.{TellsOfInput, filled_status}
@@ -30,6 +30,7 @@ use Rattle.jillapun_c.specs.declared.decoder.words.DecoderWords.{DecoderWords}
 use Rattle.jillapun_c.specs.declared.converter.Stage.TheVariants.{Open, Stopped}
 use Rattle.jillapun_c.specs.declared.converter.words.ConverterWords.{ConverterWords}
 use Rattle.jillapun_c.specs.declared.index_files.FileFault.TheVariants as told
+use Rattle.jillapun_c.specs.declared.index_files.IndexFile.{IndexFile}
 use Rattle.jillapun_c.specs.declared.converter.progress.TheConstants.ConverterProgress as converter_
 use Rattle.jillapun_c.specs.declared.decoded.TheConstants.Decoded as decoded_
 use Rattle.jillapun_c.specs.declared.encoder_progress.TheConstants.EncoderProgress as encoder_
@@ -101,6 +102,16 @@ refused_text_is_told = refl
 
 pub refused_table_is_told : told_of (Table table.Memory) ≡ told.Memory
 refused_table_is_told = refl
+
+-- two files of one name are of one index, whatever their texts
+abbrev file : (name text : List ℕ) → IndexFile
+file name text = record { name = record { ref_ptr = (0, 0); ghost_name = 0; now = name }; text = record { ref_ptr = (0, 0); ghost_name = 0; now = text } }
+
+pub names_of_their_own : HaveOwnNames (file (0x61 ∷ []) [] ∷ file (0x62 ∷ []) [] ∷ [])
+names_of_their_own = (((λ is. cc), tt), tt, tt)
+
+pub one_name_twice : HaveOwnNames (file (0x61 ∷ []) [] ∷ file (0x61 ∷ []) (0x0A ∷ []) ∷ []) → ⊥
+one_name_twice apart = apart.0.0 refl
 
 -- what calls report that refuse: zeros
 pub nothing_is_decoded : decoder_.NONE ≡ record { read = 0; written = 0; outcome = 0; malformed_length = 0; malformed_after = 0; had_errors = false }

@@ -4,6 +4,7 @@ use Rattle.encoding_mem.specs.Piece.{well_formed}
 use Rattle.encoding_mem.specs.Pieces.{pieces_in}
 use Rattle.encoding_mem.specs.declared.codec.room.OutputUnit.TheVariants.{Units, Bytes}
 use Rattle.encoding_front.specs.calls.Seeking.{find_mark, mark_needs, can_be, nothing_sought, sought_by, sought_encoding, sought_pieces}
+use Rattle.encoding_front.specs.calls.DecoderCall.{SeeksOn}
 use Rattle.encoding_front.specs.calls.RoomRules.{saved_rule}
 use Rattle.encoding_front.specs.calls.SavedDecoders.{HasReadNothing}
 use Rattle.encoding_front.specs.declared.decoder.saved_decoder.SavedDecoder.{SavedDecoder}
@@ -76,3 +77,16 @@ nothing_was_read = record { in_force = refl; sought = refl; held = refl; open_ =
 
 ef_was_read : HasReadNothing Sniff Encoding.Windows1252 after_ef → ⊥
 ef_was_read h = let none : 0xEF ∷ [] ≡ [] = h.held in cc
+
+-- marks are sought on after a call that is not the last and left nothing unread, and after no other
+sought_on : SeeksOn all_marks all_marks false []
+sought_on is = (refl, refl, refl)
+
+not_beside_unread : SeeksOn all_marks all_marks false (0xEF ∷ []) → ⊥
+not_beside_unread seeks = let none : 0xEF ∷ [] ≡ [] = (seeks refl).2 in cc
+
+not_after_the_last : SeeksOn all_marks all_marks true [] → ⊥
+not_after_the_last seeks = let never : true ≡ false = (seeks refl).1 in cc
+
+no_more_is_sought : SeeksOn all_marks nothing_sought true (0xEF ∷ [])
+no_more_is_sought is = cc
