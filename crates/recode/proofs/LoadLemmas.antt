@@ -1,5 +1,5 @@
 -- What is there after an index is loaded.
-use Rattle.std.proofs.Common.{◌≡◌, ◌≢◌, ◌⊎◌, ◌∙◌, ℕ, List, [], ◌∷◌, ap, refl, sym, arith, Option, None, Some, Bool, true, false, inl, inr, is_some, ◌++◌, drop, take}
+use Rattle.std.proofs.Common.{◌≡◌, ◌≢◌, ◌⊎◌, ◌∙◌, ◌<◌, ℕ, suc, List, [], ◌∷◌, absurd, ap, refl, sym, arith, Option, None, Some, Bool, true, false, inl, inr, is_some, ◌++◌, drop, take, length, get_or}
 use Rattle.std.specs.Prelude.{if◌then◌else◌, IfSome, MatchOption, Result, Ok, Err, option_map}
 use Rattle.std.specs.Option.{option_or}
 use Rattle.std.specs.Bool.{MatchBool}
@@ -67,6 +67,12 @@ load_keeps old new kind lacking keeps k was = elim (same_or_apart k kind) [
 pub there_more : (t : IndexLists) (kinds : List IndexKind) (kind : IndexKind) → AreThere t kinds → has t kind ≡ true → AreThere t (kinds ++ kind ∷ [])
 there_more t [] kind there this = (this, tt)
 there_more t (k ∷ ks) kind there this = (there.0, there_more t ks kind there.1 this)
+
+-- if all are there, so is each
+pub there_at : (t : IndexLists) (kinds : List IndexKind) (i : ℕ) → i < length kinds → AreThere t kinds → has t (get_or kinds i IndexKind.Ibm866) ≡ true
+there_at t [] i within there = absurd (omega arith)
+there_at t (k ∷ ks) 0 within there = there.0
+there_at t (k ∷ ks) (suc i) within there = there_at t ks i (omega arith) there.1
 
 -- a load that came to its end met no fault of the text
 no_fault : (text : Option IndexFault) (table : Option TableFault) → option_or (option_map Text text) (option_map Table table) ≡ None → text ≡ None

@@ -1,7 +1,7 @@
 -- What the program does and returns for its words.
-use Rattle.std.specs.Prelude.{◌≡◌, ◌≢◌, ◌⊎◌, ℕ, List, Option, None, IfSome, false, true}
+use Rattle.std.specs.Prelude.{◌≡◌, ◌≢◌, ◌⊎◌, ℕ, List, [], ◌++◌, Option, None, IfSome, false, true}
 use Rattle.std.specs.Bool.{MatchBool}
-use Rattle.encoding_front.specs.Encodings.{HasLabel}
+use Rattle.encoding_front.specs.Encodings.{HasLabel, needs_of, output_encoding_of}
 use Rattle.encoding_front.specs.declared.encoding.Encoding.{Encoding}
 use Rattle.encoding_front.specs.declared.mark.Mark.{Mark}
 use Rattle.encoding_index.specs.Loads.{Loads, text_fault}
@@ -58,6 +58,18 @@ pub record NamesUnknown (words : List (List ℕ)) : Type 0 where
   pub w : Words
   pub meant : AsksFor words (Run w)
   pub unknown : HasUnknownLabel w
+
+-- the labels are of encodings of which one, as it is read or written, needs an index
+pub record NeedAnIndex (w : Words) : Type 0 where
+  pub from : Encoding
+  pub to : Encoding
+  pub from_label : HasLabel from w.from.now
+  pub to_label : HasLabel to w.to.now
+  pub needed : (needs_of from ++ needs_of (output_encoding_of to)) ≢ []
+
+-- the words ask for a run that needs an index
+abbrev pub AskForFiles : List (List ℕ) → Type 0
+AskForFiles words = (w : Words) × AsksFor words (Run w) × NeedAnIndex w
 
 -- the request is for a text of the program's own: help, version or the list of encodings
 abbrev pub IsText : Request → Type 0

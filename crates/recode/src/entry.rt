@@ -8,6 +8,7 @@ ghost use Rattle.recode.specs.Devices.{HaveFailedAtMost, devices_in, ports};
 ghost use Rattle.recode.specs.Job.{IsValidJob};
 ghost use Rattle.recode_words.specs.Request.{IsLine};
 ghost use Rattle.recode.specs.Program.{AddsFromFiles, AnswersProgram, AnswersWords};
+ghost use Rattle.recode.specs.Program.{AskForFiles, NeedAnIndex};
 ghost use Rattle.recode.specs.Program.{IsConversionOn, TellsSome, mark_of_word, policy_of_word};
 
 use crate::conversion::{FAITHFUL, convert};
@@ -118,6 +119,8 @@ fn load_both<S: IndexSource>(
 ) -> Result<(), StartFault>
     ensures from { OnOk result (IsReady tables.new from) }
     ensures to { OnOk result (IsReady tables.new (output_encoding_of to)) }
+    ensures once { IsReady tables.old from → IsReady tables.old (output_encoding_of to)
+        → source.new ≡ source.old }
     ensures files { AddsFromFiles (S.holds source.old) (S.holds source.new) dir.now tables.old
         tables.new }
 {
@@ -187,9 +190,10 @@ fn run_words<S: IndexSource, R: Read, W: Write, L: Write>(
     requires limit { words.limit ≤ 2 ^ 48 }
     requires counts { HaveFailedAtMost (2 ^ 64 - 5)
         (devices_in reader.old writer.old log.old).failures }
-    ensures { AnswersWords (S.holds source.old) R.remaining W.contents L.contents
+    ensures answer { AnswersWords (S.holds source.old) R.remaining W.contents L.contents
         (ports reader.old writer.old log.old) (ports reader.new writer.new log.new) words.entry
         result }
+    ensures source { source.new ≡ source.old ⊎ NeedAnIndex words.entry }
 {
     let Some(from) = Encoding::for_label(words.from.as_bytes()) else {
         return refuse_label(alloc, log, words.from);
@@ -220,7 +224,8 @@ fn run_words<S: IndexSource, R: Read, W: Write, L: Write>(
 ///
 /// A run looks up the label of `--from`, then that of `--to`. It reads the index files that the
 /// source and then the target's output encoding need, each once, and converts with buffers of 4096
-/// elements. Each index is what its file in the folder of `--indexes` stands for, if the source
+/// elements. The source is called for nothing else: not if neither needs an index, nor without a
+/// run. Each index is what its file in the folder of `--indexes` stands for, if the source
 /// says what the file holds (`IndexSource`). With `--pivot utf16` the text in between is UTF-16:
 /// what is written is the same.
 ///
@@ -246,9 +251,10 @@ pub fn program<S: IndexSource, R: Read, W: Write, L: Write>(
     requires words { 0 < length words.now }
     requires counts { HaveFailedAtMost (2 ^ 64 - 5)
         (devices_in reader.old writer.old log.old).failures }
-    ensures { AnswersProgram (S.holds source.old) R.remaining W.contents L.contents
+    ensures answer { AnswersProgram (S.holds source.old) R.remaining W.contents L.contents
         (ports reader.old writer.old log.old) (ports reader.new writer.new log.new)
         (map (λ s. s.now) words.now) result }
+    ensures source { source.new ≡ source.old ⊎ AskForFiles (map (λ s. s.now) words.now) }
 {
     match parse_words(alloc, words) {
         Ok(Request::Run(words)) => run_words(alloc, words, source, reader, writer, log),

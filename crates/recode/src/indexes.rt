@@ -142,9 +142,9 @@ fn load_index<S: IndexSource>(
 }
 
 /// Puts the indexes that the encoding needs into the tables, and no others, each once, in the order
-/// of `needs`. An index that is there already is not loaded again: it stays as it is. A new one is
-/// what a text without a fault stands for: that of its file in the folder `dir`, if the source says
-/// what the file holds.
+/// of `needs`. An index that is there already is not loaded again: it stays as it is, and if all
+/// are there, the source is not called. A new one is what a text without a fault stands for: that of
+/// its file in the folder `dir`, if the source says what the file holds.
 ///
 /// The error is that of the first whose file is missing or faulty, or at which memory was refused:
 /// those before it are there, and none after it was loaded.
@@ -156,6 +156,7 @@ pub fn load_indexes<S: IndexSource>(
     tables: &mut Tables,
 ) -> Result<(), StartFault>
     ensures there { OnOk result (IsReady tables.new encoding) }
+    ensures once { IsReady tables.old encoding → source.new ≡ source.old }
     ensures lacking { IfErr result (LacksOne (S.holds source.old) dir.now tables.old tables.new
         (needs_of encoding)) }
     ensures added { AddsOnly tables.old tables.new (needs_of encoding) }

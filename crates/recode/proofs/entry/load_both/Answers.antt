@@ -1,4 +1,5 @@
-use Rattle.encoding_front.specs.Encodings.{needs_of}
+use Rattle.std.proofs.Common.{◌∙◌}
+use Rattle.encoding_front.specs.Encodings.{needs_of, output_encoding_of}
 use Rattle.recode.specs.laws.KeptIndexes.{there_kept}
 use Rattle.recode.proofs.LoadLemmas.{adds_more}
 use Rattle.recode.proofs.ShellLemmas.{ok_of}
@@ -7,6 +8,10 @@ use Rattle.recode.proofs.entry.load_both.Goals as goal
 pub returns-clause-from : goal.returns-clause-from
 returns-clause-from g c =
     ok_of c.load_indexes-2.result (there_kept c.load_indexes.new.tables c.load_indexes-2.new.tables (needs_of c.args.from) c.load_indexes-2.ensures.files.kept c.in_ok-load_indexes.ensures.there)
+
+pub returns-clause-once : goal.returns-clause-once
+returns-clause-once g c = λ from to.
+    c.load_indexes-2.ensures.once (there_kept c.args.tables.now c.load_indexes.new.tables (needs_of (output_encoding_of c.args.to)) c.load_indexes.ensures.files.kept to) ∙ c.load_indexes.ensures.once from
 
 pub returns-clause-files : goal.returns-clause-files
 returns-clause-files g c =

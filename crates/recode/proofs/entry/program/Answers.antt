@@ -16,7 +16,7 @@ answers holds remaining contents logged before after words w status meant (inr (
 answers holds remaining contents logged before after words w status meant (inr (inr (j, job, files, converted))) =
     inr (inr (inr record { w = w; meant = meant; j = j; job = job; files = files; converted = converted }))
 
-pub returns-in-Ok-Run : goal.returns-in-Ok-Run
-returns-in-Ok-Run g c =
+pub returns-in-Ok-Run-clause-answer : goal.returns-in-Ok-Run-clause-answer
+returns-in-Ok-Run-clause-answer g c =
     answers (g.S.IndexSource.holds c.args.source.now) g.R.Read.remaining g.W.Write.contents g.L.Write.contents (ports c.args.reader.now c.args.writer.now c.args.log.now) (ports c.run_words.new.reader c.run_words.new.writer c.run_words.new.log)
     (map (λ s. s.now) c.args.words.now) c.in-Ok-Run.words c.run_words.result (rw c.in-Ok-Run.field-0-is at c.in-Ok-Run.ensures.ok) (rw c.in-Ok-Run.words-is at c.run_words.ensures)

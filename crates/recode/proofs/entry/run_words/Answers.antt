@@ -18,19 +18,19 @@ refused : {X Y Z : Type 0} (status : ℕ) → X → Y → (status ≡ 2) ⊎ (st
 refused status x y (inl two) = inl (two, x, y)
 refused status x y (inr three) = inr (inl (three, y))
 
-pub returns-in_default : goal.returns-in_default
-returns-in_default g c =
+pub returns-in_default-clause-answer : goal.returns-in_default-clause-answer
+returns-in_default-clause-answer g c =
     refused c.refuse_label.result (inl (unknown_of c.for_label.result c.args.words.from.now c.as_bytes.result.now c.as_bytes.ensures.value c.in_default.is c.for_label.ensures))
     record { unread = refl; unwritten = refl; told = c.refuse_label.ensures.told } c.refuse_label.ensures.status
 
-pub returns-in_default-for_label : goal.returns-in_default-for_label
-returns-in_default-for_label g c =
+pub returns-in_default-for_label-clause-answer : goal.returns-in_default-for_label-clause-answer
+returns-in_default-for_label-clause-answer g c =
     refused c.refuse_label-in_default-for_label.result
     (inr (unknown_of c.for_label-2.result c.args.words.to.now c.as_bytes-2.result.now c.as_bytes-2.ensures.value c.in_default-for_label.is c.for_label-2.ensures))
     record { unread = refl; unwritten = refl; told = c.refuse_label-in_default-for_label.ensures.told } c.refuse_label-in_default-for_label.ensures.status
 
-pub returns : goal.returns
-returns g c = inr (inr (
+pub returns-clause-answer : goal.returns-clause-answer
+returns-clause-answer g c = inr (inr (
   _,
   record {
     from = known_of c.for_label.result c.args.words.from.now c.as_bytes.result.now c.in-Some.from c.as_bytes.ensures.value c.in-Some.is c.for_label.ensures;
