@@ -36,7 +36,24 @@ use Rattle.jillapun_c.specs.declared.decoded.TheConstants.Decoded as decoded_
 use Rattle.jillapun_c.specs.declared.encoder_progress.TheConstants.EncoderProgress as encoder_
 use Rattle.jillapun_c.specs.declared.progress.TheConstants.Progress as decoder_
 use Rattle.jillapun_c.specs.declared.report.TheConstants.Report as report_
-use Rattle.jillapun_c.specs.declared.status.TheConstants.{LOSSY, ROOM, SNIFF, REMOVE, KEEP, DECIMAL, HEXADECIMAL, STOP, NO_ENCODING, INPUT_EMPTY, OUTPUT_FULL, UNMAPPABLE}
+use Rattle.jillapun_c.specs.declared.status.TheConstants.{OK, LOSSY, UNKNOWN, NOT_READY, BAD_INDEX, NO_MEMORY, CLOSED, IN_USE, FINISHED, NOT_UTF8, ROOM, GOES_ON, STOPPED, TOO_LONG, NOT_WELL_FORMED}
+use Rattle.jillapun_c.specs.declared.status.TheConstants.{INPUT_EMPTY, OUTPUT_FULL, MALFORMED, UNMAPPABLE, BAD, LOST, LATIN1, LEFT_TO_RIGHT, BIDI}
+use Rattle.jillapun_c.specs.declared.status.TheConstants.{SNIFF, REMOVE, KEEP, DECIMAL, HEXADECIMAL, STOP, NO_ENCODING}
+
+-- the statuses, each with a number of its own
+pub statuses : OK ∷ LOSSY ∷ UNKNOWN ∷ NOT_READY ∷ BAD_INDEX ∷ NO_MEMORY ∷ CLOSED ∷ IN_USE ∷ FINISHED ∷ NOT_UTF8 ∷ ROOM ∷ GOES_ON ∷ STOPPED ∷ TOO_LONG ∷ NOT_WELL_FORMED ∷ []
+    ≡ 0 ∷ 1 ∷ 2 ∷ 3 ∷ 4 ∷ 5 ∷ 6 ∷ 7 ∷ 8 ∷ 9 ∷ 10 ∷ 11 ∷ 12 ∷ 13 ∷ 14 ∷ []
+statuses = refl
+
+-- the outcomes of a call, the entries of a list of losses, and what a text is for layout
+pub outcomes : INPUT_EMPTY ∷ OUTPUT_FULL ∷ MALFORMED ∷ UNMAPPABLE ∷ [] ≡ 0 ∷ 1 ∷ 2 ∷ 3 ∷ []
+outcomes = refl
+
+pub entries : BAD ∷ LOST ∷ [] ≡ 0 ∷ 1 ∷ []
+entries = refl
+
+pub layouts : LATIN1 ∷ LEFT_TO_RIGHT ∷ BIDI ∷ [] ≡ 0 ∷ 1 ∷ 2 ∷ []
+layouts = refl
 
 -- the numbers of encodings: the first, the last, and none after it
 pub first_encoding : encoding_at 0 ≡ Some Encoding.Big5
