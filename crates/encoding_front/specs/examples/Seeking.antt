@@ -1,5 +1,6 @@
 -- Worked rows of `specs/calls/Seeking.antt`.
-use Rattle.std.specs.Prelude.{◌≡◌, true, false, [], ◌∷◌, map, replicate, refl}
+use Rattle.std.specs.Prelude.{◌≡◌, ℕ, true, false, [], ◌∷◌, map, replicate, refl}
+use Rattle.std.proofs.Common.{sym}
 use Rattle.encoding_mem.specs.Piece.{well_formed}
 use Rattle.encoding_mem.specs.Pieces.{pieces_in}
 use Rattle.encoding_mem.specs.declared.codec.room.OutputUnit.TheVariants.{Units, Bytes}
@@ -82,11 +83,17 @@ ef_was_read h = let none : 0xEF ∷ [] ≡ [] = h.held in cc
 sought_on : SeeksOn all_marks all_marks false []
 sought_on is = (refl, refl, refl)
 
+no_end : (byte : ℕ) → byte ∷ [] ≡ [] → ⊥
+no_end byte none = cc
+
 not_beside_unread : SeeksOn all_marks all_marks false (0xEF ∷ []) → ⊥
-not_beside_unread seeks = let none : 0xEF ∷ [] ≡ [] = (seeks refl).2 in cc
+not_beside_unread seeks = no_end 0xEF (seeks refl).2
+
+not_last : true ≡ false → ⊥
+not_last never = cc
 
 not_after_the_last : SeeksOn all_marks all_marks true [] → ⊥
-not_after_the_last seeks = let never : true ≡ false = (seeks refl).1 in cc
+not_after_the_last seeks = not_last (seeks refl).1
 
-no_more_is_sought : SeeksOn all_marks nothing_sought true (0xEF ∷ [])
-no_more_is_sought is = cc
+none_is_sought : SeeksOn all_marks nothing_sought true (0xEF ∷ [])
+none_is_sought is = absurd (not_last (sym is))
