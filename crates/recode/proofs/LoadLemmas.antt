@@ -1,5 +1,5 @@
 -- What is there after an index is loaded.
-use Rattle.std.proofs.Common.{◌≡◌, ◌≢◌, ◌⊎◌, ◌∙◌, ◌<◌, ℕ, suc, List, [], ◌∷◌, absurd, ap, refl, sym, arith, Option, None, Some, Bool, true, false, inl, inr, is_some, ◌++◌, drop, take, length, get_or}
+use Rattle.std.proofs.Common.{◌≡◌, ◌≢◌, ◌⊎◌, ◌∙◌, ◌<◌, ℕ, suc, List, [], ◌∷◌, ap, refl, subst, sym, arith, Option, None, Some, Bool, true, false, inl, inr, is_some, ◌++◌, drop, take, length, get_or}
 use Rattle.std.specs.Prelude.{if◌then◌else◌, IfSome, MatchOption, Result, Ok, Err, option_map}
 use Rattle.std.specs.Option.{option_or}
 use Rattle.std.specs.Bool.{MatchBool}
@@ -13,14 +13,16 @@ use Rattle.encoding_tables.specs.FileNames.{file_name_of}
 use Rattle.encoding_tables.specs.declared.table_fault.TableFault.{TableFault}
 use Rattle.encoding_tables.specs.declared.index_kind.IndexKind.{IndexKind}
 use Rattle.encoding_tables.specs.declared.index_kind.IndexKind.TheVariants.{Gb18030Ranges}
-use Rattle.encoding_front.specs.Encodings.{AreThere}
+use Rattle.encoding_front.specs.Encodings.{AreThere, HasLabel, IsReady, needs_of, output_encoding_of}
+use Rattle.encoding_front.specs.declared.encoding.Encoding.{Encoding}
 use Rattle.encoding_index.specs.IndexText.{memory_fault, text_list, text_rows}
 use Rattle.encoding_index.specs.declared.fault.IndexFault.{IndexFault}
 use Rattle.encoding_index.specs.declared.fault.LoadFault.{LoadFault}
 use Rattle.encoding_index.specs.declared.fault.LoadFault.TheVariants.{Text, Table}
 use Rattle.encoding_index.specs.Loads.{KeepsOtherKinds, Loads, load_fault, table_fault, text_fault}
 use Rattle.recode.specs.IndexFaults.{AddsOnly}
-use Rattle.recode.specs.Program.{AddsFromFiles, AreKept, AreOfFiles, FileTexts, IsOfFile, IsSameIndex}
+use Rattle.recode.specs.Program.{AddsFromFiles, AreKept, AreOfFiles, FileTexts, IsOfFile, IsSameIndex, NeedAnIndex}
+use Rattle.recode_words.specs.declared.words.Words.{Words}
 use Rattle.recode.specs.laws.KeptIndexes.{has_still}
 
 pub loaded_there : (new : IndexLists) (kind : IndexKind) (text : List ℕ) → Loads new kind text → has new kind ≡ true
@@ -73,6 +75,25 @@ pub there_at : (t : IndexLists) (kinds : List IndexKind) (i : ℕ) → i < lengt
 there_at t [] i within there = absurd (omega arith)
 there_at t (k ∷ ks) 0 within there = there.0
 there_at t (k ∷ ks) (suc i) within there = there_at t ks i (omega arith) there.1
+
+both_empty : (xs ys : List IndexKind) → xs ++ ys ≡ [] → (xs ≡ []) × (ys ≡ [])
+both_empty [] ys h = (refl, h)
+both_empty (x ∷ xs) ys h = cc
+
+none_lack : (t : IndexLists) (kinds : List IndexKind) → kinds ≡ [] → AreThere t kinds
+none_lack t kinds none = subst (AreThere t) (sym none) tt
+
+-- a source that is left alone if all indexes are there is so if none is needed
+pub is_alone : {S : Type 0} (old new : S) (w : Words) (t : IndexLists) (from to : Encoding) (kinds : List IndexKind) → kinds ≡ needs_of from ++ needs_of (output_encoding_of to)
+    → HasLabel from w.from.now → HasLabel to w.to.now → (IsReady t from → IsReady t (output_encoding_of to) → new ≡ old) → (new ≡ old) ⊎ NeedAnIndex w
+is_alone old new w t from to [] is from_label to_label once =
+    let none = both_empty (needs_of from) (needs_of (output_encoding_of to)) (sym is) in
+    inl (once (none_lack t (needs_of from) none.0) (none_lack t (needs_of (output_encoding_of to)) none.1))
+is_alone old new w t from to (kind ∷ kinds) is from_label to_label once =
+    inr record { from = from; to = to; from_label = from_label; to_label = to_label; needed = λ none. some_kind kind kinds (is ∙ none) }
+  where
+    some_kind : (kind : IndexKind) (kinds : List IndexKind) → kind ∷ kinds ≡ [] → ⊥
+    some_kind kind kinds none = cc
 
 -- a load that came to its end met no fault of the text
 no_fault : (text : Option IndexFault) (table : Option TableFault) → option_or (option_map Text text) (option_map Table table) ≡ None → text ≡ None

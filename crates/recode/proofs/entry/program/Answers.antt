@@ -1,9 +1,9 @@
-use Rattle.std.proofs.Common.{ℕ, List, Option, inl, inr, map}
+use Rattle.std.proofs.Common.{◌≡◌, ◌⊎◌, ℕ, List, Option, inl, inr, map}
 use Rattle.recode_words.specs.Request.{AsksFor}
 use Rattle.recode_words.specs.declared.request.Request.TheVariants.{Run}
 use Rattle.recode_words.specs.declared.words.Words.{Words}
 use Rattle.recode.specs.Devices.{Ports, ports}
-use Rattle.recode.specs.Program.{AnswersProgram, AnswersWords, FileTexts}
+use Rattle.recode.specs.Program.{AnswersProgram, AnswersWords, AskForFiles, FileTexts, NeedAnIndex}
 use Rattle.recode.proofs.entry.program.Goals as goal
 
 answers : {R W L : Type 0} (holds : FileTexts) (remaining : R → Option (List ℕ)) (contents : W → Option (List ℕ)) (logged : L → Option (List ℕ)) (before after : Ports R W L)
@@ -16,7 +16,15 @@ answers holds remaining contents logged before after words w status meant (inr (
 answers holds remaining contents logged before after words w status meant (inr (inr (j, job, files, converted))) =
     inr (inr (inr record { w = w; meant = meant; j = j; job = job; files = files; converted = converted }))
 
+alone : {S : Type 0} (old new : S) (words : List (List ℕ)) (w : Words) → AsksFor words (Run w) → (new ≡ old) ⊎ NeedAnIndex w → (new ≡ old) ⊎ AskForFiles words
+alone old new words w meant (inl same) = inl same
+alone old new words w meant (inr needs) = inr (w, meant, needs)
+
+pub returns-in-Ok-Run-clause-source : goal.returns-in-Ok-Run-clause-source
+returns-in-Ok-Run-clause-source g c =
+    alone c.args.source.now c.run_words.new.source (map (λ s. s.now) c.args.words.now) c.in-Ok-Run.words (rw c.in-Ok-Run.field-0-is at c.in-Ok-Run.ensures.ok) (rw c.in-Ok-Run.words-is at c.run_words.ensures.source)
+
 pub returns-in-Ok-Run-clause-answer : goal.returns-in-Ok-Run-clause-answer
 returns-in-Ok-Run-clause-answer g c =
     answers (g.S.IndexSource.holds c.args.source.now) g.R.Read.remaining g.W.Write.contents g.L.Write.contents (ports c.args.reader.now c.args.writer.now c.args.log.now) (ports c.run_words.new.reader c.run_words.new.writer c.run_words.new.log)
-    (map (λ s. s.now) c.args.words.now) c.in-Ok-Run.words c.run_words.result (rw c.in-Ok-Run.field-0-is at c.in-Ok-Run.ensures.ok) (rw c.in-Ok-Run.words-is at c.run_words.ensures)
+    (map (λ s. s.now) c.args.words.now) c.in-Ok-Run.words c.run_words.result (rw c.in-Ok-Run.field-0-is at c.in-Ok-Run.ensures.ok) (rw c.in-Ok-Run.words-is at c.run_words.ensures.answer)

@@ -2,7 +2,7 @@ use Rattle.std.proofs.Common.{◌≡◌, ◌⊎◌, ◌↔◌, ℕ, List, Option
 use Rattle.encoding_front.specs.Encodings.{HasLabel}
 use Rattle.encoding_front.specs.declared.encoding.Encoding.{Encoding}
 use Rattle.recode.specs.Program.{IsUnknown}
-use Rattle.recode.proofs.LoadLemmas.{adds_to_none, of_files_still}
+use Rattle.recode.proofs.LoadLemmas.{adds_to_none, is_alone, of_files_still}
 use Rattle.recode.proofs.entry.run_words.Goals as goal
 
 unknown_of : (r : Option Encoding) (label bytes : List ℕ) → bytes ≡ label → r ≡ None → ((e : Encoding) → (r ≡ Some e) ↔ HasLabel e bytes) → IsUnknown label
@@ -28,6 +28,24 @@ returns-in_default-for_label-clause-answer g c =
     refused c.refuse_label-in_default-for_label.result
     (inr (unknown_of c.for_label-2.result c.args.words.to.now c.as_bytes-2.result.now c.as_bytes-2.ensures.value c.in_default-for_label.is c.for_label-2.ensures))
     record { unread = refl; unwritten = refl; told = c.refuse_label-in_default-for_label.ensures.told } c.refuse_label-in_default-for_label.ensures.status
+
+pub returns-in_default-clause-source : goal.returns-in_default-clause-source
+returns-in_default-clause-source g c = inl refl
+
+pub returns-in_default-for_label-clause-source : goal.returns-in_default-for_label-clause-source
+returns-in_default-for_label-clause-source g c = inl refl
+
+pub returns-clause-source : goal.returns-clause-source
+returns-clause-source g c =
+    is_alone c.args.source.now c.load_both.new.source c.args.words c.new-tables.result c.in-Some.from c.in-Some-for_label.to _ refl
+    (known_of c.for_label.result c.args.words.from.now c.as_bytes.result.now c.in-Some.from c.as_bytes.ensures.value c.in-Some.is c.for_label.ensures)
+    (known_of c.for_label-2.result c.args.words.to.now c.as_bytes-2.result.now c.in-Some-for_label.to c.as_bytes-2.ensures.value c.in-Some-for_label.is c.for_label-2.ensures) c.load_both.ensures.once
+
+pub returns-in-Err-clause-source : goal.returns-in-Err-clause-source
+returns-in-Err-clause-source g c =
+    is_alone c.args.source.now c.load_both.new.source c.args.words c.new-tables.result c.in-Some.from c.in-Some-for_label.to _ refl
+    (known_of c.for_label.result c.args.words.from.now c.as_bytes.result.now c.in-Some.from c.as_bytes.ensures.value c.in-Some.is c.for_label.ensures)
+    (known_of c.for_label-2.result c.args.words.to.now c.as_bytes-2.result.now c.in-Some-for_label.to c.as_bytes-2.ensures.value c.in-Some-for_label.is c.for_label-2.ensures) c.load_both.ensures.once
 
 pub returns-clause-answer : goal.returns-clause-answer
 returns-clause-answer g c = inr (inr (
