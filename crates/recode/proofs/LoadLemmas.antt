@@ -1,5 +1,5 @@
 -- What is there after an index is loaded.
-use Rattle.std.proofs.Common.{◌≡◌, ◌≢◌, ◌⊎◌, ◌∙◌, ◌<◌, ℕ, suc, List, [], ◌∷◌, ap, refl, subst, sym, arith, Option, None, Some, Bool, true, false, inl, inr, is_some, ◌++◌, drop, take, length, get_or}
+use Rattle.std.proofs.Common.{◌≡◌, ◌≢◌, ◌⊎◌, ◌∙◌, ◌<◌, ℕ, zero, suc, List, [], ◌∷◌, ap, refl, subst, sym, arith, Option, None, Some, Bool, true, false, inl, inr, is_some, ◌++◌, drop, take, length, get_or}
 use Rattle.std.specs.Prelude.{if◌then◌else◌, IfSome, MatchOption, Result, Ok, Err, option_map}
 use Rattle.std.specs.Option.{option_or}
 use Rattle.std.specs.Bool.{MatchBool}
@@ -73,7 +73,7 @@ there_more t (k ∷ ks) kind there this = (there.0, there_more t ks kind there.1
 -- if all are there, so is each
 pub there_at : (t : IndexLists) (kinds : List IndexKind) (i : ℕ) → i < length kinds → AreThere t kinds → has t (get_or kinds i IndexKind.Ibm866) ≡ true
 there_at t [] i within there = absurd (omega arith)
-there_at t (k ∷ ks) 0 within there = there.0
+there_at t (k ∷ ks) zero within there = there.0
 there_at t (k ∷ ks) (suc i) within there = there_at t ks i (omega arith) there.1
 
 both_empty : (xs ys : List IndexKind) → xs ++ ys ≡ [] → (xs ≡ []) × (ys ≡ [])

@@ -1,5 +1,5 @@
 use Rattle.std.proofs.Common.{◌∙◌}
-use Rattle.encoding_front.specs.Encodings.{needs_of, output_encoding_of}
+use Rattle.encoding_front.specs.Encodings.{needs_of}
 use Rattle.recode.specs.laws.KeptIndexes.{there_kept}
 use Rattle.recode.proofs.LoadLemmas.{adds_more}
 use Rattle.recode.proofs.ShellLemmas.{ok_of}
@@ -11,7 +11,7 @@ returns-clause-from g c =
 
 pub returns-clause-once : goal.returns-clause-once
 returns-clause-once g c = λ from to.
-    c.load_indexes-2.ensures.once (there_kept c.args.tables.now c.load_indexes.new.tables (needs_of (output_encoding_of c.args.to)) c.load_indexes.ensures.files.kept to) ∙ c.load_indexes.ensures.once from
+    c.load_indexes-2.ensures.once (there_kept c.args.tables.now c.load_indexes.new.tables (needs_of c.output_encoding.result) c.load_indexes.ensures.files.kept (rw c.output_encoding.ensures to)) ∙ c.load_indexes.ensures.once from
 
 pub returns-clause-files : goal.returns-clause-files
 returns-clause-files g c =
