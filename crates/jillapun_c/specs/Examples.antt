@@ -1,5 +1,6 @@
 -- The numbers and the words of the definitions, worked.
-use Rattle.std.proofs.Common.{arith, inl, inr}
+use Rattle.std.proofs.Common.{◌≢◌, arith, inl, inr}
+use Rattle.std.proofs.lemmas.List.Elements.{All-head, All-nil, All-push}
 use Rattle.std.specs.Prelude.{◌≡◌, ℕ, Bool, true, false, None, Some, List, [], ◌∷◌, codes, refl}
 use lib.Utf8.{encode}
 use Rattle.std.specs.Fmt.{digits}
@@ -122,13 +123,17 @@ refused_table_is_told = refl
 
 -- two files of one name are of one index, whatever their texts
 abbrev file : (name text : List ℕ) → IndexFile
-file name text = record { name = record { ref_ptr = (0, 0); ghost_name = 0; now = name }; text = record { ref_ptr = (0, 0); ghost_name = 0; now = text } }
+file name text = record { name = record { ref_ptr = (0, 0); now = name }; text = record { ref_ptr = (0, 0); now = text } }
 
-pub names_of_their_own : HaveOwnNames (file (0x61 ∷ []) [] ∷ file (0x62 ∷ []) [] ∷ [])
-names_of_their_own = (((λ is. cc), tt), tt, tt)
+-- a file has another name than this one
+abbrev has_not : (name : List ℕ) → IndexFile → Type 0
+has_not name later = later.name.now ≢ name
+
+pub names_of_their_own : HaveOwnNames (file (0x61 ∷ []) [] ∷ file (0x61 ∷ 0x62 ∷ []) [] ∷ [])
+names_of_their_own = (All-push (has_not (0x61 ∷ [])) [] (file (0x61 ∷ 0x62 ∷ []) []) (All-nil (has_not (0x61 ∷ []))) (λ is. cc), (All-nil (has_not (0x61 ∷ 0x62 ∷ [])), tt))
 
 pub one_name_twice : HaveOwnNames (file (0x61 ∷ []) [] ∷ file (0x61 ∷ []) (0x0A ∷ []) ∷ []) → ⊥
-one_name_twice apart = apart.0.0 refl
+one_name_twice apart = All-head (has_not (0x61 ∷ [])) (file (0x61 ∷ []) (0x0A ∷ [])) [] apart.0 refl
 
 -- what calls report that refuse: zeros
 pub nothing_is_decoded : decoder_.NONE ≡ record { read = 0; written = 0; outcome = 0; malformed_length = 0; malformed_after = 0; had_errors = false }
