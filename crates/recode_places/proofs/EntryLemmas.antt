@@ -1,7 +1,7 @@
 -- What was reported stays true of more pieces and of more text, and reports add up.
-use Rattle.std.proofs.Common.{◌≡◌, ℕ, List, [], ◌∷◌, ◌++◌, Option, Some, None, sym, ◌∙◌, ap, subst, append_assoc, append-nil}
+use Rattle.std.proofs.Common.{◌≡◌, ◌≤◌, ◌<◌, ℕ, suc, arith, List, [], ◌∷◌, ◌++◌, Option, Some, None, Result, Ok, Err, IsErrAnd, sym, ◌∙◌, ap, subst, append_assoc, append-nil}
 use Rattle.encoding_mem.specs.Piece.{Piece, malformed}
-use Rattle.recode_places.specs.Entries.{AreTrue, HasOneMore, IsFoundAt, TellsTrue}
+use Rattle.recode_places.specs.Entries.{AreRising, AreTrue, HasOneMore, IsFoundAt, RisesTo, TellsRising, TellsTrue}
 use Rattle.recode_places.specs.declared.entry.Entry.{Entry}
 use Rattle.recode_places.specs.declared.entry.Finding.{Finding}
 use Rattle.recode_places.specs.declared.entry.Finding.TheVariants.{Malformed, Lost, Folded}
@@ -52,3 +52,32 @@ tells_on ps t u w a b c h k =
 pub tells_prefix : (ps : List Piece) (t u rest all : List ℕ) (a b : Option (List Entry)) → all ≡ u ++ rest → TellsTrue ps (t ++ u) a b → TellsTrue ps (t ++ all) a b
 tells_prefix ps t u rest all a b e h =
     subst (λ x. TellsTrue ps x a b) (append_assoc t u rest ∙ ap (λ x. t ++ x) (sym e)) (tells_longer ps (t ++ u) rest a b h)
+
+-- ---- entries in their order
+
+rising_lower : (i j k : ℕ) (es : List Entry) → i ≤ j → AreRising j k es → AreRising i k es
+rising_lower i j k [] h l = omega (arith, h, l)
+rising_lower i j k (e ∷ es) h l = (omega (arith, h, l.0), l.1)
+
+rising_append : (i j k : ℕ) (es fs : List Entry) → AreRising i j es → AreRising j k fs → AreRising i k (es ++ fs)
+rising_append i j k [] fs h l = rising_lower i j k fs h l
+rising_append i j k (e ∷ es) fs h l = (h.0, rising_append (suc e.place.index) j k es fs h.1 l)
+
+pub rising_none : (from to : ℕ) (a : Option (List Entry)) → from ≤ to → TellsRising from to a a
+rising_none from to None h = tt
+rising_none from to (Some es) h = ([], ap Some (sym (append-nil es)), h)
+
+pub rising_one : (from to : ℕ) (a b : Option (List Entry)) (e : Entry) → HasOneMore a b e → from ≤ e.place.index → suc e.place.index ≤ to → TellsRising from to a b
+rising_one from to None b e h k l = tt
+rising_one from to (Some es) b e h k l = (e ∷ [], h, (k, l))
+
+pub rising_then : (i j k : ℕ) (a b c : Option (List Entry)) → TellsRising i j a b → TellsRising j k b c → TellsRising i k a c
+rising_then i j k None b c h l = tt
+rising_then i j k (Some es) b c h l =
+    let next = subst (λ x. TellsRising j k x c) h.1 l in
+    (h.0 ++ next.0, next.1 ∙ ap Some (append_assoc es h.0 next.0), rising_append i j k h.0 next.0 h.2 next.2)
+
+-- an error that is handed on
+pub rises_err : {T E : Type 0} (r : Result T E) (e : E) (from to n : ℕ) (a b : Option (List Entry)) → IsErrAnd r (λ x. x ≡ e) → TellsRising from n a b → RisesTo r from to a b
+rises_err (Ok x) e from to n a b same h = absurd same
+rises_err (Err x) e from to n a b same h = (n, h)

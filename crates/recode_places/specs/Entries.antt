@@ -1,5 +1,5 @@
 -- Which entries are true of an input.
-use Rattle.std.specs.Prelude.{◌≡◌, ℕ, List, [], ◌∷◌, ◌++◌, Option, Some, IfSome}
+use Rattle.std.specs.Prelude.{◌≡◌, ◌≤◌, ℕ, suc, List, [], ◌∷◌, ◌++◌, Option, Some, IfSome, Result, Ok, Err}
 use Rattle.encoding_mem.specs.Piece.{Piece, malformed, sizes, text}
 use Rattle.recode_places.specs.Places.{IsPlaceAfter}
 use Rattle.recode_places.specs.declared.entry.Entry.{Entry}
@@ -37,6 +37,24 @@ TellsTrue ps t told told' = IfSome told (λ es. (more : List Entry) × (told' �
 -- a visitor was handed entries that are true of an input of these pieces
 abbrev pub TellsTrueIn : List Piece → (told told' : Option (List Entry)) → Type 0
 TellsTrueIn ps told told' = TellsTrue ps (text ps) told told'
+
+-- entries stand at characters of their own, in their order: from the one with this index on, and before that one
+abbrev pub AreRising : (from to : ℕ) → List Entry → Type 0
+AreRising from to [] = from ≤ to
+AreRising from to (e ∷ es) = (from ≤ e.place.index) × AreRising (suc e.place.index) to es
+
+-- a visitor that says which entries it was handed was handed some more, which stand so
+abbrev pub TellsRising : (from to : ℕ) → (told told' : Option (List Entry)) → Type 0
+TellsRising from to told told' = IfSome told (λ es. (more : List Entry) × (told' ≡ Some (es ++ more)) × AreRising from to more)
+
+-- a visitor was handed entries of characters of their own, in their order
+abbrev pub TellsInOrder : (told told' : Option (List Entry)) → Type 0
+TellsInOrder told told' = (end : ℕ) × TellsRising 0 end told told'
+
+-- A call handed over entries in their order, from a character on: those before another one if it succeeded.
+abbrev pub RisesTo : {T E : Type 0} → Result T E → (from to : ℕ) → (told told' : Option (List Entry)) → Type 0
+RisesTo (Ok x) from to told told' = TellsRising from to told told'
+RisesTo (Err e) from to told told' = (end : ℕ) × TellsRising from end told told'
 
 -- what is found is this character, lost or folded
 abbrev pub IsOfCharacter : ℕ → Finding → Type 0

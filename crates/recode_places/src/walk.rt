@@ -9,7 +9,7 @@ ghost use Rattle.encoding_mem.specs.Piece.{Piece, malformed, sizes, text};
 ghost use Rattle.encoding_front.specs.Encodings.{IsReady};
 ghost use Rattle.encoding_front.specs.Marks.{marked_pieces};
 ghost use Rattle.recode_places.specs.Places.{IsPlaceAfter};
-ghost use Rattle.recode_places.specs.Entries.{TellsTrue, TellsTrueIn};
+ghost use Rattle.recode_places.specs.Entries.{RisesTo, TellsInOrder, TellsTrue, TellsTrueIn};
 ghost use Rattle.recode_places.specs.Findings.{TellsFound, found_in, found_in_text};
 ghost use Rattle.recode_places.specs.Fits.{Fits, FitsFrom, GoesOn, IsLeftOfLog, IsNotUnfit};
 ghost use Rattle.recode_places.specs.Logs.{TellsLines, bytes, ended};
@@ -106,8 +106,10 @@ fn tell_character<L: Read, V: Visitor>(
     ensures index { OnOk result (place.new.index ≡ place.old.index + 1) }
     ensures lines { OnOk result (TellsLines (choice_left L.remaining choice.old)
         (choice_left L.remaining choice.new) (V.told visitor.old) (V.told visitor.new)) }
-    ensures fates { OnOk result (TellsFates (asked_by choice.old) (asked_by choice.new)
-        (V.told visitor.old) (V.told visitor.new)) }
+    ensures fates { TellsFates (asked_by choice.old) (asked_by choice.new)
+        (V.told visitor.old) (V.told visitor.new) }
+    ensures rising { RisesTo result place.old.index place.new.index
+        (V.told visitor.old) (V.told visitor.new) }
     ensures finds { OnOk result (TellsFound (asked_by choice.old)
         (found_in_text (asked_by choice.old) place.old.index (c ∷ [])) []
         (V.told visitor.old) (V.told visitor.new)) }
@@ -145,8 +147,10 @@ fn tell_text<L: Read, V: Visitor>(
     ensures index { OnOk result (place.new.index ≡ place.old.index + length (chars text.now)) }
     ensures lines { OnOk result (TellsLines (choice_left L.remaining choice.old)
         (choice_left L.remaining choice.new) (V.told visitor.old) (V.told visitor.new)) }
-    ensures fates { OnOk result (TellsFates (asked_by choice.old) (asked_by choice.new)
-        (V.told visitor.old) (V.told visitor.new)) }
+    ensures fates { TellsFates (asked_by choice.old) (asked_by choice.new)
+        (V.told visitor.old) (V.told visitor.new) }
+    ensures rising { RisesTo result place.old.index place.new.index
+        (V.told visitor.old) (V.told visitor.new) }
     ensures finds { OnOk result (TellsFound (asked_by choice.old)
         (found_in_text (asked_by choice.old) place.old.index (chars text.now)) []
         (V.told visitor.old) (V.told visitor.new)) }
@@ -179,8 +183,10 @@ fn tell_malformed<L: Read, V: Visitor>(
         → TellsTrueIn (ps ++ (malformed length ∷ [])) (V.told visitor.old) (V.told visitor.new) }
     ensures lines { OnOk result (TellsLines (choice_left L.remaining choice.old)
         (choice_left L.remaining choice.new) (V.told visitor.old) (V.told visitor.new)) }
-    ensures fates { OnOk result (TellsFates (asked_by choice.old) (asked_by choice.new)
-        (V.told visitor.old) (V.told visitor.new)) }
+    ensures fates { TellsFates (asked_by choice.old) (asked_by choice.new)
+        (V.told visitor.old) (V.told visitor.new) }
+    ensures rising { RisesTo result place.index (place.index + 1)
+        (V.told visitor.old) (V.told visitor.new) }
     ensures finds { OnOk result (TellsFound (asked_by choice.old)
         ((place.index, Finding.Malformed offset length) ∷ []) []
         (V.told visitor.old) (V.told visitor.new)) }
@@ -216,8 +222,10 @@ impl<'t> Walk<'t> {
             (walk_state self.old) (walk_state self.new) chunk.now last p.read p.is_done) }
         ensures lines { OnOk result (TellsLines (choice_left L.remaining choice.old)
             (choice_left L.remaining choice.new) (V.told visitor.old) (V.told visitor.new)) }
-        ensures fates { OnOk result (TellsFates (asked_by choice.old) (asked_by choice.new)
-            (V.told visitor.old) (V.told visitor.new)) }
+        ensures fates { TellsFates (asked_by choice.old) (asked_by choice.new)
+            (V.told visitor.old) (V.told visitor.new) }
+        ensures rising { RisesTo result self.old.place.index self.new.place.index
+            (V.told visitor.old) (V.told visitor.new) }
         ensures finds { IfOk result (λ p. (r : List ℕ) → (last ≡ true → r ≡ [])
             → TellsPassed (asked_by choice.old) (walk_state self.old) (walk_state self.new)
             (chunk.now ++ r) (drop p.read chunk.now ++ r)
@@ -275,8 +283,10 @@ impl<'t> Walk<'t> {
             (walk_state self.old) (walk_state self.new) chunk.now (has_ended chunk.now)) }
         ensures lines { OnOk result (TellsLines (choice_left L.remaining choice.old)
             (choice_left L.remaining choice.new) (V.told visitor.old) (V.told visitor.new)) }
-        ensures fates { OnOk result (TellsFates (asked_by choice.old) (asked_by choice.new)
-            (V.told visitor.old) (V.told visitor.new)) }
+        ensures fates { TellsFates (asked_by choice.old) (asked_by choice.new)
+            (V.told visitor.old) (V.told visitor.new) }
+        ensures rising { RisesTo result self.old.place.index self.new.place.index
+            (V.told visitor.old) (V.told visitor.new) }
         ensures finds { OnOk result ((r : List ℕ) → (has_ended chunk.now ≡ true → r ≡ [])
             → TellsPassed (asked_by choice.old) (walk_state self.old) (walk_state self.new)
             (chunk.now ++ r) r (V.told visitor.old) (V.told visitor.new)) }
@@ -305,10 +315,12 @@ impl<'t> Walk<'t> {
 /// Reads an input to its end, and hands the visitor its text, its malformed bytes, and an entry for
 /// each thing that is chosen, with its place. An entry is true, also if the call ends with an
 /// error: it names a malformed sequence, or a character of the text, of the whole input, read as
-/// `reading` says, and its place. On success, if the choice goes by a log, the log has the lines of
-/// the entries, in their order, and then its end: none was passed over. A character that is
-/// reported then is folded in the target that the choice asks, where folds are asked for, or lost
-/// there; or it is lost by its line in the log. On success, if the choice goes by no log, nothing
+/// `reading` says, and its place. A character that is reported is folded in the target that the
+/// choice asks, where folds are asked for, or lost there; or the choice goes by a log. Entries come
+/// in the order of the input, at most one of each character and of each malformed sequence.
+///
+/// On success, if the choice goes by a log, the log has the lines of the entries, in their order,
+/// and then its end: none was passed over. On success, if the choice goes by no log, nothing
 /// is left out: each malformed sequence is reported once, and so is each character that its target
 /// loses, or folds, if folds are asked for, each with its place, in the order of the input. The
 /// U+FFFD of a malformed sequence is not reported by itself.
@@ -330,8 +342,9 @@ pub fn tell_places<R: Read, L: Read, V: Visitor>(
         (V.told visitor.old) (V.told visitor.new)) }
     ensures lines { OnOk result (TellsLines (choice_left L.remaining choice.old) ended
         (V.told visitor.old) (V.told visitor.new)) }
-    ensures fates { OnOk result (TellsFates (asked_by choice.old) (asked_by choice.new)
-        (V.told visitor.old) (V.told visitor.new)) }
+    ensures fates { TellsFates (asked_by choice.old) (asked_by choice.new)
+        (V.told visitor.old) (V.told visitor.new) }
+    ensures rising { TellsInOrder (V.told visitor.old) (V.told visitor.new) }
     ensures finds { (x : List ℕ) → R.remaining reader.old ≡ Some x
         → OnOk result (TellsFound (asked_by choice.old) (found_in (asked_by choice.old) 0 0
         (marked_pieces reading.entry.tables.now reading.entry.mark reading.entry.from x)) []

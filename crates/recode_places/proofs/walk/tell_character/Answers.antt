@@ -1,10 +1,10 @@
-use Rattle.std.proofs.Common.{◌∷◌, ◌++◌, ◌∙◌, [], ap, subst, sym}
-use Rattle.recode_places.specs.Entries.{TellsTrue}
+use Rattle.std.proofs.Common.{◌∷◌, ◌+◌, ◌++◌, ◌∙◌, [], ap, arith, subst, sym}
+use Rattle.recode_places.specs.Entries.{TellsRising, TellsTrue}
 use Rattle.recode_places.specs.Findings.{TellsFound, found_in_text}
 use Rattle.recode_places.specs.Logs.{TakesLines, TellsLines}
 use Rattle.recode_places.specs.calls.FatesViews.{IsToldOf, TellsFates, asked_by}
 use Rattle.recode_places.specs.calls.LogViews.{NamesFound, TakesSome, choice_left}
-use Rattle.recode_places.proofs.EntryLemmas.{tells_nothing}
+use Rattle.recode_places.proofs.EntryLemmas.{rises_err, rising_none, rising_one, tells_nothing}
 use Rattle.recode_places.proofs.FatedLemmas.{fated_none, fated_one}
 use Rattle.recode_places.proofs.FoundLemmas.{found_nothing, found_one}
 use Rattle.recode_places.proofs.ReadsLemmas.{lines_none, lines_one}
@@ -25,6 +25,23 @@ returns-clause-fates g c =
           subst (TellsFates a b (g.V.Visitor.told c.args.visitor.now)) (sym (c.characters.ensures ∙ ap g.V.Visitor.told w.visitor-is))
           (fated_none a b _ same)
     ]
+
+pub returns-in_err-entry-in-Some-clause-rising : goal.returns-in_err-entry-in-Some-clause-rising
+returns-in_err-entry-in-Some-clause-rising g c =
+    rises_err _ _ _ _ c.args.place.now.index _ _ c.from_residual-in_err-entry-in-Some.ensures.1
+    (subst (TellsRising c.args.place.now.index c.args.place.now.index (g.V.Visitor.told c.args.visitor.now)) (sym c.in_err-entry-in-Some.ensures.err) (rising_none _ _ _ (omega arith)))
+
+pub returns-in_err-characters-clause-rising : goal.returns-in_err-characters-clause-rising
+returns-in_err-characters-clause-rising g c =
+    let i = c.args.place.now.index in
+    let rises = TellsRising i (i + 1) (g.V.Visitor.told c.args.visitor.now) in
+    rises_err _ _ _ _ (i + 1) _ _ c.from_residual-in_err-characters.ensures.1 (elim c.match-branch-2.branch [
+      | in-Some+in_ok-entry-in-Some w ↦
+          subst rises (sym (c.characters.ensures ∙ ap g.V.Visitor.told w.visitor-is))
+          (rising_one i (i + 1) _ _ (record { place = c.args.place.now; finding = w.in-Some.finding }) w.in_ok-entry-in-Some.ensures.ok (omega arith) (omega arith))
+      | in-None w ↦
+          subst rises (sym (c.characters.ensures ∙ ap g.V.Visitor.told w.visitor-is)) (rising_none i (i + 1) _ (omega arith))
+    ])
 
 pub returns-clause-lines : goal.returns-clause-lines
 returns-clause-lines g c =

@@ -6,6 +6,7 @@ use Rattle.recode_places.specs.calls.LogViews.{choice_left}
 use Rattle.recode_places.specs.calls.Walks.{FitsAhead, walk_state}
 use Rattle.recode_places.proofs.AheadLemmas.{ahead_new, at_end, consumed, ends_ahead, if_err, if_ok, tells_all, tells_read}
 use Rattle.recode_places.specs.calls.FatesViews.{asked_by}
+use Rattle.recode_places.proofs.EntryLemmas.{rising_none, rising_then}
 use Rattle.recode_places.proofs.FatedLemmas.{fated_none, fated_then, if_ok_anyway}
 use Rattle.recode_places.proofs.FoundLemmas.{found_none}
 use Rattle.recode_places.proofs.ReadsLemmas.{finished_lines, lines_none, lines_then, reads_nothing}
@@ -13,7 +14,7 @@ use Rattle.recode_places.proofs.WalkLemmas.{stops_known, tells_known, walks_from
 use Rattle.recode_places.proofs.walk.tell_places.Goals as goal
 
 pub input-init : goal.input-init
-input-init g c = record { walks = walks_new _ _ _; lines = lines_none _ _ _ (reads_nothing _); fates = fated_none (asked_by c.args.choice.now) (asked_by c.args.choice.now) _ refl; finds = λ x e. (x, e, found_none (asked_by c.args.choice.now) _ _ _ refl); fits = λ x e h. (x, e, h); ready = record { open_ = c.new.ensures.begins.open_; within = omega (arith, c.new.ensures.begins.pending, c.first.ensures.index) }; few = omega arith }
+input-init g c = record { walks = walks_new _ _ _; lines = lines_none _ _ _ (reads_nothing _); fates = fated_none (asked_by c.args.choice.now) (asked_by c.args.choice.now) _ refl; rising = rising_none _ _ _ (omega arith); finds = λ x e. (x, e, found_none (asked_by c.args.choice.now) _ _ _ refl); fits = λ x e h. (x, e, h); ready = record { open_ = c.new.ensures.begins.open_; within = omega (arith, c.new.ensures.begins.pending, c.first.ensures.index) }; few = omega arith }
 
 pub returns-in_default-clause-told : goal.returns-in_default-clause-told
 returns-in_default-clause-told g c = tells_known _ _ _ _ (record { place = c.first.ensures; read = omega (arith, c.new.ensures.begins.pending) }) c.new.ensures.begins.pieces _ _ _ c.input.invariant.walks
@@ -39,7 +40,24 @@ returns-then-count-eq0-clause-told g c =
     c.in-Ok.ensures.bytes.0 (λ h. c.in-Ok.ensures.bytes.1 (c.in-Ok.ensures.bound.1 ∙ eqb-true _ 0 h) (omega (arith, c.read.auto.buf))) c.in_ok-chunk.ensures.chunk.walks)
 
 pub returns-then-count-eq0-clause-fates : goal.returns-then-count-eq0-clause-fates
-returns-then-count-eq0-clause-fates g c = if_ok_anyway _ _ (fated_then _ _ _ _ _ _ c.input.invariant.fates c.in_ok-chunk.ensures.fates)
+returns-then-count-eq0-clause-fates g c = fated_then _ _ _ _ _ _ c.input.invariant.fates c.in_ok-chunk.ensures.fates
+
+pub returns-in_err-chunk-clause-fates : goal.returns-in_err-chunk-clause-fates
+returns-in_err-chunk-clause-fates g c = fated_then _ _ _ _ _ _ c.input.invariant.fates c.in_err-chunk.ensures.fates
+
+pub returns-in_default-clause-rising : goal.returns-in_default-clause-rising
+returns-in_default-clause-rising g c = (c.input.walk.place.index, c.input.invariant.rising)
+
+pub returns-then-count-walk-clause-rising : goal.returns-then-count-walk-clause-rising
+returns-then-count-walk-clause-rising g c = (c.input.walk.place.index, c.input.invariant.rising)
+
+pub returns-then-count-eq0-clause-rising : goal.returns-then-count-eq0-clause-rising
+returns-then-count-eq0-clause-rising g c = (c.chunk.new.self.place.index, rising_then _ _ _ _ _ _ c.input.invariant.rising c.in_ok-chunk.ensures.rising)
+
+pub returns-in_err-chunk-clause-rising : goal.returns-in_err-chunk-clause-rising
+returns-in_err-chunk-clause-rising g c =
+    let e = c.in_err-chunk.ensures.rising in
+    (e.0, rising_then _ _ _ _ _ _ c.input.invariant.rising e.1)
 
 pub returns-then-count-eq0-clause-lines : goal.returns-then-count-eq0-clause-lines
 returns-then-count-eq0-clause-lines g c = finished_lines _ _ _ _ _ (lines_then _ _ _ _ _ _ c.input.invariant.lines c.in_ok-chunk.ensures.lines) c.finish.ensures.lines
@@ -68,6 +86,7 @@ input-preserved g c =
           );
       lines = lines_then _ _ _ _ _ _ c.input.invariant.lines c.in_ok-chunk.ensures.lines;
       fates = fated_then _ _ _ _ _ _ c.input.invariant.fates c.in_ok-chunk.ensures.fates;
+      rising = rising_then _ _ _ _ _ _ c.input.invariant.rising c.in_ok-chunk.ensures.rising;
       ready = record { open_ = chunk.more (ne_eqb (length (take c.in-Ok.count c.read.new.buf)) 0 (omega (arith, c.in-Ok.ensures.bound.1, c.if-count-eq0.false))); within = chunk.walks.within c.input.invariant.ready.within };
       few = omega (arith, chunk.walks.read, c.if-count-walk.false, c.in-Ok.ensures.bound.1, c.input.invariant.few);
     }

@@ -8,7 +8,7 @@ use Rattle.recode_places.specs.calls.FatesViews.{asked_by}
 use Rattle.recode_places.specs.calls.LogViews.{choice_left}
 use Rattle.recode_places.proofs.CallLemmas.{few_chars}
 use Rattle.recode_places.proofs.FitsLemmas.{goes_err}
-use Rattle.recode_places.proofs.EntryLemmas.{tells_on, tells_prefix}
+use Rattle.recode_places.proofs.EntryLemmas.{rises_err, rising_then, tells_on, tells_prefix}
 use Rattle.recode_places.proofs.FatedLemmas.{fated_then}
 use Rattle.recode_places.proofs.FoundLemmas.{found_none, found_on, kept_found}
 use Rattle.recode_places.proofs.ReadsLemmas.{lines_then}
@@ -27,6 +27,7 @@ loop-c-preserved g c =
           (e.fits o rest ps (i.fits o (c.in-Some.c ∷ rest) ps (subst (λ t. IsLeftOfLog (FitsFrom c.args.place.now.index o t ps) (choice_left g.L.Read.remaining c.args.choice.now)) (append_assoc c.loop-c.yielded (c.in-Some.c ∷ []) rest) h)));
       lines = lines_then _ _ _ _ _ _ i.lines e.lines;
       fates = fated_then _ _ _ _ _ _ i.fates e.fates;
+      rising = rising_then _ _ _ _ _ _ i.rising e.rising;
       finds = found_on (asked_by c.args.choice.now) (asked_by c.loop-c.choice) c.args.place.now.index _ c.loop-c.yielded (c.in-Some.c ∷ []) _ _ _ i.fates.0 i.index i.finds e.finds;
       told = λ ps t p. tells_on ps t c.loop-c.yielded (c.in-Some.c ∷ []) _ _ _ (i.told ps t p) (e.told ps (t ++ c.loop-c.yielded) (i.place t p));
     }
@@ -41,6 +42,14 @@ returns-in_err-tell_character-clause-told g c =
     (YieldsList-turn listed c.loop-c.yielded _ c.loop-c.yielded_by _ _ c.in-Some.c c.in-Some.is c.next.ensures.steps) in
     λ ps t p. tells_prefix ps t (c.loop-c.yielded ++ (c.in-Some.c ∷ [])) passed.0 (chars c.args.text.now) _ _ passed.1
     (tells_on ps t c.loop-c.yielded (c.in-Some.c ∷ []) _ _ _ (i.told ps t p) (e.told ps (t ++ c.loop-c.yielded) (i.place t p)))
+
+pub returns-in_err-tell_character-clause-fates : goal.returns-in_err-tell_character-clause-fates
+returns-in_err-tell_character-clause-fates g c = fated_then _ _ _ _ _ _ c.loop-c.invariant.fates c.in_err-tell_character.ensures.fates
+
+pub returns-in_err-tell_character-clause-rising : goal.returns-in_err-tell_character-clause-rising
+returns-in_err-tell_character-clause-rising g c =
+    let e = c.in_err-tell_character.ensures.rising in
+    rises_err _ _ _ _ e.0 _ _ c.from_residual-in_err-tell_character.ensures.1 (rising_then _ _ _ _ _ _ c.loop-c.invariant.rising e.1)
 
 pub returns-clause-told : goal.returns-clause-told
 returns-clause-told g c =

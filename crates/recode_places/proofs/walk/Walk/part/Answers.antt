@@ -1,4 +1,4 @@
-use Rattle.std.proofs.Common.{◌∙◌, ◌++◌, drop, arith, refl, sym, length, ap}
+use Rattle.std.proofs.Common.{◌∙◌, ◌+◌, ◌++◌, drop, arith, refl, sym, length, ap}
 use Rattle.encoding_front.specs.calls.DecoderViews.{decoder_view}
 use Rattle.encoding_front.specs.calls.Stream.{is_input_empty}
 use Rattle.recode_places.specs.calls.FatesViews.{asked_by}
@@ -7,6 +7,7 @@ use Rattle.std.proofs.lemmas.Bool.{false≢true}
 use Rattle.std.proofs.lemmas.List.{length-take}
 use Rattle.recode_places.proofs.CallLemmas.{call_chars, call_is_utf8, few_chars, on_err, reported}
 use Rattle.recode_places.proofs.AheadLemmas.{ahead_done, ahead_malformed, ahead_passed, ahead_text, offset_after, some_bytes, tells_done, tells_malformed}
+use Rattle.recode_places.proofs.EntryLemmas.{rises_err, rising_then}
 use Rattle.recode_places.proofs.FitsLemmas.{match_err}
 use Rattle.recode_places.proofs.FatedLemmas.{fated_then}
 use Rattle.recode_places.proofs.ReadsLemmas.{lines_then}
@@ -119,6 +120,32 @@ returns-in_ok-malformed-in-Malformed-clause-part g c =
 pub returns-in_ok-malformed-in-Malformed-clause-fates : goal.returns-in_ok-malformed-in-Malformed-clause-fates
 returns-in_ok-malformed-in-Malformed-clause-fates g c =
     rw c.in_ok-malformed-in-Malformed.ensures (fated_then _ _ _ _ _ _ c.in_ok-tell_text.ensures.fates c.in_ok-tell_malformed-in-Malformed.ensures.fates)
+
+pub returns-in_err-tell_malformed-in-Malformed-clause-fates : goal.returns-in_err-tell_malformed-in-Malformed-clause-fates
+returns-in_err-tell_malformed-in-Malformed-clause-fates g c = fated_then _ _ _ _ _ _ c.in_ok-tell_text.ensures.fates c.in_err-tell_malformed-in-Malformed.ensures.fates
+
+pub returns-in_err-malformed-in-Malformed-clause-fates : goal.returns-in_err-malformed-in-Malformed-clause-fates
+returns-in_err-malformed-in-Malformed-clause-fates g c =
+    rw c.in_err-malformed-in-Malformed.ensures (fated_then _ _ _ _ _ _ c.in_ok-tell_text.ensures.fates c.in_ok-tell_malformed-in-Malformed.ensures.fates)
+
+pub returns-in_err-tell_text-clause-rising : goal.returns-in_err-tell_text-clause-rising
+returns-in_err-tell_text-clause-rising g c =
+    let e = c.in_err-tell_text.ensures.rising in
+    rises_err _ _ _ _ e.0 _ _ c.from_residual.ensures.1 e.1
+
+pub returns-in_err-tell_malformed-in-Malformed-clause-rising : goal.returns-in_err-tell_malformed-in-Malformed-clause-rising
+returns-in_err-tell_malformed-in-Malformed-clause-rising g c =
+    let e = c.in_err-tell_malformed-in-Malformed.ensures.rising in
+    rises_err _ _ _ _ e.0 _ _ c.from_residual-in_err-tell_malformed-in-Malformed.ensures.1 (rising_then _ _ _ _ _ _ c.in_ok-tell_text.ensures.rising e.1)
+
+pub returns-in_err-malformed-in-Malformed-clause-rising : goal.returns-in_err-malformed-in-Malformed-clause-rising
+returns-in_err-malformed-in-Malformed-clause-rising g c =
+    rises_err _ _ _ _ (c.tell_text.new.place.index + 1) _ _ c.from_residual-in_err-malformed-in-Malformed.ensures.1
+    (rw c.in_err-malformed-in-Malformed.ensures (rising_then _ _ _ _ _ _ c.in_ok-tell_text.ensures.rising c.in_ok-tell_malformed-in-Malformed.ensures.rising))
+
+pub returns-in_ok-malformed-in-Malformed-clause-rising : goal.returns-in_ok-malformed-in-Malformed-clause-rising
+returns-in_ok-malformed-in-Malformed-clause-rising g c =
+    rw (c.in_ok-malformed-in-Malformed.ensures, c.pass.ensures.index) (rising_then _ _ _ _ _ _ c.in_ok-tell_text.ensures.rising c.in_ok-tell_malformed-in-Malformed.ensures.rising)
 
 pub returns-in_ok-malformed-in-Malformed-clause-lines : goal.returns-in_ok-malformed-in-Malformed-clause-lines
 returns-in_ok-malformed-in-Malformed-clause-lines g c =
