@@ -42,19 +42,19 @@ use Rattle.jillapun_c.specs.declared.status.TheConstants.{INPUT_EMPTY, OUTPUT_FU
 use Rattle.jillapun_c.specs.declared.status.TheConstants.{SNIFF, REMOVE, KEEP, DECIMAL, HEXADECIMAL, STOP, NO_ENCODING}
 
 -- the statuses, each with a number of its own
-pub statuses : OK ∷ LOSSY ∷ UNKNOWN ∷ NOT_READY ∷ BAD_INDEX ∷ NO_MEMORY ∷ CLOSED ∷ IN_USE ∷ FINISHED ∷ NOT_UTF8 ∷ ROOM ∷ GOES_ON ∷ STOPPED ∷ TOO_LONG ∷ NOT_WELL_FORMED ∷ []
+pub status_numbers : OK ∷ LOSSY ∷ UNKNOWN ∷ NOT_READY ∷ BAD_INDEX ∷ NO_MEMORY ∷ CLOSED ∷ IN_USE ∷ FINISHED ∷ NOT_UTF8 ∷ ROOM ∷ GOES_ON ∷ STOPPED ∷ TOO_LONG ∷ NOT_WELL_FORMED ∷ []
     ≡ 0 ∷ 1 ∷ 2 ∷ 3 ∷ 4 ∷ 5 ∷ 6 ∷ 7 ∷ 8 ∷ 9 ∷ 10 ∷ 11 ∷ 12 ∷ 13 ∷ 14 ∷ []
-statuses = refl
+status_numbers = refl
 
 -- the outcomes of a call, the entries of a list of losses, and what a text is for layout
-pub outcomes : INPUT_EMPTY ∷ OUTPUT_FULL ∷ MALFORMED ∷ UNMAPPABLE ∷ [] ≡ 0 ∷ 1 ∷ 2 ∷ 3 ∷ []
-outcomes = refl
+pub outcome_numbers : INPUT_EMPTY ∷ OUTPUT_FULL ∷ MALFORMED ∷ UNMAPPABLE ∷ [] ≡ 0 ∷ 1 ∷ 2 ∷ 3 ∷ []
+outcome_numbers = refl
 
-pub entries : BAD ∷ LOST ∷ [] ≡ 0 ∷ 1 ∷ []
-entries = refl
+pub loss_numbers : BAD ∷ LOST ∷ [] ≡ 0 ∷ 1 ∷ []
+loss_numbers = refl
 
-pub layouts : LATIN1 ∷ LEFT_TO_RIGHT ∷ BIDI ∷ [] ≡ 0 ∷ 1 ∷ 2 ∷ []
-layouts = refl
+pub layout_numbers : LATIN1 ∷ LEFT_TO_RIGHT ∷ BIDI ∷ [] ≡ 0 ∷ 1 ∷ 2 ∷ []
+layout_numbers = refl
 
 -- the numbers of encodings: the first, the last, and none after it
 pub first_encoding : encoding_at 0 ≡ Some Encoding.Big5

@@ -225,8 +225,8 @@ fn run_words<S: IndexSource, R: Read, W: Write, L: Write>(
 /// A run looks up the label of `--from`, then that of `--to`. It reads the index files that the
 /// source and then the target's output encoding need, each once, and converts with buffers of 4096
 /// elements. The source is called for nothing else: not if neither needs an index, nor without a
-/// run. Each index is what its file in the folder of `--indexes` stands for, if the source
-/// says what the file holds (`IndexSource`). With `--pivot utf16` the text in between is UTF-16:
+/// run. Each index is what its file in the folder of `--indexes` stands for, if the source says
+/// what the file holds (`IndexSource`). With `--pivot utf16` the text in between is UTF-16:
 /// what is written is the same.
 ///
 /// The statuses 0, 1 and 4 are those of `convert`. Otherwise a message says why nothing was read:

@@ -142,8 +142,8 @@ fn load_index<S: IndexSource>(
 }
 
 /// Puts the indexes that the encoding needs into the tables, and no others, each once, in the order
-/// of `needs`. An index that is there already is not loaded again: it stays as it is, and if all
-/// are there, the source is not called. A new one is what a text without a fault stands for: that of
+/// of `needs`. An index that is there already is not loaded again: it stays as it is. If all are
+/// there, the source is not called. A new one is what a text without a fault stands for: that of
 /// its file in the folder `dir`, if the source says what the file holds.
 ///
 /// The error is that of the first whose file is missing or faulty, or at which memory was refused:

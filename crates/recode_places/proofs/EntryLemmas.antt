@@ -1,7 +1,7 @@
 -- What was reported stays true of more pieces and of more text, and reports add up.
 use Rattle.std.proofs.Common.{◌≡◌, ◌≤◌, ◌<◌, ℕ, suc, arith, List, [], ◌∷◌, ◌++◌, Option, Some, None, Result, Ok, Err, IsErrAnd, sym, ◌∙◌, ap, subst, append_assoc, append-nil}
 use Rattle.encoding_mem.specs.Piece.{Piece, malformed}
-use Rattle.recode_places.specs.Entries.{AreRising, AreTrue, HasOneMore, IsFoundAt, RisesTo, TellsRising, TellsTrue}
+use Rattle.recode_places.specs.Entries.{ComeInOrder, AreTrue, HasOneMore, IsFoundAt, RisesTo, TellsRising, TellsTrue}
 use Rattle.recode_places.specs.declared.entry.Entry.{Entry}
 use Rattle.recode_places.specs.declared.entry.Finding.{Finding}
 use Rattle.recode_places.specs.declared.entry.Finding.TheVariants.{Malformed, Lost, Folded}
@@ -55,11 +55,11 @@ tells_prefix ps t u rest all a b e h =
 
 -- ---- entries in their order
 
-rising_lower : (i j k : ℕ) (es : List Entry) → i ≤ j → AreRising j k es → AreRising i k es
+rising_lower : (i j k : ℕ) (es : List Entry) → i ≤ j → ComeInOrder j k es → ComeInOrder i k es
 rising_lower i j k [] h l = omega (arith, h, l)
 rising_lower i j k (e ∷ es) h l = (omega (arith, h, l.0), l.1)
 
-rising_append : (i j k : ℕ) (es fs : List Entry) → AreRising i j es → AreRising j k fs → AreRising i k (es ++ fs)
+rising_append : (i j k : ℕ) (es fs : List Entry) → ComeInOrder i j es → ComeInOrder j k fs → ComeInOrder i k (es ++ fs)
 rising_append i j k [] fs h l = rising_lower i j k fs h l
 rising_append i j k (e ∷ es) fs h l = (h.0, rising_append (suc e.place.index) j k es fs h.1 l)
 

@@ -39,13 +39,13 @@ abbrev pub TellsTrueIn : List Piece → (told told' : Option (List Entry)) → T
 TellsTrueIn ps told told' = TellsTrue ps (text ps) told told'
 
 -- entries stand at characters of their own, in their order: from the one with this index on, and before that one
-abbrev pub AreRising : (from to : ℕ) → List Entry → Type 0
-AreRising from to [] = from ≤ to
-AreRising from to (e ∷ es) = (from ≤ e.place.index) × AreRising (suc e.place.index) to es
+abbrev pub ComeInOrder : (from to : ℕ) → List Entry → Type 0
+ComeInOrder from to [] = from ≤ to
+ComeInOrder from to (e ∷ es) = (from ≤ e.place.index) × ComeInOrder (suc e.place.index) to es
 
 -- a visitor that says which entries it was handed was handed some more, which stand so
 abbrev pub TellsRising : (from to : ℕ) → (told told' : Option (List Entry)) → Type 0
-TellsRising from to told told' = IfSome told (λ es. (more : List Entry) × (told' ≡ Some (es ++ more)) × AreRising from to more)
+TellsRising from to told told' = IfSome told (λ es. (more : List Entry) × (told' ≡ Some (es ++ more)) × ComeInOrder from to more)
 
 -- a visitor was handed entries of characters of their own, in their order
 abbrev pub TellsInOrder : (told told' : Option (List Entry)) → Type 0
