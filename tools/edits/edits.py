@@ -39,6 +39,7 @@ import collections
 import concurrent.futures
 import contextlib
 import datetime
+import functools
 import os
 import queue
 import re
@@ -60,7 +61,9 @@ from edit_record import CALL, KINDS, REFUSED, RUN, STALE, THROUGH, UNREADABLE
 
 FUNCTION = re.compile(r'^ *(?:pub(?:\([^)]*\))? )?(?:extern "C" )?fn (\w+)')
 # The type of a block of methods, after its parameters and the trait that it implements, and before its arguments.
-BLOCK = re.compile(r"^(?:pub )?(?:impl|trait)\b(<.*?>)? (?:(\w+)(?:<.*?>)? for )?(\w+)(<.*>)?")
+BLOCK = re.compile(r"^(?:pub )?(?:impl|trait)\b(<.*?>)? (?:(\w+)(<.*?>)? for )?(\w+)(<.*>)?")
+# The definition of a type.
+TYPE = re.compile(r"^(?:pub(?:\([^)]*\))? )?(?:struct|enum|union) (\w+)", re.MULTILINE)
 WORD = re.compile(r"(?<!')\b[A-Za-z]\w*")
 # A call, by its name, with the dot or the type before it.
 CALLED = re.compile(r"(\.|\b[A-Z]\w*(?:::<[^()]*?>)?::)?\b(\w+)(?:::<[^()]*?>)?\(")
@@ -72,6 +75,8 @@ FALSE = "values at which this goal is false"
 ERROR = re.compile(r"^\./(\S+?):\d+:\d+: error: (.*)", re.MULTILINE)
 # How an error begins if a definition names what an edit took away.
 NAMES = re.compile(r"has no field|is not in scope|has no `|was not admitted")
+# A function that a check does not know by this name.
+UNKNOWN = re.compile(r"has no function `(.*?)`")
 # The goal whose answer an error is in, and one that is not there; an answer, which ends at an empty line.
 FAILING = re.compile(r"`([^`]+)`: ")
 GONE = re.compile(r"`goal\.([^`]+)`: module \S+ has no ")
@@ -142,10 +147,35 @@ def without(text, goals):
 
 
 def block_name(block):
-    """How a check names a block: its type, with the types that stand for parameters, and its trait."""
-    parameters, trait, name, arguments = block.groups()
-    given = [word for word in WORD.findall(arguments or "") if word not in WORD.findall(parameters or "")]
-    return "+".join([name, *given]) + (trait or "")
+    """How a check names a block: its type, with the types that stand for parameters, and its trait. A parameter that is
+    itself the type is any."""
+    parameters, trait, of, name, arguments = block.groups()
+    given = lambda types: [word for word in WORD.findall(types or "") if word not in WORD.findall(parameters or "")]
+    return "+".join([name if given(name) else "Any", *given(arguments)]) + "+".join([trait or "", *given(of)]).replace("+", "", 1)
+
+
+def modules_of(target):
+    """The modules of a file of a crate, as a check names them."""
+    return [name for name in target[len("src/") : -len(".rt")].split("/") if name not in ("lib", "main")]
+
+
+@functools.lru_cache(None)
+def types_in(folder):
+    """The modules of each type that a crate defines: a method is named by these, wherever its block stands."""
+    found = {}
+    for place, _, names in os.walk(os.path.join(folder, "src")):
+        for name in (name for name in names if name.endswith(".rt")):
+            path = os.path.join(place, name)
+            found |= {word: modules_of(os.path.relpath(path, folder)) for word in TYPE.findall(read(path))}
+    return found
+
+
+def path_of(target, block, function, folder):
+    """How a check names a function of a file, which stands in this block, if in any."""
+    modules = modules_of(target)
+    if block and not block[2]:
+        modules = types_in(folder).get(block[4], modules)
+    return "::".join([*modules, *([block_name(block)] if block else []), function])
 
 
 class Edit:
@@ -166,8 +196,7 @@ class Edit:
         target, old, _ = self.changes[0]
         text = read(os.path.join(folder, target)) if os.path.isfile(os.path.join(folder, target)) else ""
         lines = text[: text.find("\n", text.find(old))].split("\n")
-        names = [name for name in target[len("src/") : -len(".rt")].split("/") if name not in ("lib", "main")]
-        is_found = False
+        is_found = within = None
         for line in reversed(lines):
             function, block = FUNCTION.match(line), BLOCK.match(line)
             if function and not is_found:
@@ -177,9 +206,9 @@ class Edit:
             if is_found and function and not line.startswith(" "):
                 break
             if is_found and block:
-                names.append(block_name(block))
+                within = block
                 break
-        return "::".join([*names, self.function]) if is_found else None
+        return path_of(target, within, self.function, folder) if is_found else None
 
     def owner(self):
         return self.path or (min(self.files), self.function)
@@ -201,14 +230,12 @@ def functions_in(folder):
     found = {}
     for place, _, names in os.walk(os.path.join(folder, "src")):
         for name in (name for name in names if name.endswith(".rt")):
-            path = os.path.relpath(os.path.join(place, name), os.path.join(folder, "src"))
-            modules, block, function = [part for part in path[: -len(".rt")].split("/") if part not in ("lib", "main")], [], None
+            target, block, function = os.path.relpath(os.path.join(place, name), folder), None, None
             for line in read(os.path.join(place, name)).split("\n"):
                 begins, opens = FUNCTION.match(line), BLOCK.match(line)
-                if opens:
-                    block = [block_name(opens)]
+                block = opens or block
                 if begins:
-                    function = "::".join([*modules, *(block if line.startswith(" ") else []), begins[1]])
+                    function = path_of(target, block if line.startswith(" ") else None, begins[1], folder)
                     found[function] = ""
                 elif function and not line.lstrip().startswith("//"):
                     found[function] += line + "\n"
@@ -313,9 +340,15 @@ class Crate:
 
     def checked(self, texts, aside=None, paths=()):
         """What a check says with these texts: of these functions and of those that they call, or of all."""
-        only = [word for path in sorted(paths) for word in ("--only", path)]
+        paths = set(paths)
         with self.copy(texts, aside) as folder:
-            return Check(*said(folder, "rt", "check", *only))
+            while True:
+                only = [word for path in sorted(paths) for word in ("--only", path)]
+                text, is_proved = said(folder, "rt", "check", "--jobs", "1", *only)
+                unknown = paths.intersection(UNKNOWN.findall(text))
+                paths -= unknown
+                if not (unknown and paths):
+                    return Check(text, is_proved)
 
     def tell(self, edit, kind, details=()):
         self.told.append(kind)
