@@ -1,5 +1,5 @@
 -- Worked rows of `specs/Entries.antt` and `specs/Logs.antt`.
-use Rattle.std.specs.Prelude.{[], ◌∷◌, Err, Ok, Some, codes, refl, ℕ}
+use Rattle.std.specs.Prelude.{[], ◌∷◌, ◌≤◌, Err, Ok, Some, codes, refl, ℕ}
 use Rattle.std.specs.Fmt.{digits}
 use Rattle.std.proofs.Common.{arith, inl, inr}
 use Rattle.encoding_mem.specs.Piece.{malformed, well_formed}
@@ -22,8 +22,10 @@ of_character : IsCharacterAt (0x61 ∷ 10 ∷ 0x62 ∷ 0x65E5 ∷ 0x63 ∷ []) p
 of_character = (0x61 ∷ 10 ∷ 0x62 ∷ [], 0x63 ∷ [], refl, record { index = refl; line = refl; column = refl })
 
 -- that it's lost, and that a malformed sequence is next
-abbrev lost malformed_next : Entry
+abbrev lost : Entry
 lost = record { place = place; finding = Lost 0x65E5 }
+
+abbrev malformed_next : Entry
 malformed_next = record { place = record { index = 4; line = 2; column = 3; few_lines = omega arith; few_columns = omega arith }; finding = Malformed 6 1 }
 
 -- both in their order, and neither twice nor in the other one
@@ -31,16 +33,16 @@ in_order : ComeInOrder 3 5 (lost ∷ malformed_next ∷ [])
 in_order = (omega arith, (omega arith, omega arith))
 
 not_twice : ComeInOrder 0 5 (lost ∷ lost ∷ []) → ⊥
-not_twice comes = let again : 4 ≤ 3 = comes.2.1 in omega (arith, again)
+not_twice comes = let again : 4 ≤ 3 = comes.1.0 in omega (arith, again)
 
 not_backwards : ComeInOrder 0 5 (malformed_next ∷ lost ∷ []) → ⊥
-not_backwards comes = let before : 5 ≤ 3 = comes.2.1 in omega (arith, before)
+not_backwards comes = let before : 5 ≤ 3 = comes.1.0 in omega (arith, before)
 
 -- a call that told the first, and then succeeded or failed
-rises : RisesTo {ℕ} {ℕ} (Ok 0) 3 4 (Some []) (Some (lost ∷ []))
+rises : RisesTo {T = ℕ} {E = ℕ} (Ok 0) 3 4 (Some []) (Some (lost ∷ []))
 rises = (lost ∷ [], refl, (omega arith, omega arith))
 
-fails : RisesTo {ℕ} {ℕ} (Err 0) 3 9 (Some []) (Some (lost ∷ []))
+fails : RisesTo {T = ℕ} {E = ℕ} (Err 0) 3 9 (Some []) (Some (lost ∷ []))
 fails = (4, (lost ∷ [], refl, (omega arith, omega arith)))
 
 -- its line, and that of a control that ISO-2022-JP refuses
