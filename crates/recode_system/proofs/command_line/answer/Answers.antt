@@ -13,5 +13,5 @@ returns-clause-answered g c =
       words = all;
       given = c.in-Ok.ensures.words;
       texts = All-map IsUtf8 string_bytes c.in-Ok.owned.items (λ k d h. IsUtf8-string_bytes (slice_index_or c.in-Ok.owned.items k d));
-      answered = rw (← slices, ← c.with_name-words.ensures.words) c.program.ensures;
+      answered = rw (← slices, ← c.with_name-words.ensures.words) c.program.ensures.answer;
     })
