@@ -353,7 +353,7 @@ class Crate:
     def tell(self, edit, kind, details=()):
         self.told.append(kind)
         print("%s/%s: %s%s" % (self.name, edit.name, kind, " (%s)" % ", ".join(details) if details else ""), flush=True)
-        self.record(self.name, edit, kind, ", ".join(details))
+        self.record(self.name, edit, kind, " ".join(", ".join(details).split()))
 
     def try_all(self, edits):
         edits = self.readable(edits)
