@@ -4,14 +4,11 @@
     python3 tools/lint.py
 
 - A public name of `specs/` has one definition in the whole repository, since the prover names its goals by them.
-- `tools/limits.toml` has how many lines of `src/` may be long, how many clauses a function may have and how many lines
-  of definitions the headline may stand on: today's numbers, so they only fall. No contract has more than 30 lines.
+- No function has more than 13 clauses, and no contract more than 30 lines.
 - Each definition of `specs/` has a line of its own above it. None has a name of the standard library's, and a function
   of the code that has the name of one cites it in its contract.
-- Each edit of `must-fail/` and `edits/` has a name of its own, and each text that it replaces stands in its file once.
-  Each edit that tools/edits/wrong_bodies.toml names is there.
 - What `make generate` writes is of these sources: docs/HEADLINE.md, docs/reference, the drawing of
-  docs/ARCHITECTURE.md, the counts of edits in docs/STATUS.md, include/jillapun.h, and the parts of the man pages that say what the help and the header say.
+  docs/ARCHITECTURE.md, include/jillapun.h, and the parts of the man pages that say what the help and the header say.
 - Each root file begins its code with the tactic that proofs are found by, and no handle is allowed.
 - Each public item of a library has a doc comment. No public contract cites a word that stands among theorems
   (`specs/laws/`).
@@ -20,8 +17,7 @@
 - The crate for Rust declares the library as the header does (tools/gate/rust_crate.py).
 - The patches of docs/examples apply.
 - Each file of tools/ that a text names is there, and tools/README.md names each.
-- README.md and the documents that people read have no more words than `tools/limits.toml` says, nor does a paragraph of
-  them, and what they link is there. README.md asks for the kit that docs/STATUS.md names.
+- What the documents link is there.
 """
 
 import collections
@@ -34,7 +30,7 @@ import sys
 sys.dont_write_bytecode = True
 
 TOP = os.path.abspath(os.path.join(os.path.dirname(os.path.abspath(__file__)), ".."))
-sys.path += [os.path.join(TOP, "tools", folder) for folder in ("pages", "edits", "gate", "release")]
+sys.path += [os.path.join(TOP, "tools", folder) for folder in ("pages", "gate", "release")]
 
 import c_header
 import c_manual
@@ -42,11 +38,7 @@ import crates
 import definitions
 import definitions_page
 import documents
-import edit_files
-import edit_record
-import edits_table
 import headline
-import limits
 import python_manual
 import reference
 import rust_crate
@@ -65,6 +57,10 @@ HAND_PROOFS = [
     "recode_log/proofs/history/History/and_flush",
     "recode_log/proofs/history/History/new",
 ]
+
+# Of the contract of a function.
+MOST_CLAUSES = 13
+MOST_LINES = 30
 
 FUNCTION = re.compile(r'^ *(?:pub(?:\(\w+\))? )?(?:unsafe )?(?:extern "C" )?fn (\w+)')
 CLAUSE = re.compile(r"^ *(?:requires|ensures)\b")
@@ -105,13 +101,6 @@ def double_names():
             yield "%s is defined %d times: %s" % (name, len(found), ", ".join(found))
 
 
-def long_lines():
-    columns = limits.FIXED["columns"]
-    lines = [line for path in files("src", ".rt") for line in read(os.path.join(TOP, path)).split("\n")]
-    count = sum(len(line) > columns for line in lines)
-    yield from limits.faults("long_lines", count, "lines of src/ of more than %d columns" % columns)
-
-
 def contracts_of(text):
     """Each function of a source file, with the text of its clauses. They end where the body begins, or at a semicolon."""
     name, clauses, depth = None, [], 0
@@ -137,13 +126,12 @@ def contracts():
                 yield "%s: %s" % (path, name), len([line for line in lines if CLAUSE.match(line)]), len(lines)
 
 
-def most_clauses():
-    found = list(contracts())
-    most, place = max((clauses, place) for place, clauses, _ in found)
-    yield from limits.faults("most_clauses", most, "the most clauses of a function, of " + place)
-    for place, _, lines in found:
-        if lines > limits.FIXED["contract_lines"]:
-            yield "%s has a contract of %d lines; %d are allowed" % (place, lines, limits.FIXED["contract_lines"])
+def long_contracts():
+    for place, clauses, lines in contracts():
+        if clauses > MOST_CLAUSES:
+            yield "%s has %d clauses; %d are allowed" % (place, clauses, MOST_CLAUSES)
+        if lines > MOST_LINES:
+            yield "%s has a contract of %d lines; %d are allowed" % (place, lines, MOST_LINES)
 
 
 def hand_proofs():
@@ -209,40 +197,6 @@ def shared_names():
                     yield "%s: %s has the name of a definition that its contract does not cite" % (path, name)
 
 
-def edit_faults(crate, edit, place):
-    """What is wrong with an edit. A later text is looked for in what the earlier ones have made."""
-    texts = {}
-    for target, old, new in edit.changes:
-        path = os.path.join(CRATES, crate, target)
-        if not os.path.isfile(path):
-            yield "%s names %s, which is no file" % (place, target)
-            return
-        text = texts.get(target) or read(path)
-        if text.count(old) != 1:
-            yield "%s: %r stands %d times in its file" % (place, old, text.count(old))
-        texts[target] = text.replace(old, new)
-
-
-def edits():
-    for crate in sorted(os.listdir(CRATES)):
-        found = [edit for folder in edit_files.FOLDERS for edit in edit_files.edits_of(crate, folder)]
-        for edit in found:
-            yield from edit_faults(crate, edit, "%s/%s" % (crate, edit.name))
-        for name, count in collections.Counter(edit.name for edit in found).items():
-            if count > 1:
-                yield "%s/%s is the name of %d edits" % (crate, name, count)
-
-
-def wrong_bodies():
-    names = edits_table.marks()
-    for body in edits_table.bodies():
-        if not body["edits"]:
-            yield "tools/edits/wrong_bodies.toml has no edit of: %s" % body["name"]
-        for edit in body["edits"]:
-            if edit not in names:
-                yield "tools/edits/wrong_bodies.toml names %s, which is no edit" % edit
-
-
 def roots():
     if read(os.path.join(TOP, "HANDLES")) != "Handles allowed: none.\n":
         yield "HANDLES is not the line 'Handles allowed: none.'"
@@ -292,15 +246,11 @@ def example():
 
 CHECKS = (
     double_names,
-    long_lines,
-    most_clauses,
+    long_contracts,
     unlisted_crates,
     undescribed,
     taken_names,
     shared_names,
-    edits,
-    wrong_bodies,
-    edit_record.faults,
     hand_proofs,
     roots,
     first_lines,

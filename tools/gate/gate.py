@@ -57,13 +57,18 @@ LAST = ("crate for Rust", rust_crate.faults)
 
 
 def ci():
-    """Runs `rt ci`, whose last line is kept back: its status, and that line."""
-    last = ""
+    """Runs `rt ci`, whose last line is kept back: its status, that line, and how many edits of `must-fail/` show nothing.
+
+    `rt ci` passes an edit that cannot be applied or compiled, and one that is refused only because a proof names what the
+    edit took away.
+    """
+    last, empty = "", 0
     ran = subprocess.Popen(["rt", "ci"], cwd=TOP, stdout=subprocess.PIPE, text=True, errors="replace")
     for line in ran.stdout:
+        empty += bool(re.search(r"must-fail .*(: BAD EDIT|\(only because a proof file)", line))
         print(last, end="", flush=True)
         last = line
-    return ran.wait(), last
+    return ran.wait(), last, empty
 
 
 def tried(faults):
@@ -91,12 +96,14 @@ def tried_all():
 
 
 def main():
-    status, last = ci()
+    status, last, empty = ci()
     counts = re.fullmatch(r"(\d+) passed, (\d+) failed\n", last)
     if not counts:
         print(last, end="")
         return status or 1
-    passed, failed = int(counts[1]), int(counts[2])
+    passed, failed = int(counts[1]), int(counts[2]) + empty
+    if empty:
+        print("FAILED: %d edits of must-fail/ show nothing" % empty, flush=True)
     for name, said, wrong in tried_all():
         print("== %s\n%s" % (name, said), end="", flush=True)
         for line in wrong:

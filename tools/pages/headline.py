@@ -6,14 +6,13 @@
 The page has the theorem in words and in the clauses that say it, each definition that these stand on, down to pieces and
 coding as it stands in the source, and the codecs as a list with places. Names are followed through the imports of each
 file, and the standard library is left out. `make lint` calls `faults`: a page that is not what this script writes, a
-theorem that stands on more lines than `tools/limits.toml` says, and one that stands on a file of `specs/calls/`.
+theorem that stands on a file of `specs/calls/`.
 """
 
 import os
 import re
 import sys
 
-import limits
 import reference
 from definitions import TOP, WORD, closure, definitions
 
@@ -199,7 +198,7 @@ def words_of(lines):
 
 
 def page():
-    """The text of the page, on how many lines of definitions the theorem stands, and in which files."""
+    """The text of the page, and the files of the definitions that the theorem stands on."""
     found, imports = definitions([crate for crate, _ in GROUPS])
     premises, place = clause("recode", "run", None, "requires")
     clauses = [line for name in CLAUSES for line in clause("recode", "run", name)[0]]
@@ -226,14 +225,13 @@ def page():
             lines += ["| Word | What it is | Place |", "|---|---|---|"]
             lines += ["| `%s` | %s | %s |" % (d.name, d.meaning(), d.link("../")) for d in sorted(more, key=lambda d: (d.path, d.line))] + [""]
         before.update(near)
-    return re.sub(r"\n{3,}", "\n\n", "\n".join(lines)).rstrip("\n") + "\n", count(seen)[1], {d.path for d in seen}
+    return re.sub(r"\n{3,}", "\n\n", "\n".join(lines)).rstrip("\n") + "\n", {d.path for d in seen}
 
 
 def faults():
-    text, size, paths = page()
+    text, paths = page()
     if not os.path.isfile(PAGE) or reference.read(PAGE) != text:
         yield "docs/HEADLINE.md is not of these sources: make generate"
-    yield from limits.faults("headline_lines", size, "lines of definitions that the headline stands on")
     for path in sorted(paths):
         if "/calls/" in path:
             yield "the headline stands on %s, which is no part of what it means" % path
