@@ -16,19 +16,34 @@ enum Answer {
 }
 
 // A device that returns the next of its answers at each call. After the last answer it moves no
-// bytes.
+// bytes. It keeps the length of the buffer of its last call.
 #[derive(Drop)]
 struct Scripted<'a> {
     answers: &'a [Answer],
     calls: usize,
+    room: usize,
 }
 
 impl<'a> Scripted<'a> {
+    fn new(answers: &'a [Answer]) -> Scripted<'a> {
+        Scripted {
+            answers,
+            calls: 0,
+            room: 0,
+        }
+    }
+
+    // How many calls were made, and the length of the last buffer.
+    fn last_call(&self) -> (usize, usize) {
+        (self.calls, self.room)
+    }
+
     fn answer(&mut self, room: usize) -> io::Result<usize>
         ensures { IfOk result (λ n. n ≤ room) }
     {
         let answer = self.answers.get(self.calls);
         self.calls = self.calls.saturating_add(1);
+        self.room = room;
         match answer {
             Some(Answer::Moves(count)) => Ok((*count).min(room)),
             Some(Answer::Fails(kind)) => Err(io::Error::from(*kind)),
@@ -69,10 +84,7 @@ fn a_read_hands_on_its_answer_and_counts_an_error(rt: HostRuntime) -> Result<(),
         Answer::Moves(0),
         Answer::Fails(ErrorKind::BrokenPipe),
     ];
-    let mut reader = Counted::new(Scripted {
-        answers: &answers,
-        calls: 0,
-    });
+    let mut reader = Counted::new(Scripted::new(&answers));
     let mut room = *b"....";
     assert_eq!(rt; reader.read(&mut room)?, 2);
     assert_eq!(rt; room, *b"xx..");
@@ -103,10 +115,7 @@ fn a_write_of_some_bytes_that_takes_none_is_counted(rt: HostRuntime) -> Result<(
         Answer::Moves(0),
         Answer::Fails(ErrorKind::Interrupted),
     ];
-    let mut writer = Counted::new(Scripted {
-        answers: &answers,
-        calls: 0,
-    });
+    let mut writer = Counted::new(Scripted::new(&answers));
     assert_eq!(rt; writer.write(b"abc")?, 2);
     assert_eq!(rt; writer.write(b"abc")?, 3);
     assert_eq!(rt; writer.failures(), 0);
@@ -123,15 +132,88 @@ fn a_write_of_some_bytes_that_takes_none_is_counted(rt: HostRuntime) -> Result<(
 #[test]
 fn a_failing_flush_is_counted(rt: HostRuntime) -> Result<(), Fail> {
     let answers = [Answer::Moves(0), Answer::Fails(ErrorKind::StorageFull)];
-    let mut writer = Counted::new(Scripted {
-        answers: &answers,
-        calls: 0,
-    });
+    let mut writer = Counted::new(Scripted::new(&answers));
     writer.flush()?;
     assert_eq!(rt; writer.failures(), 0);
     assert_eq!(rt; kind_of(writer.flush()), Some(ErrorKind::StorageFull));
     assert_eq!(rt; writer.failures(), 1);
     assert_eq!(rt; writer.get_ref().calls, 2);
+    Ok(())
+}
+
+// Each kind of error that std has.
+const KINDS: [ErrorKind; 42] = [
+    ErrorKind::NotFound,
+    ErrorKind::PermissionDenied,
+    ErrorKind::ConnectionRefused,
+    ErrorKind::ConnectionReset,
+    ErrorKind::HostUnreachable,
+    ErrorKind::NetworkUnreachable,
+    ErrorKind::ConnectionAborted,
+    ErrorKind::NotConnected,
+    ErrorKind::AddrInUse,
+    ErrorKind::AddrNotAvailable,
+    ErrorKind::NetworkDown,
+    ErrorKind::BrokenPipe,
+    ErrorKind::AlreadyExists,
+    ErrorKind::WouldBlock,
+    ErrorKind::NotADirectory,
+    ErrorKind::IsADirectory,
+    ErrorKind::DirectoryNotEmpty,
+    ErrorKind::ReadOnlyFilesystem,
+    ErrorKind::FilesystemLoop,
+    ErrorKind::StaleNetworkFileHandle,
+    ErrorKind::InvalidInput,
+    ErrorKind::InvalidData,
+    ErrorKind::TimedOut,
+    ErrorKind::WriteZero,
+    ErrorKind::StorageFull,
+    ErrorKind::NotSeekable,
+    ErrorKind::QuotaExceeded,
+    ErrorKind::FileTooLarge,
+    ErrorKind::ResourceBusy,
+    ErrorKind::ExecutableFileBusy,
+    ErrorKind::Deadlock,
+    ErrorKind::CrossesDevices,
+    ErrorKind::TooManyLinks,
+    ErrorKind::InvalidFilename,
+    ErrorKind::ArgumentListTooLong,
+    ErrorKind::Interrupted,
+    ErrorKind::Unsupported,
+    ErrorKind::UnexpectedEof,
+    ErrorKind::OutOfMemory,
+    ErrorKind::InProgress,
+    ErrorKind::Other,
+    ErrorKind::Uncategorized,
+];
+
+#[test]
+fn a_call_is_made_once_with_the_whole_buffer(rt: HostRuntime) -> Result<(), Fail> {
+    let mut room = [b'.'; 100_000];
+    for kind in KINDS {
+        let answers = [
+            Answer::Fails(kind),
+            Answer::Moves(usize::MAX),
+            Answer::Fails(kind),
+            Answer::Moves(usize::MAX),
+            Answer::Fails(kind),
+            Answer::Moves(0),
+        ];
+        let mut device = Counted::new(Scripted::new(&answers));
+        assert_eq!(rt; kind_of(device.read(&mut room)), Some(kind));
+        assert_eq!(rt; device.get_ref().last_call(), (1, 100_000), "{kind}");
+        assert_eq!(rt; device.read(&mut room)?, 100_000);
+        assert_eq!(rt; device.get_ref().last_call(), (2, 100_000), "{kind}");
+        assert_eq!(rt; kind_of(device.write(&room)), Some(kind));
+        assert_eq!(rt; device.get_ref().last_call(), (3, 100_000), "{kind}");
+        assert_eq!(rt; device.write(&room)?, 100_000);
+        assert_eq!(rt; device.get_ref().last_call(), (4, 100_000), "{kind}");
+        assert_eq!(rt; kind_of(device.flush()), Some(kind));
+        assert_eq!(rt; device.get_ref().last_call(), (5, 0), "{kind}");
+        device.flush()?;
+        assert_eq!(rt; device.get_ref().last_call(), (6, 0), "{kind}");
+        assert_eq!(rt; device.failures(), 3, "{kind}");
+    }
     Ok(())
 }
 
@@ -185,10 +267,7 @@ fn a_delivery_stops_at_the_first_failed_call(rt: HostRuntime) {
 #[test]
 fn a_delivery_makes_no_call_but_those_it_needs(rt: HostRuntime) {
     let answers = [Answer::Moves(usize::MAX)];
-    let mut writer = Counted::new(Scripted {
-        answers: &answers,
-        calls: 0,
-    });
+    let mut writer = Counted::new(Scripted::new(&answers));
     assert_eq!(rt; deliver(&mut writer, b"", 'w'), Ok(()));
     assert_eq!(rt; writer.get_ref().calls, 0);
     assert_eq!(rt; writer.failures(), 0);
