@@ -1,7 +1,8 @@
 -- Worked rows of `specs/Call.antt`.
-use Rattle.std.proofs.Common.{◌≡◌, ℕ, [], ◌∷◌, Ok, Err, false, true, refl, arith}
+use Rattle.std.proofs.Common.{◌≡◌, ℕ, [], ◌∷◌, Ok, Err, false, true, refl, ap, arith, length}
 use Rattle.std.specs.List.{concat}
-use Rattle.recode_log.specs.Call.{EndsInFailedWrite, IsWriteOfSome, OffersAllLeft, call_of, failed_read, failed_write, failed_writes, flush_of, passed_by}
+use Rattle.std.proofs.lemmas.List.{same_from_push}
+use Rattle.recode_log.specs.Call.{CallsOnce, EndsInFailedWrite, FlushesOnce, IsWriteOfSome, OffersAllLeft, call_of, failed_read, failed_write, failed_writes, flush_of, passed_by}
 use Rattle.recode_log.specs.Call.{Failed, Flush, Passed}
 
 -- a read that gives two bytes, into a room of four
@@ -19,6 +20,22 @@ call_of-failed = refl
 -- a flush that goes well
 flush_of-done : flush_of {T = ℕ} {E = ℕ} (Ok 0) ≡ Flush false
 flush_of-done = refl
+
+-- refuted: a call that failed is made again
+calls_once-again : CallsOnce {E = ℕ} [] (Failed 3 ∷ Failed 3 ∷ []) (Err 5) (1 ∷ 2 ∷ 3 ∷ []) → ⊥
+calls_once-again h = omega (arith, ap length h)
+
+-- refuted: the device is given two bytes of a buffer of three
+calls_once-cut : CallsOnce {E = ℕ} [] (Passed 2 (1 ∷ []) ∷ []) (Ok 1) (1 ∷ 2 ∷ 3 ∷ []) → ⊥
+calls_once-cut h = let same : ◌≡◌ {A = ℕ} 2 3 = cc in omega (arith, same)
+
+-- refuted: an answer is made up, and no call is made
+calls_once-none : CallsOnce {E = ℕ} [] [] (Ok 0) (1 ∷ 2 ∷ 3 ∷ []) → ⊥
+calls_once-none h = omega (arith, ap length h)
+
+-- refuted: the error of a flush that went well
+flushes_once-well : FlushesOnce {T = ℕ} {E = ℕ} [] (Flush false ∷ []) (Err 5) → ⊥
+flushes_once-well h = cc
 
 -- of a read, one that failed, a flush and the end, the reads that did not fail gave these bytes
 passed_by-reads : passed_by (Passed 4 (0x41 ∷ 0x42 ∷ []) ∷ Failed 4 ∷ Flush false ∷ Passed 4 [] ∷ []) ≡ (0x41 ∷ 0x42 ∷ []) ∷ [] ∷ []
@@ -39,6 +56,10 @@ failed_write-nothing_to_take = refl
 -- a flush that fails is the last call
 ends_in_failed_write-flush : EndsInFailedWrite (Passed 2 (1 ∷ 2 ∷ []) ∷ Flush true ∷ [])
 ends_in_failed_write-flush = record { earlier = Passed 2 (1 ∷ 2 ∷ []) ∷ []; last = Flush true; ends = refl; failed = refl }
+
+-- refuted: a fault after a write that took a byte
+ends_in_failed_write-took : EndsInFailedWrite (Failed 2 ∷ Passed 2 (1 ∷ []) ∷ []) → ⊥
+ends_in_failed_write-took h = omega (arith, h.failed, ap failed_write (same_from_push (Failed 2 ∷ []) h.earlier (Passed 2 (1 ∷ [])) h.last h.ends).1)
 
 -- of a write that takes a byte, one that takes none, one of no bytes, one that fails and a flush that fails, three failed
 failed_writes-some : failed_writes (Passed 2 (1 ∷ []) ∷ Passed 1 [] ∷ Passed 0 [] ∷ Failed 1 ∷ Flush true ∷ Flush false ∷ []) ≡ 3
