@@ -21,7 +21,7 @@ _jillapun() {
     *)
         if [[ $word == -* ]]; then
             case $command in which | places | labels) ;; *) command=convert ;; esac
-            words=$("$1" "$command" --help 2> /dev/null | grep -oE -- '--[a-z]+(-[a-z]+)*' | sort -u)
+            words=$("$1" "$command" --help 2> /dev/null | sed -nE 's/^ +(-[a-zA-Z], )?(--[a-z]+(-[a-z]+)*).*/\2/p')
         else
             compopt -o filenames 2> /dev/null
             ((COMP_CWORD > 1)) || words="convert places which labels"
@@ -32,4 +32,4 @@ _jillapun() {
     mapfile -t COMPREPLY < <(compgen -W "$words" -- "$word")
 }
 
-complete -F _jillapun jillapun
+complete -o default -F _jillapun jillapun

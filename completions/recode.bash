@@ -1,4 +1,5 @@
-# Completion in bash for recode and recode-places: options by their help, labels by `recode --list`, and files.
+# Completion in bash for recode and recode-places: options by their help, and labels by `recode --list`. Where it finds
+# none, bash completes the names of files, as after `<` and `>`.
 
 _jillapun_recode() {
     local word=${COMP_WORDS[COMP_CWORD]} option=${COMP_WORDS[COMP_CWORD - 1]} words=
@@ -21,14 +22,11 @@ _jillapun_recode() {
         return ;;
     *)
         if [[ $word == -* ]]; then
-            words=$("$1" --help 2> /dev/null | grep -oE -- '--[a-z]+(-[a-z]+)*' | sort -u)
-        elif [[ $1 == *recode-places ]]; then
-            compopt -o filenames 2> /dev/null
-            mapfile -t COMPREPLY < <(compgen -f -- "$word")
-            return
+            # A line of the help that begins with an option is of that option. Other lines may name those of another program.
+            words=$("$1" --help 2> /dev/null | sed -nE 's/^ +(-[a-zA-Z], )?(--[a-z]+(-[a-z]+)*).*/\2/p')
         fi ;;
     esac
     mapfile -t COMPREPLY < <(compgen -W "$words" -- "$word")
 }
 
-complete -F _jillapun_recode recode recode-places
+complete -o default -F _jillapun_recode recode recode-places

@@ -10,6 +10,7 @@ also of `make try`, which compiles the program without a proof. The other target
 
 import os
 import re
+import select
 import shutil
 import subprocess
 import sys
@@ -116,7 +117,6 @@ COMPLETED = [
     (["recode", "--limit", ""], []),
     (["recode-places", "--from", "gb1"], ["gb18030"]),
     (["recode-places", "--co"], ["--count"]),
-    (["recode-places", "--from", "gbk", "/dev/nul"], ["/dev/null"]),
 ]
 COMPLETE = """
 . "$0"
@@ -125,8 +125,45 @@ _jillapun_recode "$1"
 printf '%s\\n' "${COMPREPLY[@]}" | sort -u
 """
 
+# What is typed in a terminal before a tab, in a folder with the file `plan.csv`, and what stands there after it.
+TYPED = [
+    ("recode --from shift_jis --to utf-8 < pl", "recode --from shift_jis --to utf-8 < plan.csv "),
+    ("recode --from shift_jis --to utf-8 > pl", "recode --from shift_jis --to utf-8 > plan.csv "),
+    ("recode --from shift_jis --to utf-8 2> pl", "recode --from shift_jis --to utf-8 2> plan.csv "),
+    ("recode --f", "recode --from "),
+    ("recode-places --fo", "recode-places --folds "),
+    ("recode-places --from gbk --to utf-8 pl", "recode-places --from gbk --to utf-8 plan.csv "),
+    ("recode-places --from gbk --to utf-8 plan.csv < pl", "recode-places --from gbk --to utf-8 plan.csv < plan.csv "),
+]
+# What bash prints once a line can be typed.
+PROMPT = "$ "
 
-def completion_faults(top):
+
+def completed(script, line, folder, there):
+    """What a terminal shows once bash has completed the line."""
+    ours, theirs = os.openpty()
+    command, streams = ["bash", "--norc", "--noprofile", "-i"], {"stdin": theirs, "stdout": theirs, "stderr": theirs}
+    shell = subprocess.Popen(command, cwd=folder, env=there, start_new_session=True, **streams)
+    os.close(theirs)
+
+    def shown(typed):
+        os.write(ours, typed.encode())
+        found = ""
+        while not found.endswith(PROMPT) and select.select([ours], [], [], PATIENCE)[0]:
+            found += os.read(ours, 10_000).decode()
+        return found
+
+    shown("")
+    shown(". '%s'\n" % script)
+    # Control-U empties the line.
+    found = shown(line + "\t\x15\n")
+    shell.kill()
+    shell.wait()
+    os.close(ours)
+    return found
+
+
+def completion_faults(top, folder):
     """What bash completes otherwise than it should."""
     if not shutil.which("bash"):
         print("left out: the completion, since there is no bash here")
@@ -137,6 +174,15 @@ def completion_faults(top):
         _, output, said = ran(["bash", "-c", COMPLETE, script, *words], b"", "/", env=there)
         if output.decode().split() != wanted:
             yield "completion of %r: %r and not %r: %s" % (words, output, wanted, said.decode())
+    place = os.path.join(folder, "typed")
+    os.mkdir(place)
+    with open(os.path.join(place, "plan.csv"), "wb"):
+        pass
+    there.update(TERM="dumb", PS1=PROMPT, HISTFILE="")
+    for line, wanted in TYPED:
+        found = completed(script, line, place, there)
+        if wanted not in found:
+            yield "%s, and a tab: %r" % (line, found)
 
 
 def read(name):
@@ -209,7 +255,7 @@ def faults():
             yield "installed, and not removed or the other way round: %s" % (files_in(top) ^ set(install.targets()))
         yield from recode_faults(top, folder)
         yield from places_faults(top, folder)
-        yield from completion_faults(top)
+        yield from completion_faults(top, folder)
         yield from readme_faults(top, folder)
         with open(os.path.join(top, "bin", "other"), "wb"):
             pass
