@@ -1,12 +1,13 @@
--- Worked cases of encoders: in the sample target a yen sign is 5C in Roman, and U+1F4A9 has no bytes.
-use Rattle.std.specs.Prelude.{◌≡◌, true, false, None, Some, [], ◌∷◌, ◌++◌, codes, refl, ℕ, List, Option, map, replicate}
+-- Worked cases of encoders, and wrong outcomes of their calls. In the sample target a yen sign is 5C in Roman, and U+1F4A9 has no bytes.
+use Rattle.std.specs.Prelude.{◌≡◌, ◌≢◌, ◌⊎◌, ◌<◌, Bool, true, false, IsTrue, None, Some, [], ◌∷◌, ◌++◌, codes, refl, ℕ, List, Option, length, map, replicate}
 use Rattle.std.specs.Fmt.{digits}
-use Rattle.std.proofs.Common.{inr, lit≤, lit<, inl, arith, subst}
+use Rattle.std.proofs.Common.{inr, lit≤, lit<, inl, arith, subst, sym, ap, ◌∙◌, append-nil}
 use Rattle.encoding_mem.specs.declared.codec.reference.Reference.TheVariants.{Decimal}
-use Rattle.encoding_mem.specs.Coding.{lost_count, open_from, whole_from, last_set, IsMapped}
+use Rattle.encoding_mem.specs.Coding.{AllMapped, lost_count, open_from, whole_from, last_set, IsMapped}
+use Rattle.encoding_mem.specs.declared.codec.encoder_result.EncoderResult.TheVariants.{InputEmpty, OutputFull, Unmappable}
 use Rattle.encoding_mem.specs.examples.SampleCoding.{sample_coding}
 use Rattle.encoding_mem.specs.declared.codec.form.EscapeState.TheVariants.{Ascii, Roman}
-use Rattle.encoding_front.specs.calls.Encoder.{ReplacingEndsWith, kept_back, queried_room, queried_with_kept, EndsWithReference, EncoderState, Puts, Replaces}
+use Rattle.encoding_front.specs.calls.Encoder.{Encoded, ReadsText, ReplacingEndsWith, coding_in, kept_back, queried_room, queried_with_kept, EndsWithReference, EncoderState, Puts, Replaces}
 use Rattle.encoding_front.specs.declared.coder_result.CoderResult.{CoderResult}
 use Rattle.encoding_front.specs.declared.encoding.Encoding.TheVariants.{Iso2022Jp, Replacement, Utf8, Utf16Le, Windows1252, Big5, EucJp, EucKr, Gb18030, Gbk, ShiftJis, XUserDefined, Utf16Be}
 use Rattle.encoding_tables.specs.IndexLists.{IndexLists}
@@ -14,6 +15,7 @@ use Rattle.encoding_tables.specs.examples.IndexLists.{no_flats}
 use Rattle.encoding_front.specs.Encodings.{coding_of}
 use Rattle.encoding_front.specs.declared.encoding.Encoding.{Encoding}
 use Rattle.encoding_mem.specs.declared.codec.form.EscapeState.{EscapeState}
+use Rattle.encoding_mem.specs.declared.codec.form.Form.{Form}
 
 kept_utf_8 : kept_back Utf8 ≡ 0
 kept_utf_8 = refl
@@ -160,3 +162,94 @@ last_call_into_18 = record {
   few = λ h. absurd (omega (arith, h));
   stops = λ before c after is lost reached. (only_pile_is_lost before c after is lost, refl);
 }
+
+-- ---- wrong outcomes: U+1F4A9 has no bytes in ISO-2022-JP
+
+no_end_of : (c : ℕ) (t : List ℕ) → c ∷ t ≡ [] → ⊥
+no_end_of c t none = cc
+
+-- A call that returns `InputEmpty` has read all text: an unread character is refuted.
+unread_character_is_told : (x x' : EncoderState) (w : List ℕ) (room : ℕ) → Encoded x true InputEmpty (0x41 ∷ []) w x' (0x41 ∷ []) room → ⊥
+unread_character_is_told x x' w room call = no_end_of 0x41 [] call.codec.ends.0
+
+-- A character without bytes is reported: `InputEmpty` after it is refuted.
+all_of_pile : (before next : List ℕ) → 0x1F4A9 ∷ [] ≡ before ++ next → next ≡ [] → AllMapped (coding_of no_tables Iso2022Jp) before → ⊥
+unfolding no_tables
+all_of_pile [] next split none mapped = cc
+all_of_pile (c ∷ before) next split none mapped = let same : c ≡ 0x1F4A9 = cc in subst (λ (d : ℕ). IsMapped ((coding_of no_tables Iso2022Jp).form d)) same mapped.0
+
+lost_character_is_reported : (x' : EncoderState) (w rest : List ℕ) (room : ℕ) → Encoded (state Ascii) true InputEmpty (0x1F4A9 ∷ []) w x' rest room → ⊥
+unfolding state
+lost_character_is_reported x' w rest room call = all_of_pile call.codec.law.before call.codec.law.next call.codec.law.split call.codec.law.leaves.0 call.codec.law.mapped
+
+-- It is reported as itself: another character is refuted.
+reported_of_pile : (before next rest : List ℕ) (c : ℕ) → 0x1F4A9 ∷ [] ≡ before ++ next → next ≡ c ∷ rest → AllMapped (coding_of no_tables Iso2022Jp) before
+    → (coding_of no_tables Iso2022Jp).form c ≡ Form.Unmapped 0x41 → ⊥
+unfolding no_tables
+reported_of_pile [] next rest c split is mapped form = let same : c ≡ 0x1F4A9 = cc in
+    other 0x1F4A9 0x41 (subst (λ (d : ℕ). (coding_of no_tables Iso2022Jp).form d ≡ Form.Unmapped 0x41) same form) (omega arith)
+  where
+    other : (c d : ℕ) → Form.Unmapped c ≡ Form.Unmapped d → d < c → ⊥
+    other c d same less = let is : c ≡ d = cc in omega (arith, is, less)
+reported_of_pile (d ∷ before) next rest c split is mapped form = let same : d ≡ 0x1F4A9 = cc in subst (λ (d : ℕ). IsMapped ((coding_of no_tables Iso2022Jp).form d)) same mapped.0
+
+other_character_is_not_reported : (last : Bool) (x' : EncoderState) (w rest : List ℕ) (room : ℕ) → Encoded (state Ascii) last (Unmappable 0x41) (0x1F4A9 ∷ []) w x' rest room → ⊥
+unfolding state
+other_character_is_not_reported last x' w rest room call = let law = call.codec.law in
+    reported_of_pile law.before law.next rest law.leaves.0 law.split law.leaves.1 law.mapped law.leaves.2
+
+-- A last call leaves ISO-2022-JP in ASCII: one that ends in Roman, or has not written the escape, is refuted.
+last_call_ends_in_ascii : (w : List ℕ) (room : ℕ) → Encoded (state Ascii) true InputEmpty (0xA5 ∷ []) w (state Roman) [] room → ⊥
+unfolding state
+last_call_ends_in_ascii w room call = let ascii : Roman ≡ Ascii = call.codec.ends.1 refl in cc
+
+last_escape_is_written : (room : ℕ) → Encoded (state Ascii) true InputEmpty (0xA5 ∷ []) (0x1B ∷ 0x28 ∷ 0x4A ∷ 0x5C ∷ []) (state Ascii) [] room → ⊥
+unfolding no_tables state
+last_escape_is_written room call = omega (arith, ap length call.bytes)
+
+-- A call ends for lack of room only if fewer bytes are free than the next step can need: `OutputFull` with three free
+-- bytes is refuted, and with nothing left to write.
+three_bytes_are_enough : (last : Bool) (t w rest : List ℕ) (x' : EncoderState) → Encoded (state Ascii) last OutputFull t w x' rest 3 → ⊥
+unfolding state
+three_bytes_are_enough last t w rest x' call = omega (arith, call.codec.ends.0)
+
+nothing_is_left : (t w : List ℕ) (room : ℕ) → Encoded (state Ascii) false OutputFull t w (state Ascii) [] room → ⊥
+unfolding state
+nothing_is_left t w room call = by call.codec.ends.1
+  where
+    by : (0 < 0) ⊎ ((false ≡ true) × (Ascii ≢ Ascii)) → ⊥
+    by (inl more) = omega (arith, more)
+    by (inr never) = never.1 refl
+
+-- With replacement: a reference that is missing, or cut at the end of the buffer, is refuted.
+reference_is_written : (size : ℕ) (lost : Bool) → Replaces (state Ascii) true CoderResult.InputEmpty (0x1F4A9 ∷ []) [] (state Ascii) [] lost size → ⊥
+unfolding no_tables state digits
+reference_is_written size lost call = omega (arith, ap length call.bytes)
+
+reference_is_whole : (lost : Bool) → Replaces (state Ascii) false CoderResult.OutputFull (0x1F4A9 ∷ []) (codes "&#12") (state Ascii) [] lost 14 → ⊥
+unfolding no_tables state digits
+reference_is_whole lost call = omega (arith, ap length (call.bytes []))
+
+-- A reference that was written is told: `false` after one is refuted.
+told_of_pile : (prefix rest : List ℕ) → 0x1F4A9 ∷ [] ≡ prefix ++ rest → rest ≡ [] → (0 < lost_count (coding_of no_tables Iso2022Jp) prefix → IsTrue false) → ⊥
+unfolding no_tables
+told_of_pile prefix rest split none told = let same : prefix ≡ 0x1F4A9 ∷ [] = sym (append-nil prefix) ∙ ap (λ l. prefix ++ l) (sym none) ∙ sym split in
+    let never : false ≡ true = told (subst (λ (l : List ℕ). 0 < lost_count (coding_of no_tables Iso2022Jp) l) (sym same) (omega arith)) in cc
+
+reference_is_told : (x' : EncoderState) (w rest : List ℕ) (size : ℕ) → Replaces (state Ascii) true CoderResult.InputEmpty (0x1F4A9 ∷ []) w x' rest false size → ⊥
+unfolding state
+reference_is_told x' w rest size call = told_of_pile call.prefix rest call.split call.ends.0 call.told.1
+
+-- Nothing is written into fewer bytes than are kept back for a reference: `A` into nine is refuted.
+nine_bytes_take_nothing : (last lost : Bool) (t rest : List ℕ) (x' : EncoderState) (outcome : CoderResult) → Replaces (state Ascii) last outcome t (0x41 ∷ []) x' rest lost 9 → ⊥
+unfolding state
+nine_bytes_take_nothing last lost t rest x' outcome call = no_end_of 0x41 [] (call.few (omega arith)).1
+
+-- A last call with replacement leaves ISO-2022-JP in ASCII.
+last_call_with_replacement_ends_in_ascii : (t w rest : List ℕ) (lost : Bool) (size : ℕ) → Replaces (state Ascii) true CoderResult.InputEmpty t w (state Roman) rest lost size → ⊥
+unfolding state
+last_call_with_replacement_ends_in_ascii t w rest lost size call = let ascii : Roman ≡ Ascii = call.ends.1 refl in cc
+
+-- What was read of a text ends between characters: one byte of `é` is refuted.
+half_a_character_is_not_read : ReadsText (0xC3 ∷ 0xA9 ∷ []) 1 → ⊥
+half_a_character_is_not_read reads = omega (arith, reads.boundary.1 (omega arith) (omega arith))

@@ -1,7 +1,13 @@
--- Worked rows of `specs/calls/Latin1Prefix.antt`.
-use Rattle.std.specs.Prelude.{◌≡◌, refl}
+-- Worked rows of `specs/calls/Latin1Prefix.antt`, and of `TellsLatin1Prefix` of `specs/calls/Stream.antt`.
+use Rattle.std.proofs.Common.{◌≡◌, ℕ, zero, suc, ◌<◌, true, false, Some, List, [], ◌∷◌, refl, ap, arith}
+use Rattle.std.specs.Prelude.{slice_index}
+use Rattle.encoding_mem.specs.Piece.{Piece}
+use Rattle.encoding_tables.specs.IndexLists.{IndexLists}
 use Rattle.encoding_front.specs.declared.encoding.Encoding.{Encoding}
-use Rattle.encoding_front.specs.calls.Latin1Prefix.{latin1_rule, by_index, by_mode, by_ascii, untold}
+use Rattle.encoding_front.specs.declared.mark.Mark.TheVariants.{Sniff}
+use Rattle.encoding_front.specs.calls.Seeking.{is_sought}
+use Rattle.encoding_front.specs.calls.Stream.{DecoderView, IsNewDecoder, Opening, TellsLatin1Prefix}
+use Rattle.encoding_front.specs.calls.Latin1Prefix.{IsLatin1Prefix, latin1_rule, by_index, by_mode, by_ascii, untold}
 
 of_windows_1252 : latin1_rule Encoding.Windows1252 ≡ by_index
 of_windows_1252 = refl
@@ -20,3 +26,19 @@ of_utf_16 = refl
 
 of_replacement : latin1_rule Encoding.Replacement ≡ untold
 of_replacement = refl
+
+-- While a mark may still come it is not known how far bytes are Latin1: a number is refuted.
+mark_may_come : (t : IndexLists) (v : DecoderView) (bytes : List ℕ) (n : ℕ) → IsNewDecoder v t Sniff Encoding.Utf8 → TellsLatin1Prefix v bytes (Some n) → ⊥
+mark_may_come t v bytes n new tells = let sought : is_sought v.opening.sought ≡ true = ap (λ (o : Opening). is_sought o.sought) new.opening in
+    let none : is_sought v.opening.sought ≡ false = tells.0.0 in cc
+
+-- The number is that of all bytes before the first that is not ASCII: fewer for `Aé` are refuted, and more.
+ascii_letter : (i : ℕ) → slice_index (0x41 ∷ []) i < 128
+ascii_letter zero = omega arith
+ascii_letter (suc i) = omega arith
+
+none_of_letter : (pieces : List ℕ → List Piece) → IsLatin1Prefix by_ascii pieces (0x41 ∷ 0xC3 ∷ 0xA9 ∷ []) 0 → ⊥
+none_of_letter pieces prefix = prefix.longest 1 (omega arith) (omega arith) ascii_letter
+
+accent_is_not_ascii : (pieces : List ℕ → List Piece) → IsLatin1Prefix by_ascii pieces (0x41 ∷ 0xC3 ∷ 0xA9 ∷ []) 2 → ⊥
+accent_is_not_ascii pieces prefix = omega (arith, prefix.well_formed 1)

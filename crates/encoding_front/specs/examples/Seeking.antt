@@ -1,13 +1,17 @@
--- Worked rows of `specs/calls/Seeking.antt`.
+-- Worked rows of `specs/calls/Seeking.antt` and of `specs/calls/SavedDecoders.antt`.
 use Rattle.std.specs.Prelude.{◌≡◌, ℕ, true, false, [], ◌∷◌, map, replicate, refl}
-use Rattle.std.proofs.Common.{sym}
+use Rattle.std.proofs.Common.{sym, ap, ◌∙◌}
 use Rattle.encoding_mem.specs.Piece.{well_formed}
 use Rattle.encoding_mem.specs.Pieces.{pieces_in}
 use Rattle.encoding_mem.specs.declared.codec.room.OutputUnit.TheVariants.{Units, Bytes}
 use Rattle.encoding_front.specs.calls.Seeking.{find_mark, mark_needs, can_be, nothing_sought, sought_by, sought_encoding, sought_pieces}
 use Rattle.encoding_front.specs.calls.DecoderCall.{SeeksOn}
 use Rattle.encoding_front.specs.calls.RoomRules.{saved_rule}
-use Rattle.encoding_front.specs.calls.SavedDecoders.{HasReadNothing}
+use Rattle.encoding_front.specs.calls.SavedDecoders.{CanBeResumed, HasReadNothing, Saves}
+use Rattle.encoding_front.specs.calls.Stream.{DecoderView, Opening}
+use Rattle.encoding_front.specs.Encodings.{no_lists}
+use Rattle.encoding_mem.specs.calls.Resuming.{saved_bytes}
+use Rattle.encoding_tables.specs.IndexLists.{IndexLists}
 use Rattle.encoding_front.specs.declared.decoder.saved_decoder.SavedDecoder.{SavedDecoder}
 use Rattle.encoding_front.specs.declared.encoding.Encoding.{Encoding}
 use Rattle.encoding_front.specs.declared.mark.Mark.TheVariants.{Sniff, Remove, Keep}
@@ -97,3 +101,25 @@ not_after_the_last seeks = not_last (seeks refl).1
 
 none_is_sought : SeeksOn all_marks nothing_sought true (0xEF ∷ [])
 none_is_sought is = absurd (not_last (sym is))
+
+-- What is saved of a decoder has the bytes that it held, the encoding of a mark that was taken, and whether the stream
+-- has ended: each of them forgotten is refuted.
+held_bytes_are_saved : (w : SavedDecoder) (v : DecoderView) → v.opening.held ≡ 0xEF ∷ [] → saved_bytes w.held ≡ [] → Saves w v → ⊥
+held_bytes_are_saved w v held none saves = no_end 0xEF (sym held ∙ ap (λ (o : Opening). o.held) saves.opening ∙ none)
+
+encoding_is_saved : (w : SavedDecoder) (v : DecoderView) → v.source [] ≡ Encoding.Utf8 → w.encoding ≡ Encoding.Windows1252 → Saves w v → ⊥
+encoding_is_saved w v utf8 old saves = let same = saves.in_force in cc
+
+end_is_saved : (w : SavedDecoder) (v : DecoderView) → v.finished ≡ true → w.is_finished ≡ false → Saves w v → ⊥
+end_is_saved w v over open_ saves = let same = saves.finished in cc
+
+-- A decoder goes on only with the index of its encoding, and with held bytes that may begin a mark: without the index,
+-- and after `A`, it is refuted.
+index_is_needed : CanBeResumed no_lists before_any → ⊥
+index_is_needed resumed = not_last (sym resumed.ready.0)
+
+abbrev after_a : SavedDecoder
+after_a = record before_any { held = record { len = 1; bytes = 0x41 ∷ 0 ∷ [] } }
+
+letter_is_not_held : (t : IndexLists) → CanBeResumed t after_a → ⊥
+letter_is_not_held t resumed = let prefix : Other ≡ Prefix = resumed.sound.prefix refl in cc

@@ -1,11 +1,13 @@
--- Worked index texts.
-use Rattle.std.specs.Prelude.{◌≡◌, ℕ, List, [], ◌∷◌, ◌++◌, Option, Some, None, codes, refl, map, replicate}
+-- Worked index texts, and wrong outcomes of `read_index`, `read_ranges` and `load`.
+use Rattle.std.specs.Prelude.{◌≡◌, ◌≢◌, ◌⊎◌, All, ℕ, List, [], ◌∷◌, ◌++◌, Option, Some, None, Result, Ok, Err, IfErr, IfOk, MatchOption, OnErr, codes, refl, map, replicate}
+use Rattle.std.proofs.Common.{zero, suc, sym, ◌∙◌, ap, arith, inl, inr}
 use Rattle.encoding_index.specs.IndexLine.{is_skipped, row_in}
 use Rattle.encoding_index.specs.IndexText.{row_fault, first_fault, rows_before_fault, text_rows, text_list, range_pointer_end, memory_fault}
+use Rattle.encoding_index.specs.ListLaws.{IsListOf}
 use Rattle.encoding_index.specs.declared.fault.IndexFault.{IndexFault}
 use Rattle.encoding_index.specs.declared.fault.IndexFaultKind.{IndexFaultKind}
 use Rattle.encoding_index.specs.declared.fault.IndexFaultKind.TheVariants.{Row, Order, Pointer, Memory}
-use Rattle.encoding_index.specs.Loads.{pointers_of, load_fault}
+use Rattle.encoding_index.specs.Loads.{KeepsOtherKinds, Loads, WantsMemory, pointers_of, load_fault}
 use Rattle.encoding_tables.specs.IndexLists.{IndexLists}
 use Rattle.encoding_tables.specs.examples.IndexLists.{alone, no_flats}
 use Rattle.encoding_index.specs.declared.fault.LoadFault.{LoadFault}
@@ -158,3 +160,84 @@ same_value_twice = refl
 second_ranges : load_fault with_ibm866 Gb18030Ranges (codes "0\t0x0080") ≡ Some (LoadFault.Table Present)
 unfolding load_fault is_skipped row_in row_fault with_ibm866
 second_ranges = refl
+
+-- what `read_index` returns for a text of a single-byte index (clauses `list` and `fault`)
+abbrev Reads : List ℕ → Result (List ℕ) IndexFault → Type 0
+Reads text result = IfOk result (λ list. (first_fault 128 text ≡ None) × (list ≡ text_list 128 text))
+    × IfErr result (λ fault. (first_fault 128 text ≡ Some fault) ⊎ (fault ≡ memory_fault))
+
+-- A pointer that stands twice is a fault: any list is refuted, whichever row would win.
+pointer_twice_is_no_list : (list : List ℕ) → Reads (codes "0\t0x0080\n0\t0x0081") (Ok list) → ⊥
+unfolding is_skipped row_in row_fault
+pointer_twice_is_no_list list reads = let none = reads.0.0 in cc
+
+-- A line that is no row is not skipped: the list of the other rows is refuted.
+broken_line_is_not_skipped : (list : List ℕ) → Reads (codes "0\t0x80\n1\t0x0081") (Ok list) → ⊥
+unfolding is_skipped row_in row_fault
+broken_line_is_not_skipped list reads = let none = reads.0.0 in cc
+
+line_of : (f g : IndexFault) → Some f ≡ Some g → f.line ≡ g.line
+line_of f g same = let is : f ≡ g = cc in ap (λ (h : IndexFault). h.line) is
+
+-- A text with no fault is refused for want of memory alone: a line that is named is refuted.
+right_text : first_fault 128 (codes "0\t0x0080") ≡ None
+unfolding is_skipped row_in row_fault
+right_text = refl
+
+right_text_is_not_refused : Reads (codes "0\t0x0080") (Err (record { line = 1; kind = Row })) → ⊥
+right_text_is_not_refused (ok, inl is) = let some : None ≡ fault_at 1 Row = sym right_text ∙ is in cc
+right_text_is_not_refused (ok, inr is) = omega (arith, ap (λ (h : IndexFault). h.line) is)
+
+-- The fault that is named is the first: the second is refuted.
+two_faults : first_fault 128 (codes "0\t0x80\n128\t0x0081") ≡ fault_at 1 Row
+unfolding is_skipped row_in row_fault
+two_faults = refl
+
+second_fault_is_not_named : Reads (codes "0\t0x80\n128\t0x0081") (Err (record { line = 2; kind = Pointer })) → ⊥
+second_fault_is_not_named (ok, inl is) = omega (arith, line_of _ _ (sym two_faults ∙ is))
+second_fault_is_not_named (ok, inr is) = omega (arith, ap (λ (h : IndexFault). h.line) is)
+
+-- The list of some rows has each row's code point: of two rows with one pointer the last does not win. It has 0
+-- elsewhere: an entry that no row names is refuted.
+last_row_does_not_win : IsListOf 2 ((0, 0x80) ∷ (0, 0x81) ∷ []) (0x81 ∷ 0 ∷ []) → ⊥
+last_row_does_not_win list = omega (arith, (list.mapped 0 (0, 0) (omega arith)).1)
+
+no_row_at_1 : All (λ (row : ℕ × ℕ). row.0 ≢ 1) ((0, 0x80) ∷ [])
+no_row_at_1 zero d less same = omega (arith, same)
+no_row_at_1 (suc k) d less same = absurd (omega (arith, less))
+
+no_entry_is_made_up : IsListOf 2 ((0, 0x80) ∷ []) (0x80 ∷ 0x81 ∷ []) → ⊥
+no_entry_is_made_up list = omega (arith, list.unmapped 1 no_row_at_1)
+
+-- what `load` returns, by the fault that there is (clause `fault`)
+abbrev LoadReturns : Option LoadFault → Result (Unit {0}) LoadFault → Type 0
+LoadReturns fault result = MatchOption fault ((result ≡ Ok tt) ⊎ WantsMemory result)
+    (λ f. (result ≡ Err f) ⊎ (result ≡ Err (LoadFault.Text memory_fault)))
+
+-- A list with an ASCII character is not loaded: `Ok` is refuted.
+ascii_is_not_loaded : LoadReturns (load_fault empty_tables Ibm866 (codes "0\t0x0041")) (Ok tt) → ⊥
+unfolding load_fault is_skipped row_in row_fault empty_tables
+ascii_is_not_loaded (inl is) = cc
+ascii_is_not_loaded (inr is) = cc
+
+-- A right text is loaded, or memory was refused: another fault is refuted.
+right_text_is_loaded : LoadReturns (load_fault empty_tables Ibm866 (codes "0\t0x0410")) (Err (LoadFault.Table Present)) → ⊥
+unfolding load_fault is_skipped row_in row_fault empty_tables
+right_text_is_loaded (inl is) = cc
+right_text_is_loaded (inr (inl is)) = cc
+right_text_is_loaded (inr (inr is)) = cc
+
+-- A load that fails changes nothing: tables that lost their ranges are refuted (clause `unchanged`).
+failed_load_changes_nothing : (f : LoadFault) → OnErr {T = Unit {0}} (Err f) (record with_ibm866 { rows = None } ≡ with_ibm866) → ⊥
+unfolding with_ibm866
+failed_load_changes_nothing f same = let rows = ap (λ (t : IndexLists). t.rows) same in cc
+
+-- A load of one index leaves the others: tables that lost another list are refuted.
+other_indexes_stay : KeepsOtherKinds with_ibm866 empty_tables Big5 → ⊥
+unfolding with_ibm866 empty_tables
+other_indexes_stay keeps = let list = keeps.0 Ibm866 (λ e. cc) in cc
+
+-- A list is loaded with each row at its pointer: one that is moved by one is refuted.
+moved_list_is_not_loaded : Loads (record { flats = alone Ibm866 (0 ∷ 0x410 ∷ replicate 126 0); rows = None }) Ibm866 (codes "0\t0x0410") → ⊥
+unfolding row_in
+moved_list_is_not_loaded loaded = cc

@@ -4,9 +4,11 @@ use Rattle.std.proofs.lemmas.Bool.{lt-ltb}
 use Rattle.encoding_mem.specs.Piece.{Piece, well_formed, malformed, head_piece, piece_len, piece_text}
 use Rattle.encoding_mem.specs.Pieces.{pieces_in}
 use Rattle.encoding_mem.specs.Event.{malformed_at}
-use Rattle.encoding_mem.specs.calls.Decoding.{DecoderState, IsKnown, Reports, StateCall, TakesSoon, Waits, bytes_room, reported_event, sink_room, units_room}
+use Rattle.encoding_mem.specs.calls.Decoding.{DecoderState, IsKnown, Reports, StateCall, Suffices, TakesSoon, Waits, bytes_room, reported_event, sink_room, units_room}
 use Rattle.encoding_mem.specs.Utf8.{pieces_utf8}
 use Rattle.encoding_mem.specs.declared.codec.decoder_result.DecoderResult.TheVariants.{InputEmpty, Malformed, OutputFull}
+use Rattle.encoding_mem.specs.declared.codec.room.OutputUnit.{OutputUnit}
+use Rattle.encoding_mem.specs.declared.codec.room.OutputUnit.TheVariants.{Bytes}
 use Rattle.encoding_mem.specs.Decided.{AreBytes, IsDecided, IsUndecided}
 
 -- a malformed sequence of two bytes is reported at the offset where it ends
@@ -173,3 +175,7 @@ room_of_bytes = refl
 
 room_of_units : sink_room true (length {A = ℕ}) (0x41 ∷ 0x42 ∷ 0x43 ∷ []) (0x41 ∷ []) ≡ units_room 3 1
 room_of_units = refl
+
+-- A call with room enough for its bytes does not end for lack of it: `OutputFull` is refuted.
+enough_is_not_refused : (before after : OutputUnit → ℕ → ℕ) (last : Bool) (unread new : ℕ) → before Bytes 3 ≡ 9 → Suffices before after false last 3 unread 9 new OutputFull → ⊥
+enough_is_not_refused before after last unread new nine enough = enough Bytes 0 refl (λ _. refl) (omega (arith, nine))

@@ -197,3 +197,24 @@ others_stay (suc (suc (suc i))) paired = refl
 
 pub both_are_mended : IsMended parted mended
 both_are_mended = record { same_length = refl; lone = mended_where_alone; others = others_stay }
+
+-- A conversion of a part takes all that fits, and parts no surrogate pair: `A` alone of `A€` into four bytes is refuted,
+-- and half of U+1F4A9.
+pub fitting_euro_is_taken : ¬ (IsLongest (IsUnitBoundary letter_and_euro) (bytes_before letter_and_euro) 2 4 1)
+unfolding utf16_chars encode_utf8
+fitting_euro_is_taken longest = omega (arith, longest.longest 2 (omega arith) (omega arith) (λ k e p. absurd (omega (arith, p.1))))
+
+pub half_a_pair_is_not_taken : ¬ (IsLongest (IsUnitBoundary pair) (bytes_before pair) 2 3 1)
+half_a_pair_is_not_taken longest = longest.whole 0 refl ((omega arith, omega arith), (omega arith, omega arith))
+
+-- A cut sequence is not well-formed: a prefix that has it is refuted.
+pub cut_is_not_text : ¬ (IsLongestPrefix IsUtf8 letter_and_cut 3)
+cut_is_not_text prefix = omega (arith, text_in_longer_cut, utf8_valid_len-IsUtf8 letter_and_cut prefix.well_formed)
+
+-- A surrogate pair is no lone surrogate: U+FFFD in its place is refuted.
+pub pair_is_not_mended : ¬ (IsMended pair (0xFFFD ∷ 0xFFFD ∷ []))
+pair_is_not_mended mend = omega (arith, mend.others 0 paired)
+  where
+    paired : ¬ (IsLoneSurrogate pair 0)
+    paired (inl alone) = alone.1 (omega arith, omega arith)
+    paired (inr low) = omega (arith, low.0)

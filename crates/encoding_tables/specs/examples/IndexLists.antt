@@ -2,7 +2,7 @@
 use Rattle.std.specs.Prelude.{◌≡◌, ℕ, true, false, List, [], ◌∷◌, ◌==◌, if◌then◌else◌, Option, None, Some, refl}
 use Rattle.encoding_tables.specs.declared.index_kind.IndexKind.{IndexKind}
 use Rattle.encoding_tables.specs.declared.index_kind.IndexKind.TheVariants.{Ibm866, Big5, Gb18030Ranges, Jis0208}
-use Rattle.encoding_tables.specs.IndexLists.{IndexLists, has, index_entries, range_rows}
+use Rattle.encoding_tables.specs.IndexLists.{AreAcceptedTables, IndexLists, has, index_entries, range_rows}
 use Rattle.encoding_tables.specs.calls.Slots.{slot_of}
 
 -- lists for examples: none, or of one kind alone
@@ -39,3 +39,7 @@ no_ranges = refl
 
 no_rows : range_rows (record { flats = no_flats; rows = None }) ≡ []
 no_rows = refl
+
+-- Tables with a list of another size are refuted.
+short_list_is_not_accepted : AreAcceptedTables two_indexes → ⊥
+short_list_is_not_accepted accepted = let none = accepted.0 Ibm866 in cc

@@ -1,6 +1,7 @@
--- Worked rows of `specs/Lookups.antt`.
-use Rattle.std.proofs.Common.{refl}
-use Rattle.std.specs.Prelude.{◌≡◌, [], ◌∷◌, None, Some}
+-- Worked rows of `specs/Lookups.antt` and `specs/LookupLaws.antt`.
+use Rattle.std.proofs.Common.{refl, arith}
+use Rattle.std.specs.Prelude.{◌≡◌, ◌<◌, ℕ, [], ◌∷◌, None, Some}
+use Rattle.encoding_tables.specs.LookupLaws.{IsPointer}
 use Rattle.encoding_tables.specs.Lookups.{value_of, first_pointer, last_pointer}
 
 first : first_pointer (0 ∷ 0xE9 ∷ 0xE9 ∷ []) 0xE9 0 3 ≡ Some 1
@@ -34,3 +35,19 @@ last_from_a_pointer = refl
 
 zero_is_at_none : last_pointer (0 ∷ 0xE9 ∷ []) 0 0 2 ≡ None
 zero_is_at_none = refl
+
+-- A pointer with another character, with none, or at the end of those that are searched is refuted.
+other_character_is_not_found : IsPointer (0xE8 ∷ 0xE9 ∷ []) 0xE9 0 2 0 → ⊥
+other_character_is_not_found pointer = by 0xE8 0xE9 pointer.entry (omega arith)
+  where
+    by : (c d : ℕ) → Some c ≡ Some d → c < d → ⊥
+    by c d same less = let is : c ≡ d = cc in omega (arith, is, less)
+
+unmapped_is_not_found : IsPointer (0 ∷ 0xE9 ∷ []) 0 0 2 0 → ⊥
+unmapped_is_not_found pointer = by 0 pointer.entry
+  where
+    by : (c : ℕ) → None ≡ Some c → ⊥
+    by c same = cc
+
+end_is_not_searched : IsPointer (0xE8 ∷ 0xE9 ∷ []) 0xE9 0 1 1 → ⊥
+end_is_not_searched pointer = omega (arith, pointer.before)

@@ -2,7 +2,7 @@
 use Rattle.std.proofs.Common.{zero, suc, [], ◌∷◌, refl, arith}
 use Rattle.std.specs.Prelude.{◌≡◌, ◌+◌, ◌<◌, ℕ, List, replicate, slice_index, true, false}
 use Rattle.std.proofs.lemmas.List.{length-replicate}
-use Rattle.encoding_tables.specs.calls.SortedRows.{is_below, AreRising, AreSorted, IsTight}
+use Rattle.encoding_tables.specs.calls.SortedRows.{is_below, AreRising, AreSorted, IsRank, IsTight, IsWithinDigits}
 
 by_the_first : is_below (3, 9) (4, 0) ≡ true
 by_the_first = refl
@@ -50,3 +50,19 @@ not_tight t = omega (arith, t.stands 2 (omega arith))
 -- nor has it a place for a number above 2^16 - 1, and one more after it
 not_tight_for_great_numbers : (rows : List (ℕ × ℕ)) → ¬ (IsTight rows (replicate 65538 0))
 not_tight_for_great_numbers rows t = omega (arith, t.short, length-replicate {A = ℕ} 65538 0)
+
+-- A search for a row that is there returns its position: the position after it is refuted.
+row_is_not_missed : IsRank ((3, 9) ∷ (5, 8) ∷ []) (5, 8) 2 → ⊥
+row_is_not_missed rank = let below = rank.below 1 (omega arith) in cc
+
+-- A search for a key that no row has returns how many rows are below it: a position before one of these is refuted.
+absent_key_is_between : IsRank ((3, 9) ∷ (5, 8) ∷ []) (4, 0) 0 → ⊥
+absent_key_is_between rank = rank.others 0 (omega arith) (omega arith) refl
+
+-- A position after the last row and one more is refuted.
+rank_is_not_past_the_end : IsRank ((3, 9) ∷ []) (4, 0) 2 → ⊥
+rank_is_not_past_the_end rank = omega (arith, rank.within)
+
+-- A search among 7 rows makes at most 3 comparisons: 4 are refuted, and so is a search row by row.
+four_of_seven_are_too_many : IsWithinDigits 4 7 → ⊥
+four_of_seven_are_too_many within = omega (arith, within 3 (omega arith))

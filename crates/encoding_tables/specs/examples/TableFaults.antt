@@ -1,8 +1,13 @@
--- Worked rows of `specs/TableFaults.antt`.
-use Rattle.std.specs.Prelude.{◌≡◌, [], ◌∷◌, ◌++◌, map, None, Some, replicate, true, false}
-use Rattle.std.proofs.Common.{refl}
-use Rattle.encoding_tables.specs.declared.index_kind.IndexKind.TheVariants.{Big5, EucKr, Jis0208, Jis0212, Windows1252}
-use Rattle.encoding_tables.specs.declared.table_fault.TableFault.TheVariants.{Present, Size, Entry, Reserved, Ranges}
+-- Worked rows of `specs/TableFaults.antt` and `specs/Accepted.antt`, and wrong outcomes of the insertions of `Tables`.
+use Rattle.std.specs.Prelude.{◌≡◌, ◌≢◌, ◌⊎◌, ℕ, [], ◌∷◌, ◌++◌, map, None, Some, Ok, Err, MatchOption, OnErr, Option, Result, replicate, true, false}
+use Rattle.std.proofs.Common.{refl, arith, ap, inl, inr}
+use Rattle.encoding_tables.specs.declared.index_kind.IndexKind.{IndexKind}
+use Rattle.encoding_tables.specs.declared.index_kind.IndexKind.TheVariants.{Big5, EucKr, Ibm866, Jis0208, Jis0212, Windows1252}
+use Rattle.encoding_tables.specs.declared.table_fault.TableFault.{TableFault}
+use Rattle.encoding_tables.specs.declared.table_fault.TableFault.TheVariants.{Present, Size, Entry, Reserved, Ranges, Memory}
+use Rattle.encoding_tables.specs.Accepted.{IsIndex}
+use Rattle.encoding_tables.specs.IndexLists.{IndexLists}
+use Rattle.encoding_tables.specs.examples.IndexLists.{no_flats, alone}
 use Rattle.encoding_tables.specs.TableFaults.{is_entry_of, flat_fault, range_fault}
 
 short : flat_fault false Windows1252 (replicate 127 0) ≡ Some Size
@@ -99,3 +104,46 @@ wrong_row = refl
 
 no_rows : range_fault false [] ≡ None
 no_rows = refl
+
+-- what an insertion returns by the fault of what is handed in (clauses `fault` of `Tables`)
+abbrev Returns : Option TableFault → Result (Unit {0}) TableFault → Type 0
+Returns fault result = MatchOption fault ((result ≡ Ok tt) ⊎ (result ≡ Err Memory)) (λ f. result ≡ Err f)
+
+-- A list that is too long is not inserted: `Ok` is refuted.
+long_is_not_taken : Returns (flat_fault false Windows1252 (replicate 129 0)) (Ok tt) → ⊥
+long_is_not_taken is = cc
+
+-- The fault that is returned is the one that there is: `Size` of a list with a wrong entry alone is refuted.
+other_fault_is_not_named : Returns (flat_fault false Windows1252 (0x41 ∷ replicate 127 0)) (Err Size) → ⊥
+other_fault_is_not_named is = cc
+
+-- Rows that give one value twice are not inserted as ranges: `Ok` is refuted.
+same_value_is_not_taken : Returns (range_fault false ((0, 0x80) ∷ (36, 0x80) ∷ [])) (Ok tt) → ⊥
+same_value_is_not_taken is = cc
+
+-- A list with no fault is refused for want of memory alone: `Entry` is refuted.
+right_list_is_not_refused : Returns (flat_fault false Windows1252 (replicate 128 0)) (Err (Entry 0)) → ⊥
+right_list_is_not_refused (inl is) = cc
+right_list_is_not_refused (inr is) = cc
+
+-- tables with one index and the ranges, both of them short for these rows
+abbrev old_tables : IndexLists
+old_tables = record { flats = alone Ibm866 (0x410 ∷ []); rows = Some [] }
+
+-- An insertion that fails changes nothing: tables that lost their ranges are refuted (clauses `unchanged`).
+refusal_changes_nothing : OnErr {T = Unit {0}} (Err Size) (record old_tables { rows = None } ≡ old_tables) → ⊥
+refusal_changes_nothing same = let rows = ap (λ (t : IndexLists). t.rows) same in cc
+
+-- An insertion of one kind leaves the others: tables that lost another list are refuted (clauses `others`).
+other_lists_stay : ((other : IndexKind) → other ≢ Windows1252 → no_flats other ≡ old_tables.flats other) → ⊥
+other_lists_stay same = let list = same Ibm866 (λ e. cc) in cc
+
+-- A list of another size, an ASCII character and an end-user-defined one in Shift_JIS are in no index.
+long_is_no_index : IsIndex Windows1252 (replicate 129 0) → ⊥
+long_is_no_index index = omega (arith, index.size)
+
+ascii_is_in_no_index : IsIndex Windows1252 (0x41 ∷ replicate 127 0) → ⊥
+ascii_is_in_no_index index = omega (arith, (index.entries 0 (λ e. cc)).high)
+
+reserved_is_not_in_jis0208 : IsIndex Jis0208 (replicate 8836 0 ++ (0x4E00 ∷ replicate 2443 0)) → ⊥
+reserved_is_not_in_jis0208 index = omega (arith, index.reserved refl 8836 (omega arith) (omega arith))
