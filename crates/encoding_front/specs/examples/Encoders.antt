@@ -207,11 +207,19 @@ last_escape_is_written : (room : ℕ) → Encoded (state Ascii) true InputEmpty 
 unfolding no_tables state
 last_escape_is_written room call = omega (arith, ap length call.bytes)
 
--- A call ends for lack of room only if fewer bytes are free than the next step can need: `OutputFull` with three free
--- bytes is refuted, and with nothing left to write.
+-- A call ends for lack of room only if what comes next does not fit: `OutputFull` is refuted with three free bytes,
+-- with two free bytes before `A`, and with nothing left to write.
 three_bytes_are_enough : (last : Bool) (t w rest : List ℕ) (x' : EncoderState) → Encoded (state Ascii) last OutputFull t w x' rest 3 → ⊥
 unfolding state
 three_bytes_are_enough last t w rest x' call = omega (arith, call.codec.ends.0)
+
+letter_fits_into_two_bytes : (last : Bool) (w : List ℕ) → Encoded (state Ascii) last OutputFull (0x41 ∷ []) w (state Ascii) (0x41 ∷ []) 2 → ⊥
+unfolding no_tables state
+letter_fits_into_two_bytes last w call = by call.codec.tight
+  where
+    by : (2 < 0) ⊎ ((Ascii ≡ Ascii) × (2 < 1)) → ⊥
+    by (inl few) = omega (arith, few)
+    by (inr few) = omega (arith, few.1)
 
 nothing_is_left : (t w : List ℕ) (room : ℕ) → Encoded (state Ascii) false OutputFull t w (state Ascii) [] room → ⊥
 unfolding state
@@ -244,6 +252,17 @@ reference_is_told x' w rest size call = told_of_pile call.prefix rest call.split
 nine_bytes_take_nothing : (last lost : Bool) (t rest : List ℕ) (x' : EncoderState) (outcome : CoderResult) → Replaces (state Ascii) last outcome t (0x41 ∷ []) x' rest lost 9 → ⊥
 unfolding state
 nine_bytes_take_nothing last lost t rest x' outcome call = no_end_of 0x41 [] (call.few (omega arith)).1
+
+-- Only a reference reaches into the kept bytes: `A` in the first of ten is refuted.
+last_of : (prefix before rest : List ℕ) (lost : ℕ) → 0x41 ∷ [] ≡ prefix ++ rest → prefix ≡ before ++ lost ∷ [] → lost ≡ 0x41
+last_of prefix [] rest lost split is = let whole : 0x41 ∷ [] ≡ lost ∷ rest = split ∙ ap (λ l. l ++ rest) is in cc
+last_of prefix (c ∷ []) rest lost split is = let whole : 0x41 ∷ [] ≡ c ∷ lost ∷ rest = split ∙ ap (λ l. l ++ rest) is in absurd (cc)
+last_of prefix (c ∷ d ∷ before) rest lost split is = let whole : 0x41 ∷ [] ≡ c ∷ d ∷ ((before ++ lost ∷ []) ++ rest) = split ∙ ap (λ l. l ++ rest) is in absurd (cc)
+
+letter_is_not_among_the_kept : (last lost : Bool) (outcome : CoderResult) (rest : List ℕ) (x' : EncoderState) → Replaces (state Ascii) last outcome (0x41 ∷ []) (0x41 ∷ []) x' rest lost 10 → ⊥
+unfolding no_tables state
+letter_is_not_among_the_kept last lost outcome rest x' call = let ends = call.kept (omega arith) in
+    ends.unmapped (subst (λ (c : ℕ). IsMapped ((coding_of no_tables Iso2022Jp).form c)) (sym (last_of call.prefix ends.before rest ends.lost call.split ends.is)) tt)
 
 -- A last call with replacement leaves ISO-2022-JP in ASCII.
 last_call_with_replacement_ends_in_ascii : (t w rest : List ℕ) (lost : Bool) (size : ℕ) → Replaces (state Ascii) true CoderResult.InputEmpty t w (state Roman) rest lost size → ⊥

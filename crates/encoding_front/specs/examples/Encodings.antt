@@ -1,8 +1,8 @@
 -- Worked cases of the encodings.
-use Rattle.std.specs.Prelude.{◌≡◌, not, None, Some, [], ◌∷◌, codes, filter, refl, ℕ, ◌+◌, ◌==◌, if◌then◌else◌, List, Option, length, map, replicate}
+use Rattle.std.specs.Prelude.{◌≡◌, not, true, false, None, Some, [], ◌∷◌, codes, filter, refl, ℕ, ◌+◌, ◌==◌, if◌then◌else◌, List, Option, length, map, replicate}
 use Rattle.encoding_tables.specs.declared.index_kind.IndexKind.{IndexKind}
 use Rattle.encoding_front.specs.EncodingTable.{encodings, encoding_name}
-use Rattle.encoding_front.specs.Encodings.{is_ascii_compatible_of, is_single_byte_of, mark_at_start, needs_of, output_encoding_of, byte_order_marks, pieces_of, coding_of, set_pieces_of}
+use Rattle.encoding_front.specs.Encodings.{IsReady, KeepsCharacters, no_lists, is_ascii_compatible_of, is_single_byte_of, mark_at_start, needs_of, output_encoding_of, byte_order_marks, pieces_of, coding_of, set_pieces_of}
 use Rattle.encoding_front.specs.calls.CodecBounds.{need_of, decoded_length_of}
 use Rattle.encoding_front.specs.declared.encoding.Encoding.{Encoding}
 use Rattle.std.specs.Char.{encode_utf8}
@@ -234,3 +234,10 @@ reads_from_one_set = refl
 reads_user_defined_from_set : set_pieces_of tables XUserDefined Roman (0x80 ∷ []) ≡ well_formed 1 (0xF780 ∷ []) ∷ []
 unfolding pieces_in
 reads_user_defined_from_set = refl
+
+-- An encoding is not ready without its index, and one with folds does not keep its characters: both are refuted.
+no_index_is_not_ready : IsReady no_lists Windows1252 → ⊥
+no_index_is_not_ready ready = let there : false ≡ true = ready.0 in cc
+
+shift_jis_has_folds : KeepsCharacters ShiftJis → ⊥
+shift_jis_has_folds keeps = keeps

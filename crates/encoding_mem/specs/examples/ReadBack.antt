@@ -1,7 +1,9 @@
 -- Worked rows of `specs/ReadBack.antt`.
-use Rattle.std.proofs.Common.{[], ◌∷◌, refl}
+use Rattle.std.proofs.Common.{[], ◌∷◌, length, refl, ap, arith}
 use Rattle.encoding_mem.specs.Pieces.{pieces_in}
-use Rattle.encoding_mem.specs.ReadBack.{ReadsAs}
+use Rattle.encoding_mem.specs.ReadBack.{ReadsAs, ReadsBackExactly}
+use Rattle.encoding_mem.specs.declared.codec.reference.Reference.TheVariants.{Decimal}
+use Rattle.encoding_mem.specs.examples.SampleCoding.{sample_coding}
 use Rattle.encoding_mem.specs.Utf8.{pieces_utf8}
 
 -- `Aé` is read as its two characters
@@ -13,3 +15,9 @@ letters_are_read = record { well_formed = (tt, (tt, tt)); same = refl }
 malformed_is_not_read : ¬ (ReadsAs pieces_utf8 (0xFF ∷ []) (0xFFFD ∷ []))
 unfolding pieces_in
 malformed_is_not_read reads = reads.well_formed.0
+
+-- A target is said to read back exactly only by its own decoder: the sample target, read as UTF-8, is refuted, since an
+-- escape and `\` stand for `¥`.
+escape_is_no_text : ¬ (ReadsBackExactly pieces_utf8 sample_coding)
+unfolding pieces_in
+escape_is_no_text exact = omega (arith, ap length ((exact Decimal (0xA5 ∷ []) refl).1 (tt, tt)).same)

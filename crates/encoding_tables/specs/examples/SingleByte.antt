@@ -97,3 +97,12 @@ letters_before_euro = record { within = omega arith; same = each_letter; other =
     each_letter zero less = refl
     each_letter (suc zero) less = refl
     each_letter (suc (suc k)) less = absurd (omega (arith, less))
+
+-- the bytes before it that are told are all of them: one for two is refuted, and the byte 80 itself
+one_letter_is_not_all : ¬ (IsLatin1UpTo (pieces_single_byte sample) (0x41 ∷ 0x42 ∷ 0x80 ∷ []) 1)
+unfolding sample pieces_in
+one_letter_is_not_all told = told.other (omega arith) refl
+
+euro_is_not_told : ¬ (IsLatin1UpTo (pieces_single_byte sample) (0x80 ∷ []) 1)
+unfolding sample pieces_in
+euro_is_not_told told = euro_is_another (told.same 0 (omega arith))

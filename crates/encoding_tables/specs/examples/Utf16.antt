@@ -1,6 +1,8 @@
 -- Worked rows of `specs/Utf16.antt`.
+use Rattle.std.proofs.Common.{◌++◌, List}
 use Rattle.std.specs.Prelude.{◌≡◌, true, false, [], ◌∷◌, map, None, Some, refl}
-use Rattle.encoding_mem.specs.Piece.{well_formed, malformed}
+use Rattle.encoding_mem.specs.Parts.{StandsAlone}
+use Rattle.encoding_mem.specs.Piece.{Piece, well_formed, malformed}
 use Rattle.encoding_mem.specs.Pieces.{pieces_in}
 use Rattle.encoding_tables.specs.Utf16.{bytes_of_units, pieces_utf16, piece_of_char}
 
@@ -85,3 +87,13 @@ sizes_of_characters = refl
 -- the units D83D and DCA9 (U+1F4A9) are the bytes 3D D8 A9 DC in little-endian order
 bytes_of_pair : bytes_of_units false (0xD83D ∷ 0xDCA9 ∷ []) ≡ 0x3D ∷ 0xD8 ∷ 0xA9 ∷ 0xDC ∷ []
 bytes_of_pair = refl
+
+-- An input in UTF-16 is not cut after a byte 0A, which is half of a unit: the byte as a piece by itself is refuted.
+line_feed_is_half_a_unit : ¬ (StandsAlone (pieces_utf16 false) 0x0A)
+unfolding pieces_in
+line_feed_is_half_a_unit stands = by (stands.alone []).0 (stands.alone []).1
+  where
+    by : (before : List Piece) → malformed 1 ∷ [] ≡ before ++ well_formed 1 (0x0A ∷ []) ∷ [] → ⊥
+    by [] is = cc
+    by (p ∷ []) is = cc
+    by (p ∷ q ∷ before) is = cc
