@@ -32,8 +32,8 @@ kept_windows_1252 = refl
 room_iso_2022_jp : queried_room Iso2022Jp false 7 ≡ Some 31
 room_iso_2022_jp = refl
 
-room_with_reference_is_told : queried_with_kept Iso2022Jp false 7 ≡ Some 41
-room_with_reference_is_told = refl
+room_with_reference_is_returned : queried_with_kept Iso2022Jp false 7 ≡ Some 41
+room_with_reference_is_returned = refl
 
 room_of_units_with_kept : queried_with_kept Iso2022Jp true 7 ≡ Some 48
 room_of_units_with_kept = refl
@@ -169,8 +169,8 @@ no_end_of : (c : ℕ) (t : List ℕ) → c ∷ t ≡ [] → ⊥
 no_end_of c t none = cc
 
 -- A call that returns `InputEmpty` has read all text: an unread character is refuted.
-unread_character_is_told : (x x' : EncoderState) (w : List ℕ) (room : ℕ) → Encoded x true InputEmpty (0x41 ∷ []) w x' (0x41 ∷ []) room → ⊥
-unread_character_is_told x x' w room call = no_end_of 0x41 [] call.codec.ends.0
+unread_character_is_no_end : (x x' : EncoderState) (w : List ℕ) (room : ℕ) → Encoded x true InputEmpty (0x41 ∷ []) w x' (0x41 ∷ []) room → ⊥
+unread_character_is_no_end x x' w room call = no_end_of 0x41 [] call.codec.ends.0
 
 -- A character without bytes is reported: `InputEmpty` after it is refuted.
 all_of_pile : (before next : List ℕ) → 0x1F4A9 ∷ [] ≡ before ++ next → next ≡ [] → AllMapped (coding_of no_tables Iso2022Jp) before → ⊥
@@ -238,15 +238,15 @@ reference_is_whole : (lost : Bool) → Replaces (state Ascii) false CoderResult.
 unfolding no_tables state digits
 reference_is_whole lost call = omega (arith, ap length (call.bytes []))
 
--- A reference that was written is told: `false` after one is refuted.
-told_of_pile : (prefix rest : List ℕ) → 0x1F4A9 ∷ [] ≡ prefix ++ rest → rest ≡ [] → (0 < lost_count (coding_of no_tables Iso2022Jp) prefix → IsTrue false) → ⊥
+-- A call returns whether it wrote a reference: `false` after one is refuted.
+returned_for_pile : (prefix rest : List ℕ) → 0x1F4A9 ∷ [] ≡ prefix ++ rest → rest ≡ [] → (0 < lost_count (coding_of no_tables Iso2022Jp) prefix → IsTrue false) → ⊥
 unfolding no_tables
-told_of_pile prefix rest split none told = let same : prefix ≡ 0x1F4A9 ∷ [] = sym (append-nil prefix) ∙ ap (λ l. prefix ++ l) (sym none) ∙ sym split in
+returned_for_pile prefix rest split none told = let same : prefix ≡ 0x1F4A9 ∷ [] = sym (append-nil prefix) ∙ ap (λ l. prefix ++ l) (sym none) ∙ sym split in
     let never : false ≡ true = told (subst (λ (l : List ℕ). 0 < lost_count (coding_of no_tables Iso2022Jp) l) (sym same) (omega arith)) in cc
 
-reference_is_told : (x' : EncoderState) (w rest : List ℕ) (size : ℕ) → Replaces (state Ascii) true CoderResult.InputEmpty (0x1F4A9 ∷ []) w x' rest false size → ⊥
+reference_is_returned : (x' : EncoderState) (w rest : List ℕ) (size : ℕ) → Replaces (state Ascii) true CoderResult.InputEmpty (0x1F4A9 ∷ []) w x' rest false size → ⊥
 unfolding state
-reference_is_told x' w rest size call = told_of_pile call.prefix rest call.split call.ends.0 call.told.1
+reference_is_returned x' w rest size call = returned_for_pile call.prefix rest call.split call.ends.0 call.told.1
 
 -- Nothing is written into fewer bytes than are kept back for a reference: `A` into nine is refuted.
 nine_bytes_take_nothing : (last lost : Bool) (t rest : List ℕ) (x' : EncoderState) (outcome : CoderResult) → Replaces (state Ascii) last outcome t (0x41 ∷ []) x' rest lost 9 → ⊥

@@ -27,12 +27,12 @@ of_utf_16 = refl
 of_replacement : latin1_rule Encoding.Replacement ≡ untold
 of_replacement = refl
 
--- While a mark may still come it is not known how far bytes are Latin1: a number is refuted.
-mark_may_come : (t : IndexLists) (v : DecoderView) (bytes : List ℕ) (n : ℕ) → IsNewDecoder v t Sniff Encoding.Utf8 → TellsLatin1Prefix v bytes (Some n) → ⊥
-mark_may_come t v bytes n new tells = let sought : is_sought v.opening.sought ≡ true = ap (λ (o : Opening). is_sought o.sought) new.opening in
+-- While a byte order mark can still come, the length of the prefix is unknown: a number is refuted.
+mark_can_come : (t : IndexLists) (v : DecoderView) (bytes : List ℕ) (n : ℕ) → IsNewDecoder v t Sniff Encoding.Utf8 → TellsLatin1Prefix v bytes (Some n) → ⊥
+mark_can_come t v bytes n new tells = let sought : is_sought v.opening.sought ≡ true = ap (λ (o : Opening). is_sought o.sought) new.opening in
     let none : is_sought v.opening.sought ≡ false = tells.0.0 in cc
 
--- The number is that of all bytes before the first that is not ASCII: fewer for `Aé` are refuted, and more.
+-- The prefix ends before the first byte that is not ASCII: 0 and 2 for `Aé` are refuted.
 ascii_letter : (i : ℕ) → slice_index (0x41 ∷ []) i < 128
 ascii_letter zero = omega arith
 ascii_letter (suc i) = omega arith

@@ -29,17 +29,17 @@ nothing = refl
 too_much : room_at_start Keep Encoding.Utf8 Replaced 0x5555555555555555 ≡ None
 too_much = refl
 
--- `decode` tells that there was a malformed sequence, and only then: both wrong words are refuted.
-error_is_told : (t : IndexLists) (text : List ℕ) → IsDecoded t Keep Encoding.Utf8 (0x41 ∷ 0xFF ∷ []) text false → ⊥
+-- `decode` returns whether there was a malformed sequence: both wrong answers are refuted.
+error_is_returned : (t : IndexLists) (text : List ℕ) → IsDecoded t Keep Encoding.Utf8 (0x41 ∷ 0xFF ∷ []) text false → ⊥
 unfolding pieces_in
-error_is_told t text decoded = let never : false ≡ true = decoded.malformed_.1 (omega arith) in cc
+error_is_returned t text decoded = let never : false ≡ true = decoded.malformed_.1 (omega arith) in cc
 
 no_error_is_made_up : (t : IndexLists) (text : List ℕ) → IsDecoded t Keep Encoding.Utf8 (0x41 ∷ []) text true → ⊥
 unfolding pieces_in
 no_error_is_made_up t text decoded = omega (arith, decoded.malformed_.0 refl)
 
--- Its text has U+FFFD for a malformed sequence, and no mark that is taken: text without the one or with the other is
--- refuted.
+-- The text has U+FFFD for a malformed sequence, and no byte order mark that was skipped: text without the one, or with
+-- the other, is refuted.
 replacement_is_written : (t : IndexLists) → IsDecoded t Keep Encoding.Utf8 (0x41 ∷ 0xFF ∷ []) (0x41 ∷ []) true → ⊥
 unfolding pieces_in lib.Utf8.encode
 replacement_is_written t decoded = omega (arith, ap length decoded.bytes)
@@ -58,7 +58,7 @@ text_for_right_bytes : (t : IndexLists) (r : Option (List ℕ)) → r ≡ None �
 unfolding pieces_in
 text_for_right_bytes t r none returned = omega (arith, returned.0 none)
 
--- A call fails for want of memory only if it asks for some, and by `Overflow` only if the room passes a `usize`.
+-- `Memory` is returned only by a call that needs memory, and `Overflow` exactly if the room passes a `usize`.
 no_memory_is_wanted : FailsFor {T = Unit {0}} (Some 0) (Err Memory) → ⊥
 no_memory_is_wanted refused = by refused.0 refused.1 refused.2
   where
@@ -71,10 +71,10 @@ room_does_not_overflow refused = by 12 refused
     by : (n : ℕ) → Some n ≡ None → ⊥
     by n none = cc
 
-overflow_is_told : FailsFor {T = Unit {0}} None (Ok tt) → ⊥
-overflow_is_told returned = returned refl
+overflow_is_returned : FailsFor {T = Unit {0}} None (Ok tt) → ⊥
+overflow_is_returned returned = returned refl
 
--- `encode` tells that a reference was written (clause `lost`): U+1F4A9 has no bytes in x-user-defined, and `false` is
+-- `encode` returns whether a reference was written (clause `lost`): U+1F4A9 has no bytes in x-user-defined, and `false` is
 -- refuted.
-loss_is_told : (t : IndexLists) → IsTrue false ↔ (0 < lost_count (coding_of t Encoding.XUserDefined) (0x41 ∷ 0x1F4A9 ∷ [])) → ⊥
-loss_is_told t told = let never : false ≡ true = told.1 (omega arith) in cc
+loss_is_returned : (t : IndexLists) → IsTrue false ↔ (0 < lost_count (coding_of t Encoding.XUserDefined) (0x41 ∷ 0x1F4A9 ∷ [])) → ⊥
+loss_is_returned t told = let never : false ≡ true = told.1 (omega arith) in cc

@@ -113,8 +113,8 @@ encoding_is_saved w v utf8 old saves = let same = saves.in_force in cc
 end_is_saved : (w : SavedDecoder) (v : DecoderView) → v.finished ≡ true → w.is_finished ≡ false → Saves w v → ⊥
 end_is_saved w v over open_ saves = let same = saves.finished in cc
 
--- A decoder goes on only with the index of its encoding, and with held bytes that may begin a mark: without the index,
--- and after `A`, it is refuted.
+-- A decoder can be resumed only with the index of its encoding, and with held bytes that can begin a mark: no index, and
+-- `A` as a held byte, are refuted.
 index_is_needed : CanBeResumed no_lists before_any → ⊥
 index_is_needed resumed = not_last (sym resumed.ready.0)
 
