@@ -1,11 +1,10 @@
 -- Wrong outcomes of calls of a decoder, refuted from `specs/calls/DecoderCall.antt` and `specs/calls/Stream.antt`. The
 -- calls are the first ones of a new decoder.
-use Rattle.std.proofs.Common.{◌≡◌, ◌≢◌, ℕ, ◌+◌, ◌<◌, ◌⊎◌, ◌↔◌, inl, inr, Bool, true, false, IsTrue, Some, List, [], ◌∷◌, ◌++◌, length, drop, refl, sym, ◌∙◌, ap, subst, append-nil, arith, lit<}
-use Rattle.encoding_mem.specs.Piece.{Piece, malformed, well_formed, head_piece, malformed_count, scalars, sizes, text, AreWellFormed}
+use Rattle.std.proofs.Common.{◌≡◌, ◌≢◌, ℕ, ◌+◌, ◌⊎◌, inl, inr, Bool, true, false, IsTrue, Some, List, [], ◌∷◌, ◌++◌, length, refl, sym, ◌∙◌, ap, subst, append-nil, arith}
+use Rattle.encoding_mem.specs.Piece.{Piece, malformed, well_formed, head_piece, scalars, sizes, text, AreWellFormed}
 use Rattle.encoding_mem.specs.Pieces.{pieces_in}
 use Rattle.encoding_mem.specs.Utf8.{pieces_utf8}
 use Rattle.encoding_mem.specs.calls.Decoding.{Waits}
-use Rattle.encoding_mem.specs.declared.codec.decoder_result.DecoderResult.{DecoderResult}
 use Rattle.encoding_mem.specs.declared.codec.decoder_result.DecoderResult.TheVariants.{InputEmpty, OutputFull, Malformed}
 use Rattle.encoding_mem.specs.declared.codec.room.OutputUnit.TheVariants.{Bytes}
 use Rattle.encoding_tables.specs.IndexLists.{IndexLists}
@@ -47,7 +46,7 @@ other_length_is_not_reported : (t : IndexLists) (v v' : DecoderView) (last : Boo
     → DecoderCall v v' (0xE2 ∷ 0x82 ∷ 0x41 ∷ []) last 3 W left (Malformed 3 0) → ⊥
 other_length_is_not_reported t v v' last left W new call = let told = call.law.well_formed.4 in
     let all : malformed 2 ∷ well_formed 1 (0x41 ∷ []) ∷ [] ≡ call.law.taken ++ v'.state.pieces []
-            = sym pieces_of_half ∙ sym (new.pieces (0xE2 ∷ 0x82 ∷ 0x41 ∷ [])) ∙ call.law.rest [] (λ _. refl) in
+    = sym pieces_of_half ∙ sym (new.pieces (0xE2 ∷ 0x82 ∷ 0x41 ∷ [])) ∙ call.law.rest [] (λ _. refl) in
     omega (arith, (reported 2 3 call.law.taken told.0 (v'.state.pieces []) _ told.1 told.2 all).0)
 
 -- The result says how many bytes were read after the sequence: none, if one was, is refuted.
@@ -55,7 +54,7 @@ other_offset_is_not_reported : (t : IndexLists) (v v' : DecoderView) (last : Boo
     → DecoderCall v v' (0xE2 ∷ 0x82 ∷ 0x41 ∷ []) last 3 W left (Malformed 2 0) → ⊥
 other_offset_is_not_reported t v v' last left W new call = let told = call.law.well_formed.4 in
     let all : malformed 2 ∷ well_formed 1 (0x41 ∷ []) ∷ [] ≡ call.law.taken ++ v'.state.pieces []
-            = sym pieces_of_half ∙ sym (new.pieces (0xE2 ∷ 0x82 ∷ 0x41 ∷ [])) ∙ call.law.rest [] (λ _. refl) in
+    = sym pieces_of_half ∙ sym (new.pieces (0xE2 ∷ 0x82 ∷ 0x41 ∷ [])) ∙ call.law.rest [] (λ _. refl) in
     omega (arith, (reported 2 2 call.law.taken told.0 (v'.state.pieces []) _ told.1 told.2 all).1, call.law.counted, call.law.well_formed.0, new.pending)
 
 -- pieces of which the first is malformed are not all taken by a call that reports none

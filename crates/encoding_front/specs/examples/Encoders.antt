@@ -7,7 +7,7 @@ use Rattle.encoding_mem.specs.Coding.{AllMapped, lost_count, open_from, whole_fr
 use Rattle.encoding_mem.specs.declared.codec.encoder_result.EncoderResult.TheVariants.{InputEmpty, OutputFull, Unmappable}
 use Rattle.encoding_mem.specs.examples.SampleCoding.{sample_coding}
 use Rattle.encoding_mem.specs.declared.codec.form.EscapeState.TheVariants.{Ascii, Roman}
-use Rattle.encoding_front.specs.calls.Encoder.{Encoded, ReadsText, ReplacingEndsWith, coding_in, kept_back, queried_room, queried_with_kept, EndsWithReference, EncoderState, Puts, Replaces}
+use Rattle.encoding_front.specs.calls.Encoder.{Encoded, ReadsText, ReplacingEndsWith, kept_back, queried_room, queried_with_kept, EndsWithReference, EncoderState, Puts, Replaces}
 use Rattle.encoding_front.specs.declared.coder_result.CoderResult.{CoderResult}
 use Rattle.encoding_front.specs.declared.encoding.Encoding.TheVariants.{Iso2022Jp, Replacement, Utf8, Utf16Le, Windows1252, Big5, EucJp, EucKr, Gb18030, Gbk, ShiftJis, XUserDefined, Utf16Be}
 use Rattle.encoding_tables.specs.IndexLists.{IndexLists}

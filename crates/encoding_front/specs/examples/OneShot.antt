@@ -1,13 +1,11 @@
 -- Worked rows of `specs/calls/OneShot.antt`, and wrong outcomes of the calls for a whole input.
-use Rattle.std.proofs.Common.{◌≡◌, ◌≢◌, ◌<◌, ◌↔◌, ℕ, true, false, IsTrue, Option, None, Some, Result, Ok, Err, List, [], ◌∷◌, length, refl, sym, ap, ◌∙◌, arith}
-use Rattle.std.specs.Prelude.{encode_utf8_all}
+use Rattle.std.proofs.Common.{◌≡◌, ◌<◌, ◌↔◌, ℕ, true, false, IsTrue, Option, None, Some, Ok, Err, List, [], ◌∷◌, length, refl, ap, arith}
 use Rattle.encoding_mem.specs.Coding.{lost_count}
 use Rattle.encoding_mem.specs.Piece.{malformed_count}
 use Rattle.encoding_mem.specs.Pieces.{pieces_in}
 use Rattle.encoding_tables.specs.IndexLists.{IndexLists}
 use Rattle.encoding_front.specs.Encodings.{coding_of}
-use Rattle.encoding_front.specs.Marks.{marked_pieces, marked_text}
-use Rattle.encoding_front.specs.declared.one_shot_fault.OneShotFault.{OneShotFault}
+use Rattle.encoding_front.specs.Marks.{marked_pieces}
 use Rattle.encoding_front.specs.declared.one_shot_fault.OneShotFault.TheVariants.{Overflow, Memory}
 use Rattle.encoding_mem.specs.declared.codec.room.OutputUnit.TheVariants.{Bytes, Replaced}
 use Rattle.encoding_front.specs.declared.encoding.Encoding.{Encoding}
