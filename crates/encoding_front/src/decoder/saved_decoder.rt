@@ -111,7 +111,9 @@ impl<'t> Decoder<'t> {
         let mut inner = VariantDecoder::new(saved.encoding, tables);
         inner.resume_on(saved.pieces);
         let mut held = Pending::new();
-        held.fill(saved.held.as_slice());
+        // A saved decoder holds no more: this bounds words that none was saved in.
+        let bytes = saved.held.as_slice();
+        held.fill(&bytes[..bytes.len().min(2)]);
         Decoder {
             inner,
             encoding: saved.encoding,
