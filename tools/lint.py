@@ -15,7 +15,7 @@
 - Each source file but a crate's root begins with a line that says what it is for (`//!`).
 - No function is proved by hand but those that `HAND_PROOFS` names: such a proof could choose a history of devices.
 - The crate for Rust declares the library as the header does (tools/gate/rust_crate.py).
-- The patches of docs/examples apply.
+- The patches of docs/examples apply, and count the labels that there are then.
 - Each file of tools/ that a text names is there, and tools/README.md names each.
 - What the documents link is there.
 """
@@ -214,6 +214,8 @@ def first_lines():
             yield "%s does not begin with a line //! that says what it is for" % path
 
 
+# The labels of a row of tools/encodings.toml.
+ENCODING_LABELS = re.compile(r'^ *\{ name = .* labels = "([^"]*)" \},$', re.M)
 TOOL = re.compile(r"(?<![\w/])(?:\.\./)*tools/([\w/]+\.(?:py|toml|md))")
 
 
@@ -235,13 +237,19 @@ def tools():
 
 
 def example():
-    """The patch that adds an encoding; `make example` proves it."""
+    """The patches of docs/examples apply, and the one that adds an encoding counts the labels that there are then."""
     for name in sorted(os.listdir(os.path.join(TOP, "docs", "examples"))):
         if not name.endswith(".patch"):
             continue
-        words = ["git", "apply", "--check", os.path.join("docs", "examples", name)]
-        if subprocess.run(words, cwd=TOP, capture_output=True, check=False).returncode:
-            yield "docs/examples/%s does not apply" % name
+        path = os.path.join("docs", "examples", name)
+        if subprocess.run(["git", "apply", "--check", path], cwd=TOP, capture_output=True, check=False).returncode:
+            yield "%s does not apply" % path
+        added = ENCODING_LABELS.findall("\n".join(re.findall(r"^\+(.*)", read(os.path.join(TOP, path)), re.M)))
+        if added:
+            rows = added + ENCODING_LABELS.findall(read(os.path.join(TOP, "tools", "encodings.toml")))
+            count = sum(len(row.split()) for row in rows)
+            if "\n+length-labels : length labels ≡ %d\n" % count not in read(os.path.join(TOP, path)):
+                yield "%s does not count %d labels" % (path, count)
 
 
 CHECKS = (

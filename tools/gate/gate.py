@@ -7,8 +7,9 @@ The programs run by a table of command lines (`command_lines.py`), on random inp
 converts, too (`sample.py`), with memory refused (`refused_memory.py`), with hostile index texts (`hostile_indexes.py`)
 and on hostile streams (`hostile_streams.py`), and `recode-places` on the logs of runs (`places.py`). The library for C is
 built, loaded and called (`c_interface.py`). What is stored is compared with what plain programs say (`stored.py`), and
-what the definitions give with what such a program gives (`compare_definitions.py`). The crate for Rust is tested over the
-library that was built (`rust_crate.py`).
+what the definitions give with what such a program gives (`compare_definitions.py`). The codec and the encoding of
+docs/examples are compiled, each added to a copy, and not proved (`example.py`). The crate for Rust is tested over the library
+that was built (`rust_crate.py`).
 Each of these steps counts as one more in the last line. Two of them run at a time, since the machine of the gate has
 two processors; the last is alone. The status is 0 if nothing failed.
 """
@@ -29,6 +30,7 @@ from steps import TOP
 import c_interface
 import command_lines
 import compare_definitions
+import example
 import fuzz
 import hostile_indexes
 import hostile_streams
@@ -51,6 +53,7 @@ STEPS = [
     ("places", places.faults),
     ("library for C", c_interface.faults),
     ("definitions", compare_definitions.faults),
+    ("examples of a codec and an encoding", example.faults),
 ]
 # What wants the library that a step has built.
 LAST = ("crate for Rust", rust_crate.faults)
@@ -76,7 +79,7 @@ def tried(faults):
     said = io.StringIO()
     with contextlib.redirect_stdout(said):
         try:
-            wrong = faults()
+            wrong = list(faults())
         except Exception as fault:
             wrong = ["%s: %s" % (type(fault).__name__, fault)]
     return said.getvalue(), wrong

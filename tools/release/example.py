@@ -2,6 +2,7 @@
 """Adds what docs/examples has to copies of the last commit, and proves it there.
 
     make example
+    python3 tools/release/example.py --try
 
 - `iso_8859_1.patch`: a codec, as a crate. Its tests stand in it, and not in a crate of their own, so that the patch is one
   crate.
@@ -9,7 +10,7 @@
   `generate_encodings.py`.
 
 A copy takes over what earlier checks of its crates and of those below have kept in `out/`, which saves minutes. It is
-removed at the end.
+removed at the end. With `--try`, as the gate calls it, nothing is proved: what is patched is compiled, and its tests are run.
 """
 
 import os
@@ -20,42 +21,49 @@ import tempfile
 
 TOP = os.path.join(os.path.dirname(os.path.abspath(__file__)), "..", "..")
 GENERATE = ["python3", os.path.join("tools", "generate_encodings.py")]
-CHECK = ["rt", "check"]
-# A patch, the crates of which what is kept is taken over, and then the commands, each with the folder it is run in.
+CHECK, TRY = ["rt", "check"], ["rt", "try", "--test"]
+# A patch, the crates of which what is kept is taken over, and then the commands, each with the folder it is run in: those that
+# try what is patched, and those that prove it.
 EXAMPLES = [
     (
         "iso_8859_1.patch",
         ["encoding_mem", "encoding_tables"],
+        [("crates/encoding_iso_8859_1", TRY)],
         [("crates/encoding_iso_8859_1", ["rt", "check", "--test"]), ("crates/encoding_iso_8859_1", ["rt", "test"])],
     ),
     (
         "ibm912.patch",
         ["encoding_mem", "encoding_labels", "encoding_tables", "encoding_codecs", "encoding_front"],
+        [(".", GENERATE), ("crates/test_libraries", TRY)],
         [(".", GENERATE), ("crates/encoding_labels", CHECK), ("crates/encoding_front", CHECK)],
     ),
 ]
 
 
-def prove(patch, crates, commands):
-    with tempfile.TemporaryDirectory() as copy:
-        archive = subprocess.run(["git", "archive", "HEAD"], cwd=TOP, check=True, capture_output=True)
-        subprocess.run(["tar", "-x"], cwd=copy, check=True, input=archive.stdout)
-        for crate in crates:
-            kept = os.path.join(TOP, "crates", crate, "out")
-            if os.path.isdir(kept):
-                shutil.copytree(kept, os.path.join(copy, "crates", crate, "out"), symlinks=True)
-        subprocess.run(["git", "apply", os.path.join("docs", "examples", patch)], cwd=copy, check=True)
-        for folder, command in commands:
-            ended = subprocess.run(command, cwd=os.path.join(copy, folder), capture_output=True, text=True)
-            print(patch + ":", " ".join(command), folder, ended.stdout.rstrip().rsplit("\n", 1)[-1], flush=True)
-            if ended.returncode != 0:
-                sys.exit(ended.stdout + ended.stderr)
+def faults(proves=False):
+    """What is wrong with the examples, each in a copy of the last commit."""
+    for patch, crates, tried, proved in EXAMPLES:
+        with tempfile.TemporaryDirectory() as copy:
+            archive = subprocess.run(["git", "archive", "HEAD"], cwd=TOP, check=True, capture_output=True)
+            subprocess.run(["tar", "-x"], cwd=copy, check=True, input=archive.stdout)
+            for crate in crates if proves else ():
+                kept = os.path.join(TOP, "crates", crate, "out")
+                if os.path.isdir(kept):
+                    shutil.copytree(kept, os.path.join(copy, "crates", crate, "out"), symlinks=True)
+            subprocess.run(["git", "apply", os.path.join("docs", "examples", patch)], cwd=copy, check=True)
+            for folder, command in proved if proves else tried:
+                ran = subprocess.run(command, cwd=os.path.join(copy, folder), capture_output=True, text=True, check=False)
+                print(patch + ":", " ".join(command), folder, ran.stdout.rstrip().rsplit("\n", 1)[-1], flush=True)
+                if ran.returncode:
+                    yield "%s: %s in %s: %s" % (patch, " ".join(command), folder, (ran.stdout + ran.stderr)[-4000:])
+                    break
 
 
 def main():
-    for example in EXAMPLES:
-        prove(*example)
+    wrong = list(faults(proves="--try" not in sys.argv))
+    print(*wrong, sep="\n", end="", file=sys.stderr)
+    return 1 if wrong else 0
 
 
 if __name__ == "__main__":
-    main()
+    sys.exit(main())
