@@ -2,7 +2,7 @@
 //!
 //! The library is `libjillapun.a` in the folder that JILLAPUN_LIB names, or where `make c` or an unpacked archive has
 //! it. The index texts are the files of the folder that JILLAPUN_INDEXES names, or of the repository's or the
-//! archive's.
+//! archive's. The library is code for one system, which the build script checks first.
 
 use std::env;
 use std::path::{Path, PathBuf};
@@ -12,6 +12,14 @@ const ARCHIVE: &str = "libjillapun.a";
 
 fn main() {
     println!("cargo:rerun-if-changed=build.rs");
+    let target = |what| env::var(format!("CARGO_CFG_TARGET_{what}")).unwrap_or_default();
+    if (target("ARCH").as_str(), target("OS").as_str()) != ("x86_64", "linux") {
+        failed(&format!(
+            "{ARCHIVE} is code for x86_64 Linux (with SSE4.2, and glibc 2.14 or later), and the target is {}: build for \
+             x86_64-unknown-linux-gnu, or use encoding_rs from crates.io",
+            env::var("TARGET").unwrap_or_default()
+        ));
+    }
     let indexes = found("JILLAPUN_INDEXES", &["indexes", "share/recode/indexes"], "index-jis0208.txt");
     println!("cargo:rustc-env=JILLAPUN_INDEXES={}", indexes.display());
     let folder = found("JILLAPUN_LIB", &["out/c", "lib"], ARCHIVE);

@@ -3,8 +3,9 @@
 
     python3 tools/gate/rust_crate.py
 
-It runs `cargo test --offline` there, with what Debian's package librust-serde-dev has, and the example on a short input. If
-something that it needs is not here, it says so, and nothing is wrong.
+It runs `cargo test --offline` there, with what Debian's package librust-serde-dev has, and the example on a short input. For
+another processor the build script must refuse, and say why. If something that it needs is not here, it says so, and nothing
+is wrong.
 
 `make lint` compares what the crate declares of the library with `include/jillapun.h`: functions, types and numbers.
 """
@@ -32,16 +33,25 @@ DECLARED = os.path.join(CRATE, "src", "sys", "raw.rs")
 OLDEST = (1, 70)
 # The tests take no longer, in seconds.
 PATIENCE = 1200
+# Cargo takes other crates from Debian's packages, and not from the network.
+DEBIAN = ['source.crates-io.replace-with="debian"', 'source.debian.directory="%s"' % os.path.dirname(SERDE)]
 # Words for cargo. The example has them, too, since the crate is built anew for others.
-FLAGS = ["--offline", "--features", "serde"]
+FLAGS = ["--offline", *(word for setting in DEBIAN for word in ("--config", setting)), "--features", "serde"]
 EXAMPLE = ["cargo", "run", "--quiet", *FLAGS, "--example", "losses", "shift_jis"]
 # What the example reads, and what it writes to standard output and to standard error.
 READ = b"A\x83\x6e\xff\n\x83"
 WRITTEN = "A\u30cf\ufffd\n\ufffd", "malformed: 1 from offset 3 on\nmalformed: 1 from offset 5 on\n"
 
 
+# A target that the library is no code for, and what the build script says of it.
+OTHER = ["cargo", "check", "--offline", "--target", "aarch64-unknown-linux-gnu"]
+REFUSED = "libjillapun.a is code for x86_64 Linux"
+
 # The types of the header, as Rust writes them.
-TYPES = {"size_t": "usize", "uint8_t": "u8", "uint32_t": "u32", "bool": "bool", "jillapun_char16": "u16", "void": "c_void"}
+TYPES = {
+    "size_t": "usize", "uint8_t": "u8", "jillapun_status": "u8", "uint32_t": "u32", "bool": "bool", "jillapun_char16": "u16",
+    "void": "c_void",
+}  # fmt: skip
 
 
 def in_rust(declared):
@@ -130,8 +140,13 @@ def faults():
     print("%d tests of the crate for Rust" % sum(map(int, re.findall(r"^test result: ok\. (\d+) passed", said, re.M))))
     if status:
         return ["cargo test: status %d\n%s%s" % (status, said[-4000:], errors[-4000:])]
-    ran = run(EXAMPLE, READ)
-    return [] if ran == (0, *WRITTEN) else ["%s: %r" % (" ".join(EXAMPLE), ran)]
+    wrong = []
+    if (ran := run(EXAMPLE, READ)) != (0, *WRITTEN):
+        wrong.append("%s: %r" % (" ".join(EXAMPLE), ran))
+    status, said, errors = run(OTHER)
+    if not status or REFUSED not in errors:
+        wrong.append("%s: status %d\n%s%s" % (" ".join(OTHER), status, said, errors[-4000:]))
+    return wrong
 
 
 if __name__ == "__main__":
