@@ -17,8 +17,8 @@ help:
 # stand on.
 ## Proves and builds the programs
 build:
-	@cd crates/recode_cli && rt run -- --version > /dev/null
-	@cd crates/recode_places_cli && rt run -- --version > /dev/null
+	@python3 tools/release/fresh.py recode_cli recode_cli rt run -- --version
+	@python3 tools/release/fresh.py recode_places_cli recode_places_cli rt run -- --version
 
 # out/c/libjillapun.a and out/c/libjillapun.so. Their header is include/jillapun.h.
 ## Proves and builds the library for C, static and shared
@@ -36,12 +36,13 @@ try:
 run:
 	@cd crates/recode_cli && rt run -- --from $(FROM) --to $(TO) --indexes $(CURDIR)/indexes
 
-# The library for C comes with its header and its file for pkg-config; bash gets completions.
+# The library for C comes with its header and its files for pkg-config; bash gets completions. No file is overwritten that an
+# earlier `make install` has not put there.
 ## Installs programs, library for C, man pages and index texts below PREFIX
 install: build c
 	@python3 tools/release/install.py --prefix "$(PREFIX)" --destdir "$(DESTDIR)"
 
-## Takes away what make install has put there
+## Removes what make install has put there
 uninstall:
 	@python3 tools/release/install.py --remove --prefix "$(PREFIX)" --destdir "$(DESTDIR)"
 

@@ -171,16 +171,20 @@ def unpacked(folder):
     if not cc or not shutil.which("pkg-config"):
         print("left out: a program over what `make dist` packs, since there is no C compiler (cc) or no pkg-config here")
         return
-    there = dict(os.environ, PKG_CONFIG_PATH=os.path.join(top, "lib", "pkgconfig"), LD_LIBRARY_PATH=os.path.join(top, "lib"))
-    flags = run(["pkg-config", "--cflags", "--libs", "jillapun"], env=there).stdout.decode().split()
-    program = os.path.join(folder, "first")
-    said = compiled([cc, os.path.join(EXAMPLES, "first.c"), *flags, "-o", program])
-    if said:
-        yield "first.c over what `make dist` packs: %s" % said
-        return
-    ran = run([program], env=there)
-    if (ran.returncode, ran.stdout) != (0, read(os.path.join(EXAMPLES, "first.out"))):
-        yield "first.c over what `make dist` packs: status %d, %r, %r" % (ran.returncode, ran.stdout, ran.stderr[-2000:])
+    there = {**os.environ, "PKG_CONFIG_PATH": os.path.join(top, "lib", "pkgconfig")}
+    there.pop("LD_LIBRARY_PATH", None)
+    # The words of docs/C.md; `linked.c` also calls a name of encoding_c_mem.
+    start = "-Wl,-rpath,$(pkg-config --variable=libdir jillapun)"
+    plain = "$(pkg-config --cflags --libs jillapun)"
+    linked = "-ljillapun_encoding_c $(pkg-config --cflags --libs jillapun-indexes)"
+    for name, flags in (("first", plain), ("linked", linked)):
+        program = os.path.join(folder, name)
+        words = 'exec "$0" "$1" %s %s -o "$2"' % (flags, start)
+        ran = run(["sh", "-c", words, cc, os.path.join(EXAMPLES, name + ".c"), program], env=there)
+        if not ran.returncode:
+            ran = run([program], env=there)
+        if (ran.returncode, ran.stdout) != (0, read(os.path.join(EXAMPLES, name + ".out"))):
+            yield "%s.c over what `make dist` packs: status %d, %r, %r" % (name, ran.returncode, ran.stdout, ran.stderr[-2000:])
     print("packed, unpacked and linked with: %s" % os.path.basename(top))
 
 

@@ -1,5 +1,6 @@
 #!/usr/bin/env python3
 """Installs all in a folder, calls `recode` and `recode-places` there, and removes all: as `make install` and `make uninstall`.
+A file of someone else's has to stay as it is, and all can be read by others whatever the umask.
 
     python3 tools/gate/installed.py
 
@@ -242,27 +243,57 @@ def readme_faults(top, folder):
                 yield "README.md: %s: %r and not %r" % (command, found, wanted)
 
 
+def sources_faults():
+    """Which files are packed from a clone alone, or from files that were unpacked alone."""
+    for place in install.SOURCES:
+        if found := set(install.tracked(place)) ^ set(install.unpacked(place)):
+            yield "packed from a clone or without one alone: %s" % sorted(found)
+
+
 def faults():
     """What is wrong with what is installed."""
+    yield from sources_faults()
     sources = [os.path.join(TOP, source) for source, _ in [*install.PROGRAMS, *install.FILES]]
     if not all(map(os.path.isfile, sources)):
         print("left out: the installed commands, since not all is built (make build, make c)")
         return
     with tempfile.TemporaryDirectory() as folder:
         top = os.path.join(folder, "a prefix")
-        install.install(top, top)
-        if files_in(top) != set(install.targets()):
-            yield "installed, and not removed or the other way round: %s" % (files_in(top) ^ set(install.targets()))
+        placed(top)
+        wanted = {*install.targets(), install.LIST}
+        if files_in(top) != wanted:
+            yield "installed, and not removed or the other way round: %s" % (files_in(top) ^ wanted)
+        for place, _, _ in os.walk(top):
+            if os.stat(place).st_mode & 0o777 != 0o755:
+                yield "installed under umask 077: %s has the mode %o" % (place, os.stat(place).st_mode)
         yield from recode_faults(top, folder)
         yield from places_faults(top, folder)
         yield from completion_faults(top, folder)
         yield from readme_faults(top, folder)
-        with open(os.path.join(top, "bin", "other"), "wb"):
-            pass
-        install.remove(top)
-        if files_in(top) != {"bin/other"} or any(os.path.exists(os.path.join(top, own)) for own in install.OWN):
-            yield "left after `make uninstall`: %s" % files_in(top)
+        yield from others_faults(top)
     print("installed, called and removed")
+
+
+def placed(top, *words):
+    """Installs all, as `make install` does, under a umask that is for one's own: the status, and what is said."""
+    command = [sys.executable, install.__file__, "--prefix", top, *words]
+    return subprocess.run(command, umask=0o077, capture_output=True, text=True, timeout=PATIENCE, check=False)
+
+
+def others_faults(top):
+    """What is wrong if some of what is there is someone else's: a file beside it, and the command `recode`."""
+    path = os.path.join(top, "bin", "recode")
+    if placed(top).returncode:
+        yield "a second `make install`: %s" % placed(top)
+    for name in ("other", "recode"):
+        install.written("#!/bin/sh\n", os.path.join(top, "bin", name), 0o755)
+    again, removed = placed(top), placed(top, "--remove")
+    if not again.returncode or "bin/recode" not in again.stderr or removed.returncode or path not in removed.stdout:
+        yield "with a command of someone else's: %s, %s" % (again, removed)
+    if files_in(top) != {"bin/other", "bin/recode"} or any(os.path.exists(os.path.join(top, own)) for own in install.OWN):
+        yield "left after `make uninstall`: %s" % files_in(top)
+    if not placed(top).returncode or files_in(top) != {"bin/other", "bin/recode"}:
+        yield "over a command of someone else's: %s" % files_in(top)
 
 
 if __name__ == "__main__":

@@ -16,6 +16,7 @@ import subprocess
 import sys
 
 import c_archives
+import fresh
 
 TOP = os.path.abspath(os.path.join(os.path.dirname(os.path.abspath(__file__)), "..", ".."))
 CRATE = os.path.join(TOP, "crates", "jillapun_c")
@@ -101,10 +102,19 @@ def build(folder=OUT, *flags):
 
 
 def main():
+    here = os.path.dirname(os.path.abspath(__file__))
+    scripts = [os.path.join(here, name) for name in ("c_library.py", "c_archives.py")]
+    names = [ARCHIVE, SHARED + "." + version(), *c_archives.ARCHIVES]
+    outputs = [os.path.join(OUT, name) for name in names]
+    made = fresh.Made("jillapun_c", outputs, [*scripts, VERSION_SOURCE, c_archives.INDEXES])
+    if made.is_fresh():
+        return
+    print("proving and building the library for C: 5 GB of memory, and 8 minutes the first time", flush=True)
     try:
         paths = build()
     except NotBuilt as fault:
         sys.exit(str(fault))
+    made.keep()
     for path in paths:
         print("built", os.path.relpath(path, TOP))
 

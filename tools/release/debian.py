@@ -51,8 +51,8 @@ PACKAGES = {
         "convert text between the encodings of the web, and tell what is lost",
         "The program recode converts its standard input between the 40 encodings of the Encoding Standard, and logs each "
         "malformed sequence and each character that has no bytes; its status says whether the output reads back as the "
-        "input. The program recode-places shows line and column of what was lost. Both are proved to do what the standard "
-        "says.",
+        "input. The program recode-places shows line and column of what was lost. What recode writes and reports is proved to "
+        "be what definitions made after the standard say.",
     ),
     "jillapun-data": (
         "all",
@@ -66,8 +66,8 @@ PACKAGES = {
         "libs",
         "Depends: libc6 (>= 2.{glibc})\nRecommends: jillapun-data\n",
         "text encodings by the Encoding Standard",
-        "The library decodes and encodes text in the 40 encodings of the Encoding Standard, and converts between them. It is "
-        "proved to do what the standard says.",
+        "The library decodes and encodes text in the 40 encodings of the Encoding Standard, and converts between them. Its "
+        "functions are proved to meet contracts made after the standard.",
     ),
     "libjillapun-dev": (
         "amd64",
@@ -162,6 +162,8 @@ def spread(top, folders):
     shared, soname, link = install.library_names()
     for path in install.targets():
         name = os.path.basename(path)
+        if path.startswith(install.DOCUMENTS):
+            continue  # each package has its own, of `add_documents`
         if path.startswith("share/man"):
             package = "libjillapun-dev" if path.endswith(".3") else "jillapun"
             squeezed(os.path.join(top, path), os.path.join(folders[package], "usr", path + ".gz"))
@@ -198,6 +200,8 @@ def add_documents(name, folder):
     licences = {"copyright": "COPYRIGHT", "mit": "LICENSE-MIT", "whatwg": "LICENSE-WHATWG"}
     text = COPYRIGHT.format(**{key: indented(file) for key, file in licences.items()})
     install.written(text, os.path.join(documents, "copyright"))
+    if name in ("jillapun", "libjillapun0", "libjillapun-dev"):
+        install.written(install.linked_licences(), os.path.join(documents, os.path.basename(install.LINKED)))
     date = time.strftime("%a, %d %b %Y %H:%M:%S +0000", time.gmtime(install.commit_time()))
     changes = os.path.join(documents, "changelog.Debian")
     install.written(CHANGELOG.format(version=version(), maintainer=MAINTAINER, date=date), changes)
@@ -241,9 +245,10 @@ def pack(out=OUT):
         folders = {name: os.path.join(whole, name) for name in PACKAGES}
         top = os.path.join(whole, "top")
         install.install(top, "/usr")
-        text = install.PKG_CONFIG.format(prefix="/usr", version=c_library.version())
-        pc = text.replace("${prefix}/lib", "${prefix}/" + LIBRARIES.removeprefix("usr/"))
-        install.written(pc, os.path.join(top, install.PKG_CONFIG_FILE))
+        for target, text in install.PKG_CONFIG.items():
+            text = text.format(prefix="/usr", version=c_library.version())
+            pc = text.replace("${prefix}/lib", "${prefix}/" + LIBRARIES.removeprefix("usr/"))
+            install.written(pc, os.path.join(top, target))
         spread(top, folders)
         add_python(folders["python3-jillapun"])
         for name, folder in folders.items():
