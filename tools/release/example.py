@@ -10,7 +10,7 @@
   `generate_encodings.py`.
 
 A copy takes over what earlier checks of its crates and of those below have kept in `out/`, which saves minutes. It is
-removed at the end. With `--try`, as the gate calls it, nothing is proved: what is patched is compiled, and its tests are run.
+removed at the end. With `--try`, as the gate calls it, nothing is proved: what is patched is compiled and run.
 """
 
 import os
@@ -22,8 +22,10 @@ import tempfile
 TOP = os.path.join(os.path.dirname(os.path.abspath(__file__)), "..", "..")
 GENERATE = ["python3", os.path.join("tools", "generate_encodings.py")]
 CHECK, TRY = ["rt", "check"], ["rt", "try", "--test"]
-# A patch, the crates of which what is kept is taken over, and then the commands, each with the folder it is run in: those that
-# try what is patched, and those that prove it.
+# The program, compiled with an encoding more, on a byte of it.
+RECODE = ["rt", "try", "--", "--from", "cp912", "--to", "utf-8", "--indexes", "{top}/indexes"]
+# A patch, the crates of which what is kept is taken over, and then the commands, each with the folder it is run in, and with
+# its input and output if these count: those that try what is patched, and those that prove it.
 EXAMPLES = [
     (
         "iso_8859_1.patch",
@@ -34,7 +36,7 @@ EXAMPLES = [
     (
         "ibm912.patch",
         ["encoding_mem", "encoding_labels", "encoding_tables", "encoding_codecs", "encoding_front"],
-        [(".", GENERATE), ("crates/test_libraries", TRY)],
+        [(".", GENERATE), ("crates/recode_cli", RECODE, "\udca1", "\u0104")],
         [(".", GENERATE), ("crates/encoding_labels", CHECK), ("crates/encoding_front", CHECK)],
     ),
 ]
@@ -51,10 +53,14 @@ def faults(proves=False):
                 if os.path.isdir(kept):
                     shutil.copytree(kept, os.path.join(copy, "crates", crate, "out"), symlinks=True)
             subprocess.run(["git", "apply", os.path.join("docs", "examples", patch)], cwd=copy, check=True)
-            for folder, command in proved if proves else tried:
-                ran = subprocess.run(command, cwd=os.path.join(copy, folder), capture_output=True, text=True, check=False)
+            for folder, command, *more in proved if proves else tried:
+                given, wanted = more or (None, None)
+                ran = subprocess.run(
+                    [word.format(top=copy) for word in command], cwd=os.path.join(copy, folder), input=given,
+                    capture_output=True, encoding="utf-8", errors="surrogateescape", check=False,
+                )  # fmt: skip
                 print(patch + ":", " ".join(command), folder, ran.stdout.rstrip().rsplit("\n", 1)[-1], flush=True)
-                if ran.returncode:
+                if ran.returncode or wanted not in (None, ran.stdout):
                     yield "%s: %s in %s: %s" % (patch, " ".join(command), folder, (ran.stdout + ran.stderr)[-4000:])
                     break
 
