@@ -4,9 +4,9 @@
     python3 tools/release/c_library.py
 
 `rt lib` proves crates/jillapun_c and builds it. From what it leaves in the crate's `out/` this makes, in `out/c` at the top,
-`libjillapun.a`, which has the kit's heap functions too, and `libjillapun.so.VERSION`, with the two links to it that a linker
-and a loader look for (`rt` refuses links in a crate's `out/`), and the archives of `c_archives.py`. All are made by the kit's
-tools, so no C compiler is needed.
+`libjillapun.a`, which has the kit's heap functions too, and `libjillapun.so.VERSION`, which has the index texts as well, with
+the two links to it that a linker and a loader look for (`rt` refuses links in a crate's `out/`), and the archives of
+`c_archives.py`. All are made by the kit's tools, so no C compiler is needed.
 """
 
 import os
@@ -67,11 +67,12 @@ def archive(folder):
 
 
 def shared(folder):
-    """The shared library, which shows the exports alone, and its links."""
+    """The shared library, which shows the exports and the index texts alone, and its links."""
     name = SHARED + "." + version()
     heap, system = kit("c", "liblibc_c.a"), kit("toolchain", "lib", "libc.so.6")
     words = [kit("toolchain", "bin", "ld.lld"), "-shared", "-soname", soname(), "-o", name, "-z", "now", "-z", "relro"]
-    words += ["--whole-archive", BUILT, "--no-whole-archive", "--exclude-libs", "liblibc_c.a", heap, system, "--no-undefined"]
+    words += ["--whole-archive", BUILT, os.path.join(folder, "libjillapun_indexes.a"), "--no-whole-archive"]
+    words += ["--exclude-libs", "liblibc_c.a", heap, system, "--no-undefined"]
     run(words, folder)
     for link in (soname(), SHARED):
         path = os.path.join(folder, link)
