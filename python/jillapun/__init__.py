@@ -14,7 +14,7 @@ is done by a library that is proved, `libjillapun.so`; this package needs nothin
 - `open`, `Reader`, `Writer`: files of text. `Decoder`, `Encoder`, `Converter`: streams, chunk by chunk.
 - `register`: codecs for Python's own `open`, `bytes.decode` and all else that is handed a name of an encoding.
 - `which`: how each encoding reads an input, without a guess.
-- `Indexes`: the indexes of encodings, from another folder than that of the installation. `name`, `output_name`: labels.
+- `Indexes`: other indexes of encodings than those of the library, from a folder. `name`, `output_name`: labels.
 - `part_encoding`: whether an input can be converted in parts, and as what. `join_losses`, `join_reports`: losses and
   reports of the parts, as those of the whole.
 
@@ -31,7 +31,9 @@ from ._results import (
     ConvertedFile,
     ConvertedPart,
     Decoded,
+    DecodedKept,
     Encoded,
+    EncodedKept,
     IndexesMissing,
     JillapunError,
     Lost,
@@ -59,8 +61,10 @@ __all__ = [
     "ConvertedPart",
     "Converter",
     "Decoded",
+    "DecodedKept",
     "Decoder",
     "Encoded",
+    "EncodedKept",
     "Encoder",
     "Indexes",
     "IndexesMissing",

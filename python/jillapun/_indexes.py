@@ -3,12 +3,12 @@
 import ctypes
 import hashlib
 import os
-import threading
 from functools import lru_cache
 from pathlib import Path
 from typing import Dict, Mapping, Optional, Union
 
 from . import _library as c
+from ._python_names import label_of, nearest_to
 from ._results import IndexesMissing, UnknownLabel
 
 PathLike = Union[str, "os.PathLike[str]"]
@@ -19,14 +19,33 @@ FOLDING = ("jis0208", "jis0212", "iso-2022-jp-katakana", "gb18030", "gb18030-ran
 FOLDING_SHA256 = "af0916d563269263f7f339a6d151e4e3d0c3af456d140f6eb067059034f2aabb"
 
 
-@lru_cache(maxsize=None)
+# No label has more characters, without white space. A longer one is made plain before it is the key of a cache, since white
+# space around it could fill any amount of memory.
+LONGEST = 32
+
+
+def plain(label: str) -> str:
+    """A label as the standard compares it: without white space around it, A to Z as small letters."""
+    word = label.strip("\t\n\f\r ")
+    return word.lower() if word.isascii() else word
+
+
 def number_of(label: str) -> int:
-    """The number of the encoding that has this label."""
+    """The number of the encoding that has this label, or this name in Python."""
+    return _number_of(plain(label))
+
+
+@lru_cache(maxsize=1 << 10)
+def _number_of(label: str) -> int:
     word = label.encode("utf-8", "replace")
     number: int = c.library.jillapun_for_label(word, len(word))
-    if number == c.NO_ENCODING:
-        raise UnknownLabel(label)
-    return number
+    if number != c.NO_ENCODING:
+        return number
+    python = label.replace("-", "_").replace(":", "_")
+    meant = label_of(python)
+    if meant is None:
+        raise UnknownLabel(label, nearest_to(python))
+    return _number_of(meant)
 
 
 @lru_cache(maxsize=None)
@@ -38,7 +57,8 @@ def name_of(number: int) -> str:
 
 def name(label: str) -> str:
     """The Encoding Standard's name of the encoding that has this label, as `Shift_JIS` of `sjis`. White space around it
-    and the case of letters do not matter. Raises `UnknownLabel`."""
+    and the case of letters do not matter. Python's name of a codec is taken for a label if it is one but for `_` in place
+    of `-`, or if the codec has the same index, as `cp932`. Raises `UnknownLabel`."""
     return name_of(number_of(label))
 
 
@@ -48,34 +68,36 @@ def output_name(label: str) -> str:
     return name_of(c.library.jillapun_output_encoding(number_of(label)))
 
 
-def part_encoding(head: bytes, source: str, target: str, *, mark: str = "sniff") -> Optional[str]:
+def part_encoding(head: bytes, source: str, target: str, *, mark: c.Mark = "sniff") -> Optional[str]:
     """The name of the encoding that each part of an input but the first is converted from, with `mark="keep"`, or `None`
     if the input can't be cut. It is cut behind bytes below 30, hexadecimal, as a line feed is. `head` is how it begins:
     three bytes or more, or all that it has. The first part is converted as the whole would be. `join_losses` and
     `join_reports` join losses and reports of the parts."""
-    words = number_of(source), number_of(target), c.MARKS[mark], head, len(head)
+    begin = c.bytes_of(head)
+    words = number_of(source), number_of(target), c.MARKS[mark], begin, len(begin)
     number: int = c.streams().jillapun_part_encoding(*words)
     return None if number == c.NO_ENCODING else name_of(number)
 
 
-def default_folder() -> Path:
-    """The folder of the index texts: what the variable JILLAPUN_INDEXES names, or else where `make install` puts them."""
+def default_folder() -> Optional[Path]:
+    """The folder of index texts that the variable JILLAPUN_INDEXES names. Without one there is none: the texts in the
+    library are used."""
     named = os.environ.get("JILLAPUN_INDEXES")
-    if named:
-        return Path(named)
-    here = Path(__file__).resolve().parent
-    for folder in (here, *here.parents):
-        for place in (folder / "indexes", folder / "share/recode/indexes"):
-            if (place / "index-gb18030.txt").is_file():
-                return place
-    return Path("/usr/local/share/recode/indexes")
+    return Path(named) if named else None
+
+
+def _texts_in(folder: Path) -> Dict[str, bytes]:
+    texts = {path.name: path.read_bytes() for path in sorted(folder.glob("index-*.txt"))}
+    if not texts:
+        raise IndexesMissing("%s: no index-*.txt in it" % folder)
+    return texts
 
 
 class Indexes:
     """Indexes of encodings, from a folder of index texts or from texts in memory.
 
-    They are loaded once and stay as long as the process: make one, and hand it to each call. A call with none has the
-    indexes of `default_folder()`. Threads may share one.
+    They are loaded once and stay as long as the process: make one, and hand it to each call. A call with none has those
+    of the library, or of `default_folder()`. Threads may share one.
     """
 
     def __init__(self, folder: Optional[PathLike] = None, *, texts: Optional[Mapping[str, bytes]] = None):
@@ -83,7 +105,7 @@ class Indexes:
         `IndexesMissing`, which says which text is faulty, and in which line, if it is in one."""
         if texts is None:
             place = Path(folder) if folder is not None else default_folder()
-            texts = {path.name: path.read_bytes() for path in sorted(place.glob("index-*.txt"))}
+            texts = _texts_in(place) if place is not None else c.index_texts()
         self.handle = _loaded(texts)
         folding = b"".join(texts.get("index-%s.txt" % kind, b"") for kind in FOLDING)
         # Whether characters are written as others where the standard's indexes have it so.
@@ -92,7 +114,7 @@ class Indexes:
 
 def _loaded(texts: Mapping[str, bytes]) -> c.Tables:
     names = list(texts)
-    rows = [c.IndexFile(c.Bytes.of(name.encode()), c.Bytes.of(text)) for name, text in texts.items()]
+    rows = [c.IndexFile(c.Bytes.of(name.encode()), c.Bytes.of(c.bytes_of(text))) for name, text in texts.items()]
     files = (c.IndexFile * max(len(rows), 1))(*rows)
     handle, fault = c.Tables(), c.IndexFault()
     status = c.library.jillapun_tables_new(files, len(rows), ctypes.byref(handle), ctypes.byref(fault))
@@ -106,21 +128,19 @@ def _loaded(texts: Mapping[str, bytes]) -> c.Tables:
     return handle
 
 
-_lock = threading.Lock()
 _defaults: Dict[str, Indexes] = {}
 
 
 def indexes_of(indexes: Optional[Indexes]) -> Indexes:
-    """These indexes, or those of the default folder, which are loaded when they are first wanted."""
+    """These indexes, or the default ones, which are loaded when they are first wanted.
+
+    No lock is held meanwhile: a handler of a signal, a `__del__` or a forked child would wait for it for ever. So two
+    threads may each load them, and both then have those that were ready first."""
     if indexes is not None:
         return indexes
-    if "default" not in _defaults:
-        with _lock:
-            if "default" not in _defaults:
-                _defaults["default"] = Indexes()
-    return _defaults["default"]
+    return _defaults.get("default") or _defaults.setdefault("default", Indexes())
 
 
 def handle_of(indexes: Optional[Indexes]) -> c.Tables:
-    """The handle of these indexes, or of those of the default folder."""
+    """The handle of these indexes, or of the default ones."""
     return indexes_of(indexes).handle

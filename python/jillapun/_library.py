@@ -1,12 +1,11 @@
 """The shared library: its types, its calls and its numbers, as `include/jillapun.h` has them."""
 
 import ctypes
-import ctypes.util
 import os
 import struct
 from functools import lru_cache
 from pathlib import Path
-from typing import Any, List, Optional
+from typing import Any, Dict, Literal, Optional
 
 Size = ctypes.c_size_t
 Byte = ctypes.c_uint8
@@ -19,8 +18,24 @@ GOES_ON, STOPPED, TOO_LONG, NOT_WELL_FORMED = range(11, 15)
 # Kinds of losses.
 BAD, LOST = range(2)
 
-MARKS = {"sniff": 0, "remove": 1, "keep": 2}
-POLICIES = {"decimal": 0, "hexadecimal": 1, "stop": 2}
+Mark = Literal["sniff", "remove", "keep"]
+Unmappable = Literal["decimal", "hexadecimal", "stop"]
+
+
+class Words(Dict[str, int]):
+    """The values of a parameter, each with its number. Any other raises `ValueError`."""
+
+    def __init__(self, parameter: str, *values: str):
+        super().__init__((value, number) for number, value in enumerate(values))
+        self._parameter = parameter
+
+    def __missing__(self, value: object) -> int:
+        *others, last = map(repr, self)
+        raise ValueError("%s=%r: use %s or %s" % (self._parameter, value, ", ".join(others), last))
+
+
+MARKS = Words("mark", "sniff", "remove", "keep")
+POLICIES = Words("unmappable", "decimal", "hexadecimal", "stop")
 
 NO_ENCODING = 255
 NO_LIMIT = 2**64 - 1
@@ -38,6 +53,10 @@ class Bytes(ctypes.Structure):
 
 class IndexFile(ctypes.Structure):
     _fields_ = [("name", Bytes), ("text", Bytes)]
+
+
+# The same record, as many of them are read at once: addresses, each with its length.
+_INDEX_FILE = struct.Struct("4Q")
 
 
 class IndexFault(ctypes.Structure):
@@ -86,23 +105,43 @@ class ConverterProgress(ctypes.Structure):
     _fields_ = [("read", Size), ("written", Size), ("losses", Size), ("wants_room", ctypes.c_bool)]
 
 
-def _places() -> List[str]:
-    """Where the library may be: as the environment says, beside this package, where it is packed, built or installed, or
-    where the system finds it."""
-    named = os.environ.get("JILLAPUN_LIBRARY")
-    if named:
-        return [named]
+# The name that the system finds the library by. It has the number of the interface.
+SONAME = "libjillapun.so.0"
+
+# The features of x86-64-v2, for which the library is built, as Linux names them.
+FEATURES = {"cx16", "lahf_lm", "pni", "popcnt", "sse4_1", "sse4_2", "ssse3"}
+CPUINFO = "/proc/cpuinfo"
+
+
+def _missing() -> str:
+    """The features that this processor lacks; none if the system does not list them."""
+    try:
+        with open(CPUINFO, encoding="ascii", errors="replace") as file:
+            flags = next((line for line in file if line.startswith("flags")), None)
+    except OSError:
+        flags = None
+    return " ".join(sorted(FEATURES.difference(flags.split()))) if flags else ""
+
+
+def _place() -> str:
+    """Where the library is: beside this package, as a wheel has it; where JILLAPUN_LIBRARY says; in the repository or the
+    unpacked archive that this package stands in; or where the system finds it."""
     here = Path(__file__).resolve().parent
-    near = [here / "libjillapun.so"]
-    near += [folder / place / "libjillapun.so" for folder in here.parents for place in ("lib", "out/c")]
-    found = ctypes.util.find_library("jillapun")
-    return [str(place) for place in near if place.is_file()] + ([found] if found else [])
+    own, named = here / "libjillapun.so", os.environ.get("JILLAPUN_LIBRARY")
+    if named and not own.is_file():
+        return named
+    near = own, *(here.parent.parent / folder / "libjillapun.so" for folder in ("out/c", "lib"))
+    return next((str(path) for path in near if path.is_file()), SONAME)
 
 
 def _loaded() -> ctypes.CDLL:
-    for place in _places():
-        return ctypes.CDLL(place)
-    raise ImportError("libjillapun.so is not found: JILLAPUN_LIBRARY can name it")
+    missing = _missing()
+    if missing:
+        raise ImportError("jillapun needs a processor of x86-64-v2, and this one lacks %s" % missing)
+    try:
+        return ctypes.CDLL(_place())
+    except OSError as fault:
+        raise ImportError("%s; JILLAPUN_LIBRARY can name another libjillapun.so" % fault) from fault
 
 
 library = _loaded()
@@ -139,6 +178,17 @@ def streams() -> ctypes.CDLL:
     _declare("jillapun_join_loss", ctypes.c_bool, _REPORT, ctypes.POINTER(Loss))
     _declare("jillapun_join_reports", ctypes.c_bool, _REPORT, _REPORT)
     return library
+
+
+def index_texts() -> Dict[str, bytes]:
+    """The index texts that are part of the library, by the names of their files."""
+    try:
+        count = Size.in_dll(library, "jillapun_index_files_len").value
+        rows = (ctypes.c_char * (count * _INDEX_FILE.size)).in_dll(library, "jillapun_index_files")
+    except ValueError:
+        return {}
+    parts = (ctypes.string_at(at, size) for row in _INDEX_FILE.iter_unpack(rows.raw) for at, size in (row[:2], row[2:]))
+    return {name.decode("ascii"): text for name, text in zip(parts, parts)}
 
 
 def bytes_of(data: Any) -> bytes:

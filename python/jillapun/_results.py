@@ -1,6 +1,6 @@
 """What calls return, and what they raise."""
 
-from typing import Any, Callable, Iterator, List, NamedTuple, Optional, Union
+from typing import Any, Callable, Iterator, List, NamedTuple, Optional, Tuple, Union
 
 from . import _library as c
 
@@ -48,6 +48,30 @@ class Encoded(NamedTuple):
     """The bytes, with a reference, as `&#26085;`, for each character that has none."""
     losses: List[Lost]
     """The characters without bytes, in their order."""
+    faithful: bool
+    """Whether the bytes, read again, are the text."""
+
+
+class DecodedKept(NamedTuple):
+    """What `decode` returns with `keep_losses`: the losses are counted, and the first are kept."""
+
+    text: str
+    """The text, with U+FFFD for each malformed sequence."""
+    kept_losses: List[Bad]
+    """The first malformed sequences, as many as the call was asked to keep."""
+    bad: int
+    """How many sequences were malformed."""
+
+
+class EncodedKept(NamedTuple):
+    """What `encode` returns with `keep_losses`: the losses are counted, and the first are kept."""
+
+    data: bytes
+    """The bytes, with a reference, as `&#26085;`, for each character that has none."""
+    kept_losses: List[Lost]
+    """The first characters without bytes, as many as the call was asked to keep."""
+    lost: int
+    """How many characters have no bytes."""
     faithful: bool
     """Whether the bytes, read again, are the text."""
 
@@ -122,6 +146,9 @@ class JillapunError(Exception):
 class UnknownLabel(JillapunError, LookupError):
     """No encoding has this label."""
 
+    def __init__(self, label: str, nearest: Optional[str] = None):
+        super().__init__(label if nearest is None else "%s (the nearest label is %s)" % (label, nearest))
+
 
 class IndexesMissing(JillapunError):
     """An index that an encoding needs is not there, or an index text is faulty."""
@@ -144,6 +171,9 @@ class Stopped(JillapunError):
         """What was lost up to it, with it: of a `Converter` in the last call, of other streams and of a file what was
         kept of that, and it."""
 
+    def __reduce__(self) -> Tuple[Any, ...]:
+        return type(self), (self.lost, self.output, self.losses), self.__dict__
+
 
 class NotReplaced(JillapunError):
     """A file was to be replaced by its own conversion, which would have lost something. It is as it was."""
@@ -153,6 +183,9 @@ class NotReplaced(JillapunError):
         super().__init__("left as it was (%s): %s" % (done.summary, remedy))
         self.done = done
         """What is reported of the conversion."""
+
+    def __reduce__(self) -> Tuple[Any, ...]:
+        return type(self), (self.done,), self.__dict__
 
 
 def losses_in(records: bytes, offset: int = 0, index: int = 0) -> Iterator[Loss]:

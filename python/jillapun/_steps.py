@@ -72,4 +72,4 @@ def chunk_of(file: BinaryIO) -> bytes:
     data: Optional[bytes] = file.read(CHUNK)
     if data is None:
         raise BlockingIOError("the file has no bytes yet, and does not wait for them")
-    return data
+    return c.bytes_of(data)

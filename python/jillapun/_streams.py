@@ -24,7 +24,7 @@ class Decoder:
         self,
         encoding: str,
         *,
-        mark: str = "remove",
+        mark: c.Mark = "remove",
         indexes: Optional[Indexes] = None,
         on_loss: Optional[Callable[[Bad], object]] = None,
         keep_losses: int = 0,
@@ -60,7 +60,7 @@ class Encoder:
         self,
         encoding: str,
         *,
-        unmappable: str = "decimal",
+        unmappable: c.Unmappable = "decimal",
         indexes: Optional[Indexes] = None,
         on_loss: Optional[Callable[[Lost], object]] = None,
         keep_losses: int = 0,
@@ -87,7 +87,7 @@ class Encoder:
     def encode(self, text: str, last: bool = False) -> bytes:
         """The bytes of these characters. `last` ends the text, and after it no more can be encoded. For a character
         without bytes its reference is written, or, with "stop", `Stopped` is raised, which has what was written."""
-        return self._conversion.put(text.encode(), last, self._losses)
+        return self._conversion.put(str.encode(text), last, self._losses)
 
 
 class Converter:
@@ -110,8 +110,8 @@ class Converter:
         source: str,
         target: str,
         *,
-        mark: str = "sniff",
-        unmappable: str = "decimal",
+        mark: c.Mark = "sniff",
+        unmappable: c.Unmappable = "decimal",
         limit: Optional[int] = None,
         indexes: Optional[Indexes] = None,
     ):
@@ -139,7 +139,7 @@ class Reader(io.TextIOBase):
         file: BinaryIO,
         encoding: str,
         *,
-        mark: str = "sniff",
+        mark: c.Mark = "sniff",
         indexes: Optional[Indexes] = None,
         on_loss: Optional[Callable[[Bad], object]] = None,
         keep_losses: int = 0,
@@ -211,7 +211,7 @@ class Writer(io.TextIOBase):
         file: BinaryIO,
         encoding: str,
         *,
-        unmappable: str = "decimal",
+        unmappable: c.Unmappable = "decimal",
         indexes: Optional[Indexes] = None,
         on_loss: Optional[Callable[[Lost], object]] = None,
         keep_losses: int = 0,
@@ -272,8 +272,8 @@ def open(
     mode: Literal["r"] = "r",
     *,
     encoding: str,
-    mark: str = "sniff",
-    unmappable: str = "decimal",
+    mark: c.Mark = "sniff",
+    unmappable: c.Unmappable = "decimal",
     indexes: Optional[Indexes] = None,
     on_loss: Optional[Callable[[Bad], object]] = None,
     keep_losses: int = 0,
@@ -287,8 +287,8 @@ def open(
     mode: Literal["w", "a", "x"],
     *,
     encoding: str,
-    mark: str = "sniff",
-    unmappable: str = "decimal",
+    mark: c.Mark = "sniff",
+    unmappable: c.Unmappable = "decimal",
     indexes: Optional[Indexes] = None,
     on_loss: Optional[Callable[[Lost], object]] = None,
     keep_losses: int = 0,
@@ -301,8 +301,8 @@ def open(
     mode: str = "r",
     *,
     encoding: str,
-    mark: str = "sniff",
-    unmappable: str = "decimal",
+    mark: c.Mark = "sniff",
+    unmappable: c.Unmappable = "decimal",
     indexes: Optional[Indexes] = None,
     on_loss: Optional[Callable[[Any], object]] = None,
     keep_losses: int = 0,

@@ -1,12 +1,25 @@
 """Whole texts and inputs in memory."""
 
 import sys
-from typing import List, Optional, Tuple, cast
+from typing import List, Optional, Tuple, Union, cast, overload
 
 from . import _library as c
 from ._bare import LENGTHS, NO_LIMIT, SHORT, convert_all, converting, decode_short, decoding, encode_short, encoding_to
-from ._indexes import Indexes
-from ._results import Converted, Decoded, Encoded, Loss, Losses, Lost, Report, Stopped, losses_in, refuse
+from ._indexes import LONGEST, Indexes, plain
+from ._results import (
+    Converted,
+    Decoded,
+    DecodedKept,
+    Encoded,
+    EncodedKept,
+    Loss,
+    Losses,
+    Lost,
+    Report,
+    Stopped,
+    losses_in,
+    refuse,
+)
 from ._rooms import rooms
 from ._steps import Conversion
 
@@ -30,7 +43,9 @@ def _run(
     """The output, the losses, and whether nothing was lost. If the input is short and all has room, one call does it,
     which takes less time than steps."""
     if len(data) <= _ALL_ROOM:
-        words = converting(source, target, mark, unmappable, indexes)
+        given = source if len(source) <= LONGEST else plain(source)
+        wanted = target if len(target) <= LONGEST else plain(target)
+        words = converting(given, wanted, mark, unmappable, indexes)
         most = NO_LIMIT if limit == c.NO_LIMIT else c.Long(limit)
         length = LENGTHS[len(data)] if len(data) <= SHORT else c.Size(len(data))
         room = rooms.take()
@@ -51,18 +66,49 @@ def _run(
     return output, told.kept, cast(Report, conversion.report).faithful
 
 
-def decode(data: bytes, encoding: str, *, mark: str = "remove", indexes: Optional[Indexes] = None) -> Decoded:
+@overload
+def decode(
+    data: bytes, encoding: str, *, mark: c.Mark = "remove", indexes: Optional[Indexes] = None, keep_losses: None = None
+) -> Decoded:
+    ...
+
+
+@overload
+def decode(
+    data: bytes, encoding: str, *, mark: c.Mark = "remove", indexes: Optional[Indexes] = None, keep_losses: int
+) -> DecodedKept:
+    ...
+
+
+def decode(
+    data: bytes,
+    encoding: str,
+    *,
+    mark: c.Mark = "remove",
+    indexes: Optional[Indexes] = None,
+    keep_losses: Optional[int] = None,
+) -> Union[Decoded, DecodedKept]:
     """The text of bytes in an encoding, and what was malformed.
 
     Each malformed sequence is U+FFFD in the text, and has its offset and length in `losses`. `mark` says what becomes
     of a byte order mark at the start: "remove" leaves out that of the encoding, "sniff" lets one of UTF-8 or UTF-16
     decide the encoding, "keep" takes it for text.
 
+    The list takes up to 110 bytes for each byte of the input. With `keep_losses` the losses are counted, and so many of
+    the first are kept: use it for input from strangers.
+
     >>> decode(b"A\\x83\\x6e\\xff", "shift_jis")
     Decoded(text='Aハ�', losses=[Bad(offset=3, length=1)])
+    >>> decode(b"\\xff\\xff\\xff", "utf-8", keep_losses=1)
+    DecodedKept(text='���', kept_losses=[Bad(offset=0, length=1)], bad=3)
     """
-    at, is_open, number, at_mark = decoding(encoding, mark, indexes)
+    label = encoding if len(encoding) <= LONGEST else plain(encoding)
+    at, is_open, number, at_mark = decoding(label, mark, indexes)
     given = data if type(data) is bytes else c.bytes_of(data)
+    if keep_losses is not None:
+        told = Losses(keep_losses)
+        output = Conversion(encoding, _UTF_8, mark, "decimal", c.NO_LIMIT, indexes).put(given, True, told)
+        return DecodedKept(output.decode(), told.kept, told.bad)
     if len(given) <= SHORT:
         # What follows is written for speed: most texts are short and lose nothing.
         try:
@@ -79,17 +125,53 @@ def decode(data: bytes, encoding: str, *, mark: str = "remove", indexes: Optiona
     return Decoded(output.decode(), losses)  # type: ignore[arg-type]
 
 
-def encode(text: str, encoding: str, *, unmappable: str = "decimal", indexes: Optional[Indexes] = None) -> Encoded:
+@overload
+def encode(
+    text: str,
+    encoding: str,
+    *,
+    unmappable: c.Unmappable = "decimal",
+    indexes: Optional[Indexes] = None,
+    keep_losses: None = None,
+) -> Encoded:
+    ...
+
+
+@overload
+def encode(
+    text: str,
+    encoding: str,
+    *,
+    unmappable: c.Unmappable = "decimal",
+    indexes: Optional[Indexes] = None,
+    keep_losses: int,
+) -> EncodedKept:
+    ...
+
+
+def encode(
+    text: str,
+    encoding: str,
+    *,
+    unmappable: c.Unmappable = "decimal",
+    indexes: Optional[Indexes] = None,
+    keep_losses: Optional[int] = None,
+) -> Union[Encoded, EncodedKept]:
     """The bytes of a text in an encoding, which characters have none, and whether the bytes read back as the text.
 
     For a character without bytes its reference is written, "decimal" or "hexadecimal", or, with "stop", `Stopped` is
-    raised. A text with a lone surrogate is none: `UnicodeEncodeError` is raised.
+    raised. A text with a lone surrogate is none: `UnicodeEncodeError` is raised. `keep_losses` is as for `decode`.
 
     >>> encode("é 日", "windows-1252")
     Encoded(data=b'\\xe9 &#26085;', losses=[Lost(index=2, character='日')], faithful=False)
     """
-    at, is_open, number, folded = encoding_to(encoding, unmappable, indexes)
+    label = encoding if len(encoding) <= LONGEST else plain(encoding)
+    at, is_open, number, folded = encoding_to(label, unmappable, indexes)
     given = str.encode(text)
+    if keep_losses is not None:
+        told, conversion = Losses(keep_losses), Conversion(_UTF_8, encoding, "keep", unmappable, c.NO_LIMIT, indexes)
+        output = conversion.put(given, True, told)
+        return EncodedKept(output, told.kept, told.lost, cast(Report, conversion.report).faithful)
     if len(given) <= SHORT and not (folded and folded(text)):
         try:
             room = _take()
@@ -109,8 +191,8 @@ def convert(
     source: str,
     target: str,
     *,
-    mark: str = "sniff",
-    unmappable: str = "decimal",
+    mark: c.Mark = "sniff",
+    unmappable: c.Unmappable = "decimal",
     limit: Optional[int] = None,
     indexes: Optional[Indexes] = None,
 ) -> Converted:

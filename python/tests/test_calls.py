@@ -10,13 +10,14 @@ import subprocess
 import sys
 import tempfile
 import threading
+import tracemalloc
 import unittest
 from pathlib import Path
 from unittest import mock
 
 import cases
 import jillapun
-from jillapun import _indexes, _texts
+from jillapun import _bare, _indexes, _texts
 from jillapun._labels import LABELS
 from jillapun._rooms import Rooms
 
@@ -29,6 +30,21 @@ class Errors(unittest.TestCase):
         self.assertRaises(LookupError, jillapun.encode, "", "latin-none")
         self.assertEqual(jillapun.name(" SJIS\n"), "Shift_JIS")
 
+    def test_labels_fill_no_memory(self) -> None:
+        """Those with more white space around them are no other keys of a cache."""
+        caches = _indexes._number_of, _bare.decoding, _bare.encoding_to, _bare.converting
+        for cache in caches:
+            cache.cache_clear()
+        for count in range(100):
+            label = " " * (40 + count) + "Latin1\n"
+            self.assertEqual(jillapun.name(label), "windows-1252")
+            self.assertEqual(jillapun.decode(b"\xe9", label).text, "é")
+            self.assertEqual(jillapun.encode("é", label).data, b"\xe9")
+            self.assertEqual(jillapun.convert(b"\xe9", label, label).output, b"\xe9")
+        self.assertEqual([cache.cache_info().currsize for cache in caches], [1, 1, 1, 1])
+        self.assertTrue(all(cache.cache_info().maxsize for cache in caches))
+        self.assertGreaterEqual(_indexes.LONGEST, max(map(len, LABELS)))
+
     def test_indexes(self) -> None:
         none = jillapun.Indexes(texts={})
         self.assertEqual(jillapun.decode(b"a", "utf-8", indexes=none).text, "a")
@@ -37,6 +53,14 @@ class Errors(unittest.TestCase):
         with self.assertRaisesRegex(jillapun.IndexesMissing, "index-big5.txt: line 2 is faulty"):
             jillapun.Indexes(texts={"index-big5.txt": b"0\t0x43F0\nwhat\n"})
         self.assertRaises(jillapun.IndexesMissing, jillapun.Indexes, texts={"index-none.txt": b""})
+        with self.assertRaisesRegex(jillapun.IndexesMissing, "/dev/null"):
+            jillapun.Indexes("/dev/null")
+
+    def test_indexes_of_the_library(self) -> None:
+        """The library has the index texts of the repository, by which the default ones are made."""
+        texts = {path.name: path.read_bytes() for path in Path(cases.TOP, "indexes").glob("index-*.txt")}
+        self.assertEqual(jillapun._library.index_texts(), texts)
+        self.assertTrue(jillapun.Indexes().have_standard_folds)
 
     def test_limit(self) -> None:
         self.assertEqual(jillapun.convert(b"abc", "utf-8", "utf-8", limit=3).output, b"abc")
@@ -57,9 +81,37 @@ class Errors(unittest.TestCase):
         self.assertEqual(decoder.decode(b"ab", last=True), "ab")
 
     def test_words(self) -> None:
-        self.assertRaises(KeyError, jillapun.decode, b"", "utf-8", mark="no")
-        self.assertRaises(KeyError, jillapun.encode, "", "utf-8", unmappable="no")
+        with self.assertRaisesRegex(ValueError, "mark='no': use 'sniff', 'remove' or 'keep'"):
+            jillapun.decode(b"", "utf-8", mark="no")
+        with self.assertRaisesRegex(ValueError, "unmappable='no': use 'decimal', 'hexadecimal' or 'stop'"):
+            jillapun.encode("", "utf-8", unmappable="no")
+        self.assertRaises(ValueError, jillapun.part_encoding, b"", "utf-8", "utf-8", mark="no")
         self.assertRaises(UnicodeEncodeError, jillapun.encode, "\ud800", "utf-8")
+
+    def test_keep_losses(self) -> None:
+        """The losses are counted, and only the first are kept, as of files."""
+        for count in (0, 3, 5000):
+            data, text = b"a\xff" * count, "é日" * count
+            whole, encoded = jillapun.decode(data, "utf-8"), jillapun.encode(text, "windows-1252")
+            for keep in (0, 2, 10000):
+                done = jillapun.decode(data, "utf-8", keep_losses=keep)
+                self.assertEqual(done, (whole.text, whole.losses[:keep], count))
+                self.assertEqual((done.kept_losses, done.bad), done[1:])
+                made = jillapun.encode(text, "windows-1252", keep_losses=keep)
+                self.assertEqual(made, (encoded.data, encoded.losses[:keep], count, encoded.faithful))
+                self.assertEqual((made.kept_losses, made.lost, made.faithful), made[1:])
+        self.assertEqual(jillapun.encode("¥", "shift_jis", keep_losses=1), (b"\\", [], 0, False))
+        with self.assertRaises(jillapun.Stopped) as stop:
+            jillapun.encode("é日", "windows-1252", unmappable="stop", keep_losses=0)
+        self.assertEqual((stop.exception.lost, stop.exception.output), ((1, "日"), b"\xe9"))
+
+    def test_keep_losses_keeps_memory(self) -> None:
+        """A million bad bytes, of which the list would take 110 MB."""
+        tracemalloc.start()
+        self.addCleanup(tracemalloc.stop)
+        done = jillapun.decode(b"\xff" * 1000000, "utf-8", keep_losses=5)
+        self.assertEqual((len(done.text), len(done.kept_losses), done.bad), (1000000, 5, 1000000))
+        self.assertLess(tracemalloc.get_traced_memory()[1], 20 << 20)
 
     def test_room(self) -> None:
         """More output, and more losses, than there is room for at once, of inputs that are short and long."""
@@ -159,7 +211,7 @@ class Files(unittest.TestCase):
     def test_unknown_words_empty_no_file(self) -> None:
         Path(self.path).write_bytes(b"abc")
         self.assertRaises(LookupError, jillapun.open, self.path, "w", encoding="none")
-        self.assertRaises(KeyError, jillapun.open, self.path, "w", encoding="utf-8", unmappable="none")
+        self.assertRaises(ValueError, jillapun.open, self.path, "w", encoding="utf-8", unmappable="none")
         none = jillapun.Indexes(texts={})
         self.assertRaises(jillapun.IndexesMissing, jillapun.open, self.path, "w", encoding="big5", indexes=none)
         self.assertRaises(ValueError, jillapun.open, self.path, "wb", encoding="utf-8")
@@ -389,7 +441,7 @@ class Short(unittest.TestCase):
 
     def test_other_indexes(self) -> None:
         """By indexes that are not the standard's, the verdict is asked for each text."""
-        texts = {path.name: path.read_bytes() for path in _indexes.default_folder().glob("index-*.txt")}
+        texts = jillapun._library.index_texts()
         self.assertTrue(jillapun.Indexes(texts=texts).have_standard_folds)
         rows = texts["index-gb18030.txt"].decode().splitlines(keepends=True)
         texts["index-gb18030.txt"] = "".join(row for row in rows if "\t0xE5E5\t" not in row).encode()
@@ -444,6 +496,17 @@ class Short(unittest.TestCase):
         self.assertEqual(jillapun.decode(Liar(b"ab"), "utf-8"), ("ab", []))
         self.assertEqual(jillapun.encode(Text("ab"), "utf-8"), (b"ab", [], True))
         self.assertRaises(TypeError, jillapun.encode, b"ab", "utf-8")
+        self.assertEqual(jillapun.Encoder("utf-8").encode(Text("ab"), last=True), b"ab")
+        self.assertEqual(jillapun.part_encoding(Liar(b"a"), "sjis", "utf-8"), "Shift_JIS")
+        texts = {name: Liar(text) for name, text in jillapun._library.index_texts().items()}
+        self.assertEqual(jillapun.decode(b"\x83\x6e", "sjis", indexes=jillapun.Indexes(texts=texts)).text, "ハ")
+
+        class File(io.BytesIO):
+            def read(self, size: int = -1) -> bytes:
+                return Liar(super().read(size))
+
+        self.assertEqual(jillapun.which(File(b"abc")).read, 3)
+        self.assertEqual(jillapun.Reader(File(b"abc"), "utf-8").read(), "abc")
 
 
 class Documents(unittest.TestCase):

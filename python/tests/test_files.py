@@ -484,7 +484,7 @@ class Into(Folder):
         self.put("a", GOOD), self.put("b", b"old")
         with self.assertRaises(jillapun.UnknownLabel):
             jillapun.convert_file(self.path, self.at("b"), "none", "utf-8")
-        self.assertRaises(KeyError, self.convert, self.path, self.at("b"), mark="none")
+        self.assertRaises(ValueError, self.convert, self.path, self.at("b"), mark="none")
         self.assertRaises(jillapun.TooLong, self.convert, self.path, self.at("b"), limit=3)
         self.holds(a=GOOD, b=b"old")
 
