@@ -18,7 +18,7 @@ To import this module registers them, as `jillapun.register()` does. After it `o
 
 import codecs
 import ctypes
-import re
+import operator
 from functools import lru_cache
 from typing import Any, Dict, List, Optional, Tuple, Type, Union
 
@@ -26,6 +26,8 @@ from . import _coders as coders
 from . import _library as c
 from ._indexes import handle_of, number_of
 from ._labels import LABELS
+from ._python_names import label_of, nearest_to
+from ._results import UnknownLabel
 
 __all__ = ["search"]
 
@@ -75,21 +77,25 @@ def _handled(errors: str, error: UnicodeError, size: int) -> Tuple[Union[str, by
     position = result[1] + size if result[1] < 0 else result[1]
     if not 0 <= position <= size:
         raise IndexError("position %d from error handler out of bounds" % result[1])
-    return result[0], position
+    # Not of a class derived from `str`, whose methods could be others.
+    return str.__str__(result[0]) if isinstance(result[0], str) else result[0], position
 
 
 class Coding:
     """An encoding as Python's codecs need it: decoded and encoded by parts, each from a state on.
 
-    A state is a number, 0 at the start of a stream. A decoder decides as many bytes of a part as it can; the others are
-    handed in again, before those that follow. So a part, a state and the bytes that are left say all that is to be said of
-    a stream, and no decoder is kept between two calls.
+    A state is a number, `start` at the start of a stream. A decoder decides as many bytes of a part as it can; the others
+    are handed in again, before those that follow. So a part, a state and the bytes that are left say all that is to be said
+    of a stream, and no decoder is kept between two calls.
     """
 
     # For each state the bytes that bring a new decoder into it, and the text that brings a new encoder into it. What
     # these give is left out.
     begins: Tuple[bytes, ...] = (b"",)
     begin_texts: Tuple[str, ...] = ("",)
+    # The state of a decoder at the start. After it the state is 0 wherever it can be: the number that `tell` returns is the
+    # offset plus 2**64 times the state.
+    start = 0
     # Whether an encoder is in one of several modes.
     has_modes = False
 
@@ -114,7 +120,7 @@ class Coding:
         """The bytes of a new stream, as they stand behind others of which nothing is known."""
         return data
 
-    def decode_part(self, data: bytes, errors: str, state: int = 0, final: bool = True) -> Tuple[str, int, int]:
+    def decode_part(self, data: bytes, errors: str, state: int, final: bool = True) -> Tuple[str, int, int]:
         """The text of the bytes that are decided, how many these are, and the state after them."""
         if len(data) <= _SHORT and not self.begins[state]:
             text = self._short_text(data, errors, state, final)
@@ -135,6 +141,7 @@ class Coding:
 
     def encode_part(self, text: str, errors: str, state: int = 0, final: bool = True) -> Tuple[bytes, int]:
         """The bytes of a text, and the state after them. Raises `LookupError` if the encoding has no encoder."""
+        text = str.__str__(text)
         if text and not self._has_encoder:
             raise LookupError("the Encoding Standard has no encoder of %s" % self.name)
         if len(text) <= _SHORT and (not self.has_modes or final and not state):
@@ -158,24 +165,26 @@ class Coding:
 
 
 class _Marked(Coding):
-    """UTF-8 and UTF-16, of which a mark is left out where a stream begins. In state 1 the start is behind."""
+    """UTF-8 and UTF-16, of which a mark is left out at the start of a stream."""
 
     begins = (b"", b"")
+    start = 1
 
     def mark(self, state: int) -> int:
-        return c.MARKS["keep" if state else "remove"]
+        return c.MARKS["remove" if state else "keep"]
 
     def state_after(self, state: int, data: bytes) -> int:
-        return 1 if state or data else 0
+        return 0 if data else state
 
 
 class _Replacement(Coding):
-    """The encoding "replacement", which is malformed once, however much there is. In state 1 it was."""
+    """The encoding "replacement", which is malformed once, however much there is."""
 
-    begins = (b"", b"!")
+    begins = (b"!", b"")
+    start = 1
 
     def state_after(self, state: int, data: bytes) -> int:
-        return 1 if state or data else 0
+        return 0 if data else state
 
 
 # The escape sequences of ISO-2022-JP, and the modes that they begin.
@@ -341,12 +350,20 @@ class _Encoding:
         return position
 
 
+def _state_of(coding: Coding, state: Any, count: int) -> int:
+    """The number of a state, of which there are so many. Raises `TypeError` and `UnicodeError`, as Python's codecs do."""
+    number = operator.index(state)
+    if not 0 <= number < count:
+        raise UnicodeError("%s has no state %d" % (coding.name, number))
+    return number
+
+
 class _IncrementalDecoder(codecs.IncrementalDecoder):
     coding: Coding
 
     def __init__(self, errors: str = "strict"):
         super().__init__(errors)
-        self._undecided, self._state = b"", 0
+        self._undecided, self._state = b"", self.coding.start
 
     def decode(self, input: Any, final: bool = False) -> str:
         data = self._undecided + c.bytes_of(input)
@@ -355,13 +372,17 @@ class _IncrementalDecoder(codecs.IncrementalDecoder):
         return text
 
     def reset(self) -> None:
-        self._undecided, self._state = b"", 0
+        self._undecided, self._state = b"", self.coding.start
 
     def getstate(self) -> Tuple[bytes, int]:
         return self._undecided, self._state
 
     def setstate(self, state: Tuple[bytes, int]) -> None:
-        self._undecided, self._state = state
+        """Takes what `getstate` returned."""
+        if not isinstance(state, tuple) or len(state) != 2:
+            raise TypeError("a state of %s is bytes and a number" % self.coding.name)
+        number = _state_of(self.coding, state[1], len(self.coding.begins))
+        self._undecided, self._state = c.bytes_of(state[0]), number
 
 
 class _IncrementalEncoder(codecs.IncrementalEncoder):
@@ -384,8 +405,11 @@ class _IncrementalEncoder(codecs.IncrementalEncoder):
         return self._state + 1 if self._is_known else 0
 
     def setstate(self, state: int) -> None:  # type: ignore[override]
-        """What `getstate` returned, or 0: the text goes on somewhere in a file, as `open` says before it appends."""
-        self._state, self._is_known = max(state - 1, 0), state > 0
+        """Takes what `getstate` returned, or 0: the text goes on somewhere in a file, as `open` says before it appends."""
+        number = _state_of(self.coding, state, len(self.coding.begin_texts) + 1)
+        if number > 1 and not self.coding.begin_texts[number - 1]:
+            raise UnicodeError("no encoder of %s has the state %d" % (self.coding.name, number))
+        self._state, self._is_known = max(number - 1, 0), number > 0
 
 
 class _StreamReader(codecs.StreamReader):
@@ -393,19 +417,24 @@ class _StreamReader(codecs.StreamReader):
 
     def __init__(self, stream: Any, errors: str = "strict"):
         super().__init__(stream, errors)
-        self._left, self._state = 0, 0
+        self._left, self._state = 0, self.coding.start
+
+    def read(self, size: Optional[int] = -1, chars: Optional[int] = -1, firstline: bool = False) -> str:
+        """As every reader, and `None` stands for all, as with files."""
+        return super().read(-1 if size is None else size, -1 if chars is None else chars, firstline)
 
     def decode(self, input: Any, errors: str = "strict") -> Tuple[str, int]:
         """The text of what was left before and what was read. If nothing was read the input has ended, and what is left
         is malformed."""
-        is_end = 0 < self._left == len(input)
-        text, end, self._state = self.coding.decode_part(c.bytes_of(input), errors, self._state, is_end)
-        self._left = len(input) - end
+        data = c.bytes_of(input)
+        is_end = 0 < self._left == len(data)
+        text, end, self._state = self.coding.decode_part(data, errors, self._state, is_end)
+        self._left = len(data) - end
         return text, end
 
     def reset(self) -> None:
         super().reset()
-        self._left, self._state = 0, 0
+        self._left, self._state = 0, self.coding.start
 
 
 class _StreamWriter(codecs.StreamWriter):
@@ -436,7 +465,7 @@ def info_of(coding: Coding) -> codecs.CodecInfo:
         return coding.encode_part(input, errors)[0], len(input)
 
     def decode(input: Any, errors: str = "strict") -> Tuple[str, int]:
-        text, end, _ = coding.decode_part(c.bytes_of(input), errors)
+        text, end, _ = coding.decode_part(c.bytes_of(input), errors, coding.start)
         return text, end
 
     return codecs.CodecInfo(
@@ -464,17 +493,19 @@ def _web_info(name: str) -> codecs.CodecInfo:
     return info_of(coding_of(name))
 
 
-def _normal(label: str) -> str:
-    """A name as Python hands it to searches: small letters, with an underscore for each run of other signs."""
-    return re.sub("[^a-z0-9.]+", "_", label.lower())
-
-
-_NAMES = {"web_" + _normal(label): name for label, name in LABELS.items()}
-
-
 def search(name: str) -> Optional[codecs.CodecInfo]:
-    """The codec of a name that begins with `web-`, or nothing: what `codecs.register` asks for."""
-    return _web_info(_NAMES[name]) if name in _NAMES else None
+    """The codec of a name that begins with `web-`, or nothing: what `codecs.register` asks for. Raises `UnknownLabel` for a
+    name of Python's that is no label, if there is a near one."""
+    begin, label = name[:4], name[4:]
+    if begin != "web_":
+        return None
+    meant = label_of(label)
+    if meant is not None:
+        return _web_info(LABELS[meant])
+    nearest = nearest_to(label)
+    if nearest is not None:
+        raise UnknownLabel("web-" + label, "web-" + nearest)
+    return None
 
 
 codecs.register(search)

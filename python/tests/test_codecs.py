@@ -109,6 +109,12 @@ class Names(unittest.TestCase):
             for form in ("web-" + label, "WEB_" + label.upper(), "web " + label.replace("-", " ")):
                 self.assertEqual(codecs.lookup(form).name, "web-" + name.lower())
 
+    def test_names_of_python(self) -> None:
+        for name, wanted in (("cp932", "shift_jis"), ("cp949", "euc-kr"), ("euc_jp", "euc-jp"), ("utf_8", "utf-8")):
+            self.assertEqual(codecs.lookup("web-" + name).name, "web-" + wanted)
+        with self.assertRaisesRegex(LookupError, r"web-latin_1 \(the nearest label is web-latin1\)"):
+            codecs.lookup("web-latin-1")
+
     def test_unknown(self) -> None:
         for name in ("web-none", "web-", "web", "webshift_jis", "web-web-utf-8"):
             self.assertRaises(LookupError, codecs.lookup, name)
@@ -200,14 +206,35 @@ class Decoders(unittest.TestCase):
             with self.subTest(name=name, data=data):
                 decoder_of = codecs.getincrementaldecoder(name)
                 decoder, begun = decoder_of("replace"), ""
-                self.assertEqual(decoder.getstate(), (b"", 0))
+                begin = decoder.getstate()
+                self.assertEqual(begin[0], b"")
                 for place in range(len(data)):
                     other = decoder_of("replace")
                     other.setstate(decoder.getstate())
                     self.assertEqual(begun + other.decode(data[place:], True), text)
                     begun += decoder.decode(data[place : place + 1])
                 decoder.reset()
+                self.assertEqual(decoder.getstate(), begin)
                 self.assertEqual(decoder.decode(data, True), text)
+
+    def test_foreign_states(self) -> None:
+        """Those that no decoder or encoder has are refused at once."""
+        for name in {"web-" + each.lower() for each in LABELS.values()}:
+            decoder, encoder = codecs.getincrementaldecoder(name)(), codecs.getincrementalencoder(name)()
+            begun, other = decoder.getstate(), encoder.getstate()
+            for state in (None, 5, b"", (b"",), (b"", 0, 0), ("", 0), (b"", None), (b"", 0.0), [b"", 0]):
+                self.assertRaises(TypeError, decoder.setstate, state)
+            for state in ((b"", -1), (b"", 4), (b"", 1 << 70)):
+                self.assertRaises(UnicodeError, decoder.setstate, state)
+            for state in (None, "", 0.0, (b"", 0)):
+                self.assertRaises(TypeError, encoder.setstate, state)
+            for state in (-1, 5, 1 << 70):
+                self.assertRaises(UnicodeError, encoder.setstate, state)
+            self.assertEqual((decoder.getstate(), encoder.getstate()), (begun, other))
+            file = io.TextIOWrapper(io.BytesIO(b"abc\n"), name)
+            self.assertRaises(UnicodeError, file.seek, 50 << 64 | 3)
+        # No encoder of ISO-2022-JP writes katakana of one byte.
+        self.assertRaises(UnicodeError, codecs.getincrementalencoder("web-iso-2022-jp")().setstate, 3)
 
     def test_few_bytes_wait(self) -> None:
         """What is undecided is short, however long the input is: so `tell` has a small state."""
@@ -221,9 +248,11 @@ class Decoders(unittest.TestCase):
         """Stream readers, by some bytes at a time; what waits at the end is malformed."""
         for name, data, text, _ in self.each(20):
             with self.subTest(name=name, data=data):
-                for size in (1, 3, -1):
+                for size in (1, 3, -1, None):
                     reader = codecs.getreader(name)(io.BytesIO(data), "replace")
                     self.assertEqual("".join(iter(lambda: reader.read(size), "")), text)
+                    reader.seek(0)
+                    self.assertEqual("".join(iter(lambda: reader.readline(None), "")), text)
                     reader.seek(0)
                     self.assertEqual("".join(reader.readlines()), text)
 
@@ -426,6 +455,35 @@ class Handlers(unittest.TestCase):
         self.assertRaises(TypeError, codecs.encode, b"", "web-utf-8")
         self.assertRaises(TypeError, codecs.decode, "", "web-utf-8")
 
+    def test_types(self) -> None:
+        """A length is that of the bytes, whatever an object says of itself."""
+
+        class Liar(bytes):
+            def __len__(self) -> int:
+                return 1000
+
+        class Text(str):
+            def encode(self, *words: str) -> bytes:
+                return Liar(b"x")
+
+            def __getitem__(self, place: Any) -> str:
+                return self
+
+        for count in (1, 2000):
+            self.assertEqual(codecs.encode(Text("aд" * count), "web-utf-8"), "aд".encode() * count)
+        codecs.register_error("text", lambda error: (Text("?"), error.end))
+        self.assertEqual("aд".encode("web-windows-1252", "text"), b"a?")
+        self.assertEqual("aд".encode("web-iso-2022-jp", "text"), "aд".encode("iso2022_jp"))
+        self.assertEqual("aé".encode("web-iso-2022-jp", "text"), b"a?")
+        decoder = codecs.getincrementaldecoder("web-shift_jis")()
+        decoder.setstate((Liar(b"\x83"), 0))
+        self.assertEqual(decoder.decode(Liar(b"n")), "ハ")
+
+    def test_surrogatepass_does_nothing(self) -> None:
+        """Python's handler knows UTF-8 and UTF-16 by their names."""
+        self.assertRaises(UnicodeEncodeError, "\ud800".encode, "web-utf-8", "surrogatepass")
+        self.assertRaises(UnicodeDecodeError, b"\xed\xa0\x80".decode, "web-utf-8", "surrogatepass")
+
     def test_handler_that_decodes(self) -> None:
         """A handler may call the codecs itself."""
         codecs.register_error("inner", lambda error: (b"\x83\x6e".decode("web-shift_jis"), error.end))
@@ -478,6 +536,26 @@ class Files(unittest.TestCase):
                         self.assertEqual(file.read(9), self.text[index : index + 9])
                         file.seek(places[index])
                         self.assertEqual(file.tell(), places[index])
+
+    def test_tell_is_the_offset(self) -> None:
+        """In all but ISO-2022-JP, which has modes."""
+        for name in sorted({*LABELS.values()} - {"ISO-2022-JP"}):
+            unit = 2 if name.startswith("UTF-16") else 1
+            codec = {"UTF-16LE": "utf-16-le", "UTF-16BE": "utf-16-be"}.get(name, "ascii")
+            data = "ab\ncd\nef\n".encode(codec)
+            with self.subTest(name=name):
+                file = io.TextIOWrapper(io.BytesIO(data), "web-" + name, "replace")
+                file.readline()
+                self.assertEqual(file.tell(), len(data) if name == "replacement" else 3 * unit)
+                file.read()
+                self.assertEqual(file.tell(), len(data))
+        for ours in set(PAIRS) - {"web-iso-2022-jp"}:
+            # After a carriage return `TextIOWrapper` has a state of its own.
+            text = TEXTS.get(ours, JAPANESE).replace("\r", "")
+            file = io.TextIOWrapper(io.BytesIO(text.encode(ours)), ours, newline="")
+            for end in range(1, len(text) + 1):
+                file.read(1)
+                self.assertEqual(file.tell(), len(text[:end].encode(ours)))
 
     def test_tell_with_mark(self) -> None:
         """A mark is left out at the start alone, also after a `seek`."""
