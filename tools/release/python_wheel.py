@@ -1,5 +1,5 @@
 #!/usr/bin/env python3
-"""Packs the Python package with the shared library and the index texts into a wheel: `make wheel`.
+"""Packs the Python package with the shared library, which has the index texts, into a wheel: `make wheel`.
 
     python3 tools/release/python_wheel.py
 
@@ -31,13 +31,31 @@ PATIENCE = 60
 
 BUILD = "import sys, wheel\nfrom setuptools import build_meta\nbuild_meta.build_wheel(sys.argv[1], {'--build-option': sys.argv[2:]})"
 
-# What is tried in the environment: the package, its indexes, its types, codecs.
+# The wheel is for one machine, and for each Python: by itself setuptools takes one without an extension for pure Python.
+SETUP = """
+import setuptools
+from wheel.bdist_wheel import bdist_wheel
+
+class Distribution(setuptools.Distribution):
+    def has_ext_modules(self):
+        return True
+
+class Wheel(bdist_wheel):
+    def get_tag(self):
+        return "py3", "none", super().get_tag()[2]
+
+setuptools.setup(distclass=Distribution, cmdclass={"bdist_wheel": Wheel})
+"""
+
+# What is tried in the environment: the package, its indexes, its types, codecs, metadata.
 TRIED = """
-import importlib.resources, sys, jillapun
+import importlib.metadata, importlib.resources, sys, jillapun
 assert jillapun.decode(b"A\\x83\\x6e", "shift_jis").text == "A\u30cf"
-assert str(jillapun.default_folder()).startswith(sys.prefix) and jillapun.__file__.startswith(sys.prefix)
-assert len(list(jillapun.default_folder().glob("index-*.txt"))) == %d
+assert jillapun._library.library._name.startswith(sys.prefix) and jillapun.__file__.startswith(sys.prefix)
 assert (importlib.resources.files("jillapun") / "py.typed").is_file()
+about = importlib.metadata.metadata("jillapun")
+assert all(about[name] for name in ("Summary", "License", "Author", "Description-Content-Type")) and about.get_payload()
+assert "Root-Is-Purelib: false" in importlib.metadata.distribution("jillapun").read_text("WHEEL")
 jillapun.register()
 assert open(sys.argv[1], encoding="web-gb18030").read() == "\u4e2d"
 """
@@ -65,12 +83,11 @@ def stage(folder, shared):
     """What is packed, as `python/pyproject.toml` wants it."""
     install.python_module(folder)
     folder = os.path.join(folder, "python")
-    for path in ("python/pyproject.toml", *install.LICENCES):
+    for path in ("python/pyproject.toml", "docs/PYTHON.md", *install.LICENCES):
         install.copied(path, os.path.join(folder, os.path.basename(path)), 0o644)
-    for name in os.listdir(os.path.join(TOP, "indexes")):
-        install.copied(os.path.join("indexes", name), os.path.join(folder, "jillapun", "indexes", name), 0o644)
     install.copied(shared, os.path.join(folder, "jillapun", c_library.SHARED), 0o755)
     install.written(c_library.version() + "\n", os.path.join(folder, "VERSION"))
+    install.written(SETUP, os.path.join(folder, "setup.py"))
     return folder
 
 
@@ -83,8 +100,9 @@ def pack(shared=SHARED, out=OUT):
         words = [python, "-c", BUILD, out, "--plat-name", name]
         environment = {**os.environ, "SOURCE_DATE_EPOCH": str(install.commit_time())}
         os.makedirs(out, exist_ok=True)
+        # The modes of what is packed are the same under any mask.
         ran = subprocess.run(
-            words, cwd=stage(folder, shared), env=environment, capture_output=True, text=True, check=False
+            words, cwd=stage(folder, shared), env=environment, umask=0o022, capture_output=True, text=True, check=False
         )
     path = os.path.join(out, "jillapun-%s-py3-none-%s.whl" % (c_library.version(), name))
     if ran.returncode or not os.path.isfile(path):
@@ -108,12 +126,12 @@ def environment(folder, wheel):
 def uses(programs, folder):
     """What is wrong with the package and its program, in an environment that names nothing of this repository."""
     plain = {"PATH": programs, "HOME": folder}
-    given, count = os.path.join(folder, "given.txt"), len(os.listdir(os.path.join(TOP, "indexes")))
+    given = os.path.join(folder, "given.txt")
     install.written("", given)
     with open(given, "wb") as file:
         file.write("\u4e2d".encode("gb18030"))
     rows = [
-        (["python", "-I", "-c", TRIED % (count - 1), given], 0),
+        (["python", "-I", "-c", TRIED, given], 0),
         (["jillapun", "--from", "gb18030", "--to", "utf-8", given], 0),
         (["jillapun", "--from", "utf-8", "--to", "windows-1252", given], 1),
         (["jillapun", "--from", "none", "--to", "utf-8", given], 2),
