@@ -20,6 +20,7 @@ import sys
 import tempfile
 import textwrap
 import time
+import tomllib
 
 import c_library
 import install
@@ -80,7 +81,7 @@ PACKAGES = {
     "python3-jillapun": (
         "all",
         "python",
-        "Depends: python3 (>= 3.9), libjillapun0 (>= {version}), jillapun-data (= {version})\n",
+        "Depends: python3 (>= 3.9), libjillapun0 (>= {version})\n",
         "text encodings by the Encoding Standard, for Python",
         "The package decodes, encodes and converts text in the 40 encodings of the Encoding Standard, with exactly what is "
         "lost, and has codecs for Python's own functions under names that begin with web-.",
@@ -93,6 +94,28 @@ import sys
 from jillapun.__main__ import program
 
 sys.exit(program())
+"""
+
+# Python compiles the modules when it loads them, beside them, which no list of the package has: so this is done when they are
+# installed, and undone before they are removed.
+SCRIPTS = {
+    "postinst": """#!/bin/sh
+set -e
+if [ "$1" = configure ] && command -v py3compile > /dev/null; then py3compile -p python3-jillapun; fi
+""",
+    "prerm": """#!/bin/sh
+set -e
+if command -v py3clean > /dev/null; then py3clean -p python3-jillapun; fi
+""",
+}
+
+# What pip and other packages see of the Python package.
+METADATA = """Metadata-Version: 2.1
+Name: {name}
+Version: {version}
+Summary: {description}
+License: {license[text]}
+Requires-Python: {requires-python}
 """
 
 COPYRIGHT = """Format: https://www.debian.org/doc/packaging-manuals/copyright-format/1.0/
@@ -184,10 +207,15 @@ def spread(top, folders):
 
 
 def add_python(folder):
-    """The Python package, and its command, which has a man page and which bash completes."""
+    """The Python package with its metadata, and its command, which has a man page and which bash completes."""
     with tempfile.TemporaryDirectory() as copy:
         install.python_module(copy)
         shutil.copytree(os.path.join(copy, "python", "jillapun"), os.path.join(folder, PYTHON))
+    with open(os.path.join(TOP, "python/pyproject.toml"), "rb") as file:
+        about = {"version": c_library.version(), **tomllib.load(file)["project"]}
+    install.written(METADATA.format(**about), os.path.join(folder, "%s-%s.dist-info" % (PYTHON, about["version"]), "METADATA"))
+    for name, text in SCRIPTS.items():
+        install.written(text, os.path.join(folder, "DEBIAN", name), 0o755)
     install.written(COMMAND, os.path.join(folder, "usr/bin/jillapun"), 0o755)
     squeezed(os.path.join(TOP, "man/jillapun.1"), os.path.join(folder, "usr/share/man/man1/jillapun.1.gz"))
     completion = os.path.join(folder, "usr/share/bash-completion/completions/jillapun")
@@ -211,7 +239,9 @@ def add_documents(name, folder):
 
 def add_control(name, folder):
     architecture, section, relations, title, text = PACKAGES[name]
-    files = [os.path.join(place, file) for place, _, names in os.walk(folder) for file in names]
+    control = os.path.join(folder, "DEBIAN")
+    places = [place for place in os.walk(folder) if place[0] != control]
+    files = [os.path.join(place, file) for place, _, names in places for file in names]
     binaries = [path for path in files if "/libexec/" in path or not os.path.islink(path) and ".so." in path]
     glibc = max(map(install.glibc, binaries), default=0)
     words = {
@@ -229,7 +259,6 @@ def add_control(name, folder):
         ["md5sum", *sorted(os.path.relpath(path, folder) for path in files if not os.path.islink(path))],
         cwd=folder, capture_output=True, text=True, check=True,
     )  # fmt: skip
-    control = os.path.join(folder, "DEBIAN")
     install.written(CONTROL.format(**words), os.path.join(control, "control"))
     install.written(sums.stdout, os.path.join(control, "md5sums"))
     if name == "libjillapun0":
