@@ -63,7 +63,7 @@ _Parts.join = lambda self, block, made, losses: join(self, block, Timed(made), l
 Losses.add = timed("both", Losses.add)
 with open(log, "w") as lines:
     told = lambda fault: lines.write("%s\\n" % (fault,))
-    jillapun.convert_file(source, output, "shift_jis", "utf-8", processes=int(parts), on_loss=told)
+    jillapun.convert_file(source, output, "shift_jis", "utf-8", threads=int(parts), on_loss=told)
 print(spent["joining"] - spent["both"])
 """
 

@@ -10,7 +10,7 @@ The second is what no count of losses shows: the yen sign is written as a byte t
 is done by a library that is proved, `libjillapun.so`; this package needs nothing else but the standard library.
 
 - `decode`, `encode`, `convert`: whole texts and inputs in memory.
-- `convert_file`: a file into another.
+- `convert_file`: a file into another, or in its own place.
 - `open`, `Reader`, `Writer`: files of text. `Decoder`, `Encoder`, `Converter`: streams, chunk by chunk.
 - `register`: codecs for Python's own `open`, `bytes.decode` and all else that is handed a name of an encoding.
 - `which`: how each encoding reads an input, without a guess.
@@ -22,7 +22,7 @@ A label that no encoding has raises `UnknownLabel`, which is a `LookupError`. Ca
 made at once: Python's lock is let go while the library works, unless it decodes or encodes at most 1 KiB.
 """
 
-from ._files import convert_file
+from ._files import AlreadyUtf8, convert_file
 from ._indexes import Indexes, default_folder, name, output_name, part_encoding
 from ._joins import join_losses, join_reports
 from ._results import (
@@ -45,6 +45,7 @@ from ._results import (
 )
 from ._streams import Converter, Decoder, Encoder, Reader, Writer, open
 from ._texts import convert, decode, encode
+from ._version import __version__
 from ._which import Reading, Which, which
 
 
@@ -55,6 +56,7 @@ def register() -> None:
 
 
 __all__ = [
+    "AlreadyUtf8",
     "Bad",
     "Converted",
     "ConvertedFile",
@@ -79,6 +81,7 @@ __all__ = [
     "UnknownLabel",
     "Which",
     "Writer",
+    "__version__",
     "convert",
     "convert_file",
     "decode",

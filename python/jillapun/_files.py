@@ -1,35 +1,52 @@
 """Whole files, converted by steps: a chunk of the input and of the output is in memory at a time."""
 
+import codecs
 import contextlib
 import errno
 import os
 import secrets
 import shutil
 import stat
-from typing import BinaryIO, Callable, Iterator, List, Optional, Tuple, Union, cast
+from typing import BinaryIO, Callable, Iterator, List, Optional, Tuple, cast
 
 from . import _library as c
-from ._indexes import Indexes, PathLike
+from ._indexes import Indexes, PathLike, name, output_name
 from ._parts import Job, put_parts
 from ._results import ConvertedFile, JillapunError, Loss, Losses, NotReplaced, Report, Stopped
 from ._steps import Conversion, chunk_of
+
+_UTF_8, _MARK = "UTF-8", b"\xef\xbb\xbf"
+
+
+class AlreadyUtf8(JillapunError):
+    """A file was to be replaced by its conversion to UTF-8, and is well-formed UTF-8 already. It is as it was."""
 
 
 def _refused(number: int, path: str, words: Optional[str] = None) -> OSError:
     return OSError(number, words or os.strerror(number), path)
 
 
-def _attributes_of(file: Union[str, int]) -> List[str]:
+@contextlib.contextmanager
+def _naming(path: str) -> Iterator[None]:
+    """Names the path in an error of a call that is given only a name in an open folder."""
+    try:
+        yield
+    except OSError as fault:
+        fault.filename, fault.filename2 = path, None
+        raise
+
+
+def _attributes_of(descriptor: int) -> List[str]:
     """The names of the extended attributes of a file; none where the system has none."""
     try:
-        return os.listxattr(file)
+        return os.listxattr(descriptor)
     except (AttributeError, OSError):
         return []
 
 
 @contextlib.contextmanager
-def _as_far_as_may_be() -> Iterator[None]:
-    """Goes on where an attribute may not be set, as many of the system; a disk that is full or fails is another matter."""
+def _if_permitted() -> Iterator[None]:
+    """Goes on if an attribute cannot be set, as many of the system cannot. A disk that is full or fails is an error."""
     try:
         yield
     except OSError as fault:
@@ -37,9 +54,10 @@ def _as_far_as_may_be() -> Iterator[None]:
             raise
 
 
-def _dress(descriptor: int, path: str, old: os.stat_result) -> None:
-    """Gives a file the owner, the extended attributes and the permissions of another, as far as it may. Who could not
-    read that one cannot read this one."""
+def _dress(descriptor: int, model: int) -> None:
+    """Gives a file the owner, the extended attributes and the permissions of another, as far as it can. Nobody who
+    could not read that one can read this one."""
+    old = os.fstat(model)
     mode = stat.S_IMODE(old.st_mode)
     try:
         os.fchown(descriptor, old.st_uid, old.st_gid)
@@ -48,129 +66,184 @@ def _dress(descriptor: int, path: str, old: os.stat_result) -> None:
         try:
             os.fchown(descriptor, -1, old.st_gid)
         except OSError:
-            # The group is another: it may do what all may.
+            # The group is another: it gets the permissions of all others.
             mode = mode & 0o707 | (mode & 0o007) << 3
-    names = _attributes_of(path)
-    for name in names:
-        with _as_far_as_may_be():
-            os.setxattr(descriptor, name, os.getxattr(path, name))
-    # A folder may hand down who else may read a new file.
-    for name in set(_attributes_of(descriptor)) - set(names):
-        with _as_far_as_may_be():
-            os.removexattr(descriptor, name)
+    names = _attributes_of(model)
+    for attribute in names:
+        with _if_permitted():
+            os.setxattr(descriptor, attribute, os.getxattr(model, attribute))
+    # A folder can hand down who else may read a new file.
+    for attribute in set(_attributes_of(descriptor)) - set(names):
+        with _if_permitted():
+            os.removexattr(descriptor, attribute)
     os.fchmod(descriptor, mode)
 
 
-def _copy(path: str, copy: str) -> None:
-    """Copies a file, with its times, to a name that no file has yet."""
-    with open(path, "rb") as given, open(os.open(copy, os.O_WRONLY | os.O_CREAT | os.O_EXCL, 0o600), "wb") as made:
-        try:
-            shutil.copyfileobj(given, made)
-            made.flush()
-            old = os.fstat(given.fileno())
-            _dress(made.fileno(), path, old)
-            os.utime(made.fileno(), ns=(old.st_atime_ns, old.st_mtime_ns))
-            os.fsync(made.fileno())
-        except BaseException:
-            os.unlink(copy)
-            raise
-
-
-def _sync_folder(folder: str) -> None:
-    """Sees to it that what was moved there stays moved, where the file system can."""
-    with contextlib.suppress(OSError):
-        descriptor = os.open(folder, os.O_RDONLY)
-        try:
-            os.fsync(descriptor)
-        finally:
-            os.close(descriptor)
+def _replaced_meanwhile() -> JillapunError:
+    return JillapunError("another program replaced the file in the meantime: nothing is written, convert it again")
 
 
 class _Place:
-    """Where an output is put: a new file, or one that is there and is replaced. A link is followed."""
+    """The place of an output: a name in a folder, and the regular file that has this name, if there is one.
 
-    def __init__(self, path: PathLike, suffix: Optional[str]):
+    Folder and file are opened once, and all that follows goes through their descriptors. So somebody who swaps names in
+    that folder can't choose which file is read, replaced or asked for its owner. A symbolic link is refused."""
+
+    def __init__(self, path: str, suffix: Optional[str], flags: int):
+        """The file of this path, if there is one, is opened with the flags."""
         if suffix is not None and (not suffix or os.path.basename(suffix) != suffix):
             raise ValueError("%r is no suffix of a name" % suffix)
-        if os.path.basename(path) in ("", os.curdir, os.pardir):
-            raise _refused(errno.EISDIR, os.fspath(path))
-        self.path, self.backup = os.path.realpath(path), ""
-        self.folder = os.path.dirname(self.path)
-        self.old: Optional[os.stat_result] = None
-        with contextlib.suppress(FileNotFoundError):
-            self.old = os.stat(path)
-        if self.old:
-            self.backup = self.path + suffix if suffix else ""
-            self._check(self.old, os.fspath(path))
-
-    def _check(self, old: os.stat_result, path: str) -> None:
-        """Refuses what no output could be written over, as a folder, a device or a file that is protected."""
-        if stat.S_ISDIR(old.st_mode):
+        head, self.name = os.path.split(path)
+        if self.name in ("", os.curdir, os.pardir):
             raise _refused(errno.EISDIR, path)
-        if not stat.S_ISREG(old.st_mode):
-            raise _refused(errno.EINVAL, path, "Not a regular file")
-        os.close(os.open(path, os.O_WRONLY))
-        if self.backup and os.path.lexists(self.backup):
-            raise _refused(errno.EEXIST, self.backup)
+        self.path, self.folder_path, self.backup = path, head or os.curdir, ""
+        self.old: Optional[os.stat_result] = None
+        self.descriptor = -1
+        self.folder = os.open(self.folder_path, os.O_RDONLY | os.O_DIRECTORY)
+        try:
+            self._open(suffix, flags)
+        except BaseException:
+            self.close()
+            raise
+
+    def close(self) -> None:
+        for descriptor in (self.descriptor, self.folder):
+            if descriptor >= 0:
+                os.close(descriptor)
+
+    def _open(self, suffix: Optional[str], flags: int) -> None:
+        found = self._found(self.name)
+        if not found:
+            return
+        # To open a device may have effects, so it is refused before.
+        self._check(found)
+        with _naming(self.path):
+            flags |= os.O_NOFOLLOW | os.O_NONBLOCK
+            self.descriptor = os.open(self.name, flags, dir_fd=self.folder)
+        self.old = os.fstat(self.descriptor)
+        self._check(self.old)
+        self.backup = self.name + suffix if suffix else ""
+        if self.backup and self._found(self.backup):
+            raise _refused(errno.EEXIST, self.path_of(self.backup))
+
+    def _check(self, found: os.stat_result) -> None:
+        """Refuses what no output can replace, as a folder, a device or a link."""
+        if stat.S_ISLNK(found.st_mode):
+            raise _refused(errno.ELOOP, self.path, "Is a symbolic link: name the file that it leads to")
+        if stat.S_ISDIR(found.st_mode):
+            raise _refused(errno.EISDIR, self.path)
+        if not stat.S_ISREG(found.st_mode):
+            raise _refused(errno.EINVAL, self.path, "Not a regular file")
+
+    def path_of(self, name: str) -> str:
+        return os.path.join(os.path.dirname(self.path), name)
+
+    def _found(self, name: str) -> Optional[os.stat_result]:
+        """What has this name in the folder now."""
+        with _naming(self.path_of(name)):
+            try:
+                return os.stat(name, dir_fd=self.folder, follow_symlinks=False)
+            except FileNotFoundError:
+                return None
+
+    def _has(self, name: str) -> bool:
+        """Whether the name is that of what stood in the place at the start: of the same file, or of none."""
+        found = self._found(name)
+        return os.path.samestat(found, self.old) if found and self.old else found is self.old
 
     @contextlib.contextmanager
     def beside(self) -> Iterator[Tuple[str, BinaryIO]]:
-        """A new file in the folder of the place, which no one else can read, and its path. At the end it is removed,
+        """A new file in the folder of the place, which no one else can read, and its name. At the end it is removed,
         unless it was moved."""
         # Its name is known before it is there, so a signal that ends the program at once leaves no file behind.
-        path = os.path.join(self.folder, ".jillapun-" + secrets.token_hex(8))
+        name = ".jillapun-" + secrets.token_hex(8)
         is_there = True
         try:
             try:
-                descriptor = os.open(path, os.O_WRONLY | os.O_CREAT | os.O_EXCL | os.O_NOFOLLOW, 0o600)
+                flags = os.O_WRONLY | os.O_CREAT | os.O_EXCL | os.O_NOFOLLOW
+                descriptor = os.open(name, flags, 0o600, dir_fd=self.folder)
             except OSError as fault:
                 is_there = False
-                fault.filename = self.folder
+                fault.filename = self.folder_path
                 raise
             with open(descriptor, "wb") as made:
-                yield path, cast(BinaryIO, made)
+                yield name, cast(BinaryIO, made)
         finally:
             if is_there:
                 with contextlib.suppress(FileNotFoundError):
-                    os.unlink(path)
+                    os.unlink(name, dir_fd=self.folder)
 
     def finish(self, made: BinaryIO, mode: int) -> None:
-        """Ends the file beside the place: like the one that it replaces, and safe on the disk, or, if it replaces none,
-        with this mode."""
+        """Ends the file beside the place, and syncs it to disk. It gets what `_dress` takes of the file that it
+        replaces, or, if it replaces none, this mode."""
         made.flush()
         if self.old:
-            _dress(made.fileno(), self.path, self.old)
-            os.fsync(made.fileno())
+            _dress(made.fileno(), self.descriptor)
         else:
             os.fchmod(made.fileno(), mode)
+        os.fsync(made.fileno())
         made.close()
 
-    def check_unchanged(self, before: os.stat_result) -> None:
-        """Refuses to replace a file that is not what was read."""
-        now = os.stat(self.path)
-        if not os.path.samestat(now, before) or (now.st_size, now.st_mtime_ns) != (before.st_size, before.st_mtime_ns):
-            raise JillapunError("it changed while it was converted, and is not replaced")
-
-    def put(self, path: str) -> None:
-        """Moves the file from beside to its place. What stood there is kept, if that was asked for."""
+    def put(self, name: str) -> None:
+        """Moves the file of this name to its place, and syncs the folder. What stood there is kept, if that was asked
+        for."""
+        if not self._has(self.name):
+            raise _replaced_meanwhile()
         if self.backup:
+            self._keep()
+        try:
+            with _naming(self.path):
+                os.replace(name, self.name, src_dir_fd=self.folder, dst_dir_fd=self.folder)
+        except BaseException:
+            # Only while the file itself is in its place the backup is no more than a copy.
+            if self.backup and self._has(self.name):
+                with contextlib.suppress(OSError):
+                    os.unlink(self.backup, dir_fd=self.folder)
+            raise
+        self._sync_folder()
+
+    def _keep(self) -> None:
+        """Gives the file that is in the place the name of the backup, too."""
+        with _naming(self.path_of(self.backup)):
             try:
-                os.link(self.path, self.backup)
+                folder = self.folder
+                os.link(self.name, self.backup, src_dir_fd=folder, dst_dir_fd=folder, follow_symlinks=False)
             except FileExistsError:
                 raise
             except OSError:
                 # Not every file system has links.
-                _copy(self.path, self.backup)
+                self._copy()
+                return
+        if not self._has(self.backup):
+            os.unlink(self.backup, dir_fd=self.folder)
+            raise _replaced_meanwhile()
+
+    def _copy(self) -> None:
+        """Copies the file that is in the place, with its times, to the name of the backup."""
+        flags = os.O_WRONLY | os.O_CREAT | os.O_EXCL | os.O_NOFOLLOW
+        descriptor = os.open(self.backup, flags, 0o600, dir_fd=self.folder)
         try:
-            os.replace(path, self.path)
-        except OSError:
-            # Only then is it sure that the backup is no more than a copy.
-            if self.backup:
-                with contextlib.suppress(OSError):
-                    os.unlink(self.backup)
+            with open(descriptor, "wb") as made, open(self.descriptor, "rb", closefd=False) as given:
+                given.seek(0)
+                shutil.copyfileobj(given, made)
+                made.flush()
+                _dress(made.fileno(), self.descriptor)
+                old = os.fstat(self.descriptor)
+                os.utime(made.fileno(), ns=(old.st_atime_ns, old.st_mtime_ns))
+                os.fsync(made.fileno())
+        except BaseException:
+            os.unlink(self.backup, dir_fd=self.folder)
             raise
-        if self.old:
-            _sync_folder(self.folder)
+
+    def _sync_folder(self) -> None:
+        """Sees to it that what was moved stays moved after a crash."""
+        try:
+            os.fsync(self.folder)
+        except OSError as fault:
+            # Some file systems can't sync a folder, and say so.
+            if fault.errno != errno.EINVAL:
+                words = "The output is in its place, but the folder could not be synced to disk: %s"
+                raise _refused(fault.errno or errno.EIO, self.folder_path, words % fault.strerror) from fault
 
 
 def _put_all(
@@ -192,45 +265,114 @@ def _put_all(
     return conversion.report
 
 
+def _is_utf_8(given: BinaryIO) -> bool:
+    """Whether a file is well-formed UTF-8, and not all ASCII. The file is at its start, and stays there."""
+    decoder, is_ascii, data = codecs.getincrementaldecoder("utf-8")(), True, b"\0"
+    try:
+        while data:
+            data = chunk_of(given)
+            decoder.decode(data, not data)
+            is_ascii = is_ascii and data.isascii()
+    except UnicodeDecodeError:
+        return False
+    finally:
+        given.seek(0)
+    return not is_ascii
+
+
+class _Work:
+    """What is done with a file, wherever its output goes."""
+
+    def __init__(self, job: Job, losses: Losses, threads: int, progress: Optional[Callable[[int], object]]):
+        if threads < 1:
+            raise ValueError("threads=%d: at least one is needed" % threads)
+        self.job, self.losses, self.threads, self.progress = job, losses, threads, progress
+        self.conversion = Conversion(*job)
+
+    def encodes_twice(self, given: BinaryIO) -> bool:
+        """Whether the file, which is at its start, is UTF-8 already, and would be encoded as UTF-8 once more."""
+        job = self.job
+        if name(job.source) == _UTF_8 or output_name(job.target) != _UTF_8:
+            return False
+        is_marked = job.mark == "sniff" and given.read(len(_MARK)) == _MARK
+        given.seek(0)
+        return not is_marked and _is_utf_8(given)
+
+    def put(self, given: BinaryIO, before: os.stat_result, made: BinaryIO) -> ConvertedFile:
+        """Converts a file to its end. Raises an error if it is no longer what it was before."""
+        later = self.job.later(given) if self.threads > 1 else None
+        if later:
+            report = put_parts((self.job, later), self.losses, given, made, self.threads, self.progress)
+        else:
+            report = _put_all(self.conversion, self.losses, given, made, self.progress)
+        check_unchanged(given, before)
+        return ConvertedFile(*report[:4], self.losses.kept, report.characters)
+
+
+def check_unchanged(given: BinaryIO, before: os.stat_result) -> None:
+    """Raises an error if a regular file is no longer what it was before."""
+    now = os.fstat(given.fileno())
+    if stat.S_ISREG(now.st_mode) and (now.st_size, now.st_mtime_ns) != (before.st_size, before.st_mtime_ns):
+        raise JillapunError("the file changed while it was converted: convert it again")
+
+
+def write_with(
+    losses: Losses,
+    source_path: PathLike,
+    made: BinaryIO,
+    job: Job,
+    *,
+    threads: int = 1,
+    progress: Optional[Callable[[int], object]] = None,
+) -> ConvertedFile:
+    """Converts a file, and writes the output to another as it comes. What is lost is handed to `losses`."""
+    work = _Work(job, losses, threads, progress)
+    with open(source_path, "rb") as given:
+        done = work.put(given, os.fstat(given.fileno()), made)
+    losses.end(done)
+    return done
+
+
 def convert_with(
     losses: Losses,
     source_path: PathLike,
     target_path: PathLike,
-    source: str,
-    target: str,
+    job: Job,
     *,
-    mark: str = "sniff",
-    unmappable: str = "decimal",
-    limit: Optional[int] = None,
-    indexes: Optional[Indexes] = None,
+    in_place: bool = False,
     lossy: bool = False,
+    force: bool = False,
     backup: Optional[str] = None,
-    processes: int = 1,
+    threads: int = 1,
     progress: Optional[Callable[[int], object]] = None,
 ) -> ConvertedFile:
     """`convert_file`, with what is lost handed to `losses`."""
-    if processes < 1:
-        raise ValueError("%d processes" % processes)
-    job = Job(source, target, mark, unmappable, c.limit_of(limit), indexes)
-    conversion = Conversion(*job)
-    place = _Place(target_path, backup)
-    with open(source_path, "rb") as given, place.beside() as (path, made):
+    work = _Work(job, losses, threads, progress)
+    is_one_path = os.fspath(source_path) == os.fspath(target_path)
+    place = _Place(os.fspath(target_path), backup, os.O_RDWR if is_one_path or backup else os.O_WRONLY)
+    with contextlib.closing(place), contextlib.ExitStack() as stack:
+        is_open = is_one_path and place.old is not None
+        given = stack.enter_context(open(place.descriptor if is_open else source_path, "rb", closefd=not is_open))
         before = os.fstat(given.fileno())
-        is_in_place = place.old is not None and os.path.samestat(os.stat(place.path), before)
-        later = job.later(given) if processes > 1 else None
-        if later:
-            report = put_parts((job, later), losses, given, made, processes, progress)
-        else:
-            report = _put_all(conversion, losses, given, made, progress)
-        done = ConvertedFile(*report[:4], losses.kept, report.characters)
+        is_in_place = place.old is not None and os.path.samestat(place.old, before)
+        if in_place and not is_in_place:
+            raise ValueError("in_place=True, but %r and %r are two files" % (source_path, target_path))
+        if is_in_place and not (in_place or backup):
+            raise JillapunError("it would replace itself: in_place=True asks for that, and backup=SUFFIX, which keeps it")
+        if is_in_place and not force and work.encodes_twice(given):
+            raise AlreadyUtf8(
+                "left as it was (it is well-formed UTF-8 already, and would be encoded twice): force=True converts it"
+            )
+        name, made = stack.enter_context(place.beside())
+        done = work.put(given, before, made)
         if is_in_place and not (done.faithful or lossy or backup):
             raise NotReplaced(done)
         losses.end(done)
         # The permissions of a pipe or a device, as /dev/null, say nothing of who may read what came from it.
         place.finish(made, before.st_mode & (0o777 if stat.S_ISREG(before.st_mode) else 0o600))
         if is_in_place:
-            place.check_unchanged(before)
-        place.put(path)
+            check_unchanged(given, before)
+        place.put(name)
     return done
 
 
@@ -244,34 +386,41 @@ def convert_file(
     unmappable: str = "decimal",
     limit: Optional[int] = None,
     indexes: Optional[Indexes] = None,
+    in_place: bool = False,
     lossy: bool = False,
+    force: bool = False,
     backup: Optional[str] = None,
     on_loss: Optional[Callable[[Loss], object]] = None,
     keep_losses: int = 0,
-    processes: int = 1,
+    threads: int = 1,
     progress: Optional[Callable[[int], object]] = None,
 ) -> ConvertedFile:
-    """Converts a file into another, which is there whole or not at all: it is written beside its place, and moved there
-    at the end. However long the file is, and whatever is lost, only a chunk of it is in memory.
+    """Converts a file into another, which is there whole or not at all: the output is written beside its place, synced
+    to disk and then moved there. However long the file is, and whatever is lost, only a chunk of it is in memory.
 
-    A new file has the permissions of the source; what came from a pipe or a device its owner alone may read. A file
-    that is there already is replaced: its owner (if this may be set), its permissions and its extended attributes stay.
-    A link is followed. If `backup`, a suffix, is given, what was there is kept as the name with that suffix, which no
-    file may have yet.
+    A new file has the permissions of the source; what came from a pipe or a device only its owner can read. If there is
+    a file at `target_path`, the output replaces it and keeps its owner (if that can be set), its permissions and its
+    extended attributes. If `backup`, a suffix, is given, the replaced file is kept as the name with that suffix, which
+    no file may have yet. A symbolic link at `target_path` is refused.
 
-    Where both paths lead to one file, it is replaced only if nothing is lost, or with `lossy` or `backup`. Otherwise it
-    stays as it was, and `NotReplaced` is raised, which has the counts. Other hard links of it keep what it was.
+    To convert a file in its own place, pass its path twice, and `in_place=True` or `backup`. It is replaced only if
+    nothing is lost, or with `lossy` or `backup`. Otherwise it stays as it was, and `NotReplaced` is raised, which has
+    the counts. A file that is well-formed UTF-8 beyond ASCII already is not converted to UTF-8 from another encoding,
+    which would encode it twice, unless `force` is given: `AlreadyUtf8` is raised. Other hard links of the file keep
+    what it was.
 
-    What is lost is counted, and handed to `on_loss` as it comes, a `Bad` or a `Lost`, in the order of the text; the
-    first `keep_losses` of them are kept. `progress` is called after each chunk, with how many bytes have been read.
+    Each loss, a `Bad` or a `Lost`, is counted and handed to `on_loss` as it comes, in the order of the text; the first
+    `keep_losses` of them are kept. `progress` is called after each chunk, with how many bytes have been read.
 
-    `processes` is how many processors may work at once: so many threads each convert a part of 2 MiB or more. Output,
-    losses and result are those of one. An input is one part if it is no regular file, if it is in UTF-16, ISO-2022-JP
-    or replacement, or if the output is in ISO-2022-JP.
+    `threads` is how many threads convert at once, each a part of 2 MiB or more. Output, losses and result are those of
+    one. An input is one part if it is no regular file, if it is in UTF-16, ISO-2022-JP or replacement, or if the output
+    is in ISO-2022-JP.
 
-    Raises what `convert` does, `OSError`, and what `on_loss` or `progress` raise. After an exception the target is as
-    it was; a `Stopped` has no output."""
+    Raises what `convert` does, `OSError`, what `on_loss` or `progress` raise, and `JillapunError` if source or target
+    change in the meantime. After an exception the target is as it was, unless it is an `OSError` that says that the
+    output is in its place. A `Stopped` has no output."""
+    job = Job(source, target, mark, unmappable, c.limit_of(limit), indexes)
     return convert_with(
-        Losses(keep_losses, on_loss), source_path, target_path, source, target, mark=mark, unmappable=unmappable,
-        limit=limit, indexes=indexes, lossy=lossy, backup=backup, processes=processes, progress=progress,
+        Losses(keep_losses, on_loss), source_path, target_path, job, in_place=in_place, lossy=lossy, force=force,
+        backup=backup, threads=threads, progress=progress,
     )  # fmt: skip

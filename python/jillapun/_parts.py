@@ -140,15 +140,15 @@ def put_parts(
     losses: Losses,
     given: io.BufferedReader,
     made: BinaryIO,
-    processes: int,
+    threads: int,
     progress: Optional[Callable[[int], object]],
 ) -> Report:
     """Converts a file to its end, so many parts at a time, and returns the report on it. The jobs are those of the
     first part and of the others."""
-    pool, read = ThreadPoolExecutor(processes), 0
+    pool, read = ThreadPoolExecutor(threads), 0
     parts = _Parts(*jobs, given)
     try:
-        for block in _ahead(parts.blocks(), pool, processes + 1):
+        for block in _ahead(parts.blocks(), pool, threads + 1):
             parts.join(block, made, losses)
             read += block.length
             if progress:

@@ -1,6 +1,7 @@
 """Files that are converted into others or in their own place: after whatever happens no original is lost unsaid."""
 
 import contextlib
+import ctypes
 import errno
 import os
 import stat
@@ -10,7 +11,7 @@ import sys
 import tempfile
 import unittest
 from pathlib import Path
-from typing import Iterator
+from typing import Iterator, List, Optional
 from unittest import mock
 
 import cases
@@ -20,8 +21,16 @@ import jillapun
 GOOD, GOOD_MADE = "déjà vu\n".encode(), "déjà vu\n".encode("cp1252")
 BAD, BAD_MADE = b"caf\xe9\n", b"caf&#65533;\n"
 
+# The number of the system call on x86-64, whose flag 2 exchanges two names.
+RENAMEAT2 = 316
+
 # A user whom permissions bind.
 NOBODY = 65534
+
+
+def twice(data: bytes) -> bytes:
+    """The bytes, read in windows-1252 as the standard has it, in UTF-8."""
+    return b"".join(bytes([byte]).decode("cp1252", "ignore").encode() or chr(byte).encode() for byte in data)
 
 
 @contextlib.contextmanager
@@ -61,6 +70,7 @@ class Folder(unittest.TestCase):
 
     def convert(self, *paths: str, **options: object) -> jillapun.ConvertedFile:
         """From UTF-8 to windows-1252, in its own place if there is one path."""
+        options.setdefault("in_place", len(paths) == 1)
         return jillapun.convert_file(paths[0], paths[-1], "utf-8", "windows-1252", **options)
 
 
@@ -84,11 +94,10 @@ class InPlace(Folder):
         """No loss is reported of them, and still the file stays."""
         self.put("a", "1¥".encode())
         with self.assertRaisesRegex(jillapun.NotReplaced, "some characters do not read back"):
-            jillapun.convert_file(self.path, self.path, "utf-8", "shift_jis")
+            jillapun.convert_file(self.path, self.path, "utf-8", "shift_jis", in_place=True)
         self.holds(a="1¥".encode())
-        self.assertEqual(
-            jillapun.convert_file(self.path, self.path, "utf-8", "shift_jis", lossy=True)[1:4], (0, 0, False)
-        )
+        done = jillapun.convert_file(self.path, self.path, "utf-8", "shift_jis", in_place=True, lossy=True)
+        self.assertEqual(done[1:4], (0, 0, False))
         self.holds(a=b"1\\")
 
     def test_lossy(self) -> None:
@@ -152,30 +161,137 @@ class InPlace(Folder):
         self.assertRaises(OSError, self.convert, self.path, backup="x" * 300)
         self.holds(a=BAD)
 
+    def test_it_has_to_be_asked_for(self) -> None:
+        """By `in_place` or `backup`; what else is given does not matter."""
+        self.put("a", GOOD)
+        for options in ({}, {"lossy": True}, {"force": True}):
+            with self.assertRaisesRegex(jillapun.JillapunError, "in_place=True"):
+                self.convert(self.path, self.path, **options)
+        self.put("b", GOOD)
+        self.assertRaises(ValueError, self.convert, self.path, self.at("b"), in_place=True)
+        self.assertRaises(ValueError, self.convert, self.path, self.at("c"), in_place=True)
+        self.holds(a=GOOD, b=GOOD)
+
     def test_other_paths_to_the_file(self) -> None:
-        """By a link, a hard link or another spelling it is the same file."""
+        """By a hard link, another spelling or a link to the source it is the same file."""
         self.put("a", BAD)
         os.symlink("a", self.at("link"))
-        os.symlink("link", self.at("far"))
         os.link(self.path, self.at("hard"))
-        names = ("a", "link", "far", "hard", "../%s/a" % os.path.basename(self.folder))
-        for one in names:
+        names = ("a", "hard", "../%s/a" % os.path.basename(self.folder))
+        for one in (*names, "link"):
             for other in names:
-                self.assertRaises(jillapun.NotReplaced, self.convert, self.at(one), self.at(other))
-        self.holds(a=BAD, link=BAD, far=BAD, hard=BAD)
+                words = self.at(one), self.at(other)
+                self.assertRaisesRegex(jillapun.JillapunError, "in_place=True", self.convert, *words)
+                self.assertRaises(jillapun.NotReplaced, self.convert, *words, in_place=True)
+        self.holds(a=BAD, link=BAD, hard=BAD)
         self.assertTrue(os.path.samefile(self.path, self.at("hard")))
 
-    def test_a_link_is_followed(self) -> None:
-        """What it leads to is replaced beside itself, and other hard links keep what it was."""
+    def test_a_link_is_refused(self) -> None:
+        """What it leads to stays as it is. Links to folders on the way to the file are followed."""
         os.mkdir(self.at("in"))
         self.put("in/a", GOOD)
         os.symlink("in/a", self.path)
+        os.symlink("in", self.at("folder"))
+        for options in ({}, {"lossy": True}, {"backup": "~"}):
+            with self.assertRaisesRegex(OSError, "Is a symbolic link: name the file") as it:
+                self.convert(self.path, **options)
+            self.assertEqual((it.exception.errno, it.exception.filename), (errno.ELOOP, self.path))
         os.link(self.at("in/a"), self.at("hard"))
-        self.convert(self.path, backup="~")
-        self.assertEqual(os.readlink(self.path), "in/a")
+        self.convert(self.at("folder/a"), backup="~")
+        self.assertEqual((os.readlink(self.path), os.readlink(self.at("folder"))), ("in/a", "in"))
         self.assertEqual(sorted(os.listdir(self.at("in"))), ["a", "a~"])
         found = [Path(self.at(name)).read_bytes() for name in ("in/a", "in/a~", "hard")]
         self.assertEqual(found, [GOOD_MADE, GOOD, GOOD])
+
+    def test_utf_8_is_not_encoded_twice(self) -> None:
+        """Not from an encoding in which any bytes are text, nor from one in which these bytes happen to be."""
+        data = "é 日本\n".encode()
+        for source in ("windows-1252", "koi8-r", "ibm866", "x-user-defined", "gbk", "shift_jis", "utf-16le"):
+            for target in ("utf-8", "utf-16le"):
+                for options in ({"in_place": True}, {"in_place": True, "lossy": True}, {"backup": "~"}, {"threads": 3}):
+                    self.put("a", data)
+                    words = self.path, self.path, source, target
+                    with self.assertRaisesRegex(jillapun.AlreadyUtf8, "force=True"):
+                        jillapun.convert_file(*words, **{"in_place": True, **options})
+                    self.holds(a=data)
+        jillapun.convert_file(self.path, self.path, "windows-1252", "utf-8", in_place=True, force=True)
+        self.holds(a=twice(data))
+
+    def test_what_is_no_utf_8_yet(self) -> None:
+        """ASCII, other bytes, a sequence that ends too early, also in a second chunk; a mark, which names UTF-8; and
+        other outputs and other places."""
+        chunk = b"x" * 65535
+        for data in (b"", b"abc", b"caf\xe9", b"\xc3", chunk + b"\xc3", chunk + b"\xc3\xa9\xff"):
+            self.put("a", data)
+            jillapun.convert_file(self.path, self.path, "windows-1252", "utf-8", in_place=True)
+            self.holds(a=twice(data))
+        self.put("a", chunk + "é".encode())
+        words = self.path, self.path, "windows-1252", "utf-8"
+        self.assertRaises(jillapun.AlreadyUtf8, jillapun.convert_file, *words, in_place=True)
+        self.put("a", b"\xef\xbb\xbf" + "é".encode())
+        self.assertRaises(jillapun.AlreadyUtf8, jillapun.convert_file, *words, in_place=True, mark="keep")
+        jillapun.convert_file(*words, in_place=True)
+        self.holds(a="é".encode())
+        jillapun.convert_file(self.path, self.path, "utf-8", "utf-8", in_place=True)
+        jillapun.convert_file(self.path, self.at("b"), "windows-1252", "utf-8")
+        self.holds(a="é".encode(), b=twice("é".encode()))
+        jillapun.convert_file(self.path, self.path, "windows-1252", "iso-8859-15", in_place=True)
+
+    def test_a_name_that_is_swapped(self) -> None:
+        """Somebody exchanges the file again and again with a link to a secret: it stays as it is, whatever is asked
+        for, and each call converts the file or raises an error."""
+        secret, ends, folder = self.put("secret", BAD), [], self.at("in")
+        os.mkdir(folder)
+        before, words = os.stat(secret), (os.path.join(folder, "a"), os.path.join(folder, "b"))
+        code = "import ctypes; call = ctypes.CDLL(None).syscall\nwhile True: call(%d, -100, b'a', -100, b'b', 2)"
+        with subprocess.Popen([sys.executable, "-c", code % RENAMEAT2], cwd=folder) as swaps:
+            try:
+                for number in range(40):
+                    for path in words:
+                        Path(path).unlink(missing_ok=True)
+                    Path(words[0]).write_bytes(BAD)
+                    os.symlink("../secret", words[1])
+                    options = {"in_place": True} if number % 2 else {"backup": "~%d" % number}
+                    try:
+                        jillapun.convert_file(words[0], words[0], "koi8-r", "windows-1251", **options)
+                        ends.append(None)
+                    except (OSError, jillapun.JillapunError) as fault:
+                        ends.append(type(fault))
+                    after = os.stat(secret)
+                    self.assertEqual((after.st_mtime_ns, after.st_uid), (before.st_mtime_ns, before.st_uid))
+            finally:
+                swaps.kill()
+        self.assertEqual(Path(secret).read_bytes(), BAD)
+        self.assertLessEqual(set(ends), {None, OSError, jillapun.JillapunError})
+        self.assertIn(OSError, ends)
+        self.assertFalse(any(name.startswith(".jillapun-") for name in os.listdir(folder)))
+
+    def test_a_name_that_is_swapped_at_each_moment(self) -> None:
+        """The same, once, before each call that could be misled."""
+        calls = "os.open", "os.stat", "os.fstat", "os.fsync", "os.link", "os.replace"
+        for call in calls:
+            for moment in range(9):
+                for backup in (None, "~"):
+                    self.swapped_at(call, moment, backup)
+
+    def swapped_at(self, call: str, moment: int, backup: Optional[str]) -> None:
+        with tempfile.TemporaryDirectory(dir=self.folder) as folder:
+            path, other, secret = (os.path.join(folder, name) for name in ("a", "b", "secret"))
+            Path(path).write_bytes(GOOD)
+            Path(secret).write_bytes(GOOD)
+            os.symlink("secret", other)
+            real, left = eval(call), [moment]
+
+            def swap(*words: object, **options: object) -> object:
+                if not left[0]:
+                    self.assertEqual(ctypes.CDLL(None).syscall(RENAMEAT2, -100, path.encode(), -100, other.encode(), 2), 0)
+                left[0] -= 1
+                return real(*words, **options)
+
+            with mock.patch(call, swap), contextlib.suppress(OSError, jillapun.JillapunError):
+                self.convert(path, backup=backup)
+            self.assertEqual(Path(secret).read_bytes(), GOOD, (call, moment, backup))
+            self.assertFalse(any(name.startswith(".jillapun-") for name in os.listdir(folder)))
 
     def test_attributes(self) -> None:
         """Permissions and extended attributes stay, and the time is that of the change."""
@@ -235,14 +351,45 @@ class InPlace(Folder):
         self.assertEqual(set(modes), {0o600})
 
     def test_what_is_moved_is_on_the_disk(self) -> None:
-        """It is synced before it is moved, and the folder after."""
-        self.put("a", GOOD)
-        calls = mock.Mock()
-        with mock.patch("os.fsync", calls.fsync), mock.patch("os.replace", side_effect=os.replace) as replace:
-            calls.attach_mock(replace, "replace")
-            self.convert(self.path)
-        self.assertEqual([call[0] for call in calls.mock_calls], ["fsync", "replace", "fsync"])
-        self.holds(a=GOOD_MADE)
+        """It is synced before it is moved, and the folder after; so is a new file."""
+        for target in ("a", "b"):
+            self.put("a", GOOD)
+            synced: List[object] = []
+            sync, replace = os.fsync, os.replace
+
+            def note_sync(descriptor: int) -> None:
+                synced.append(stat.S_IFMT(os.fstat(descriptor).st_mode))
+                sync(descriptor)
+
+            def note_move(*words: str, **folders: int) -> None:
+                synced.append("moved")
+                replace(*words, **folders)
+
+            with mock.patch("os.fsync", note_sync), mock.patch("os.replace", note_move):
+                self.convert(self.path, self.at(target), in_place=target == "a")
+            self.assertEqual(synced, [stat.S_IFREG, "moved", stat.S_IFDIR])
+        self.holds(a=GOOD, b=GOOD_MADE)
+
+    def test_a_folder_that_is_not_synced(self) -> None:
+        """The error says that the output is in its place. Where a file system can't sync folders, there is none."""
+        sync = os.fsync
+        for number in (errno.EIO, errno.ENOSPC, errno.EINVAL):
+            for target in ("a", "b"):
+                self.put("a", GOOD)
+
+                def fail(descriptor: int) -> None:
+                    if stat.S_ISDIR(os.fstat(descriptor).st_mode):
+                        raise OSError(number, os.strerror(number))
+                    sync(descriptor)
+
+                with mock.patch("os.fsync", fail):
+                    if number == errno.EINVAL:
+                        self.convert(self.path, self.at(target), in_place=target == "a")
+                    else:
+                        with self.assertRaisesRegex(OSError, "is in its place") as it:
+                            self.convert(self.path, self.at(target), in_place=target == "a")
+                        self.assertEqual((it.exception.errno, it.exception.filename), (number, self.folder))
+                self.assertEqual(Path(self.at(target)).read_bytes(), GOOD_MADE)
 
     def test_no_file(self) -> None:
         """A folder, a pipe, a device, a loop of links, and nothing."""
@@ -288,16 +435,13 @@ class InPlace(Folder):
 
             self.assertRaisesRegex(jillapun.JillapunError, "changed", self.convert, self.path, progress=add)
             self.holds(a=GOOD + b"more")
-        self.assertRaisesRegex(
-            jillapun.JillapunError,
-            "changed",
-            lambda: self.convert(self.path, progress=lambda _: os.replace(self.put("b", BAD), self.path)),
-        )
+        with self.assertRaisesRegex(jillapun.JillapunError, "replaced the file in the meantime"):
+            self.convert(self.path, progress=lambda _: os.replace(self.put("b", BAD), self.path))
         self.holds(a=BAD)
 
     def test_a_file_that_vanishes(self) -> None:
         self.put("a", GOOD)
-        with self.assertRaises(FileNotFoundError):
+        with self.assertRaisesRegex(jillapun.JillapunError, "in the meantime"):
             self.convert(self.path, progress=lambda _: Path(self.path).unlink(missing_ok=True))
         self.holds()
 
@@ -337,10 +481,10 @@ class InPlace(Folder):
         self.put("a", GOOD)
         opened = os.open
 
-        def refused(path: str, flags: int, mode: int = 0o777) -> int:
+        def refused(path: str, flags: int, mode: int = 0o777, **folder: int) -> int:
             if flags & os.O_CREAT:
                 raise OSError(errno.EIO, "the disk fails", path)
-            return opened(path, flags, mode)
+            return opened(path, flags, mode, **folder)
 
         with mock.patch("os.open", refused), self.assertRaises(OSError) as it:
             self.convert(self.path, backup="~")
@@ -383,7 +527,7 @@ class InPlace(Folder):
         self.put("a", "日".encode() * 30000)
         code = (
             "import jillapun, resource, sys; resource.setrlimit(resource.RLIMIT_FSIZE, (100000, 100000)); "
-            "jillapun.convert_file(sys.argv[1], sys.argv[1], 'utf-8', 'windows-1252', lossy=True)"
+            "jillapun.convert_file(sys.argv[1], sys.argv[1], 'utf-8', 'windows-1252', in_place=True, lossy=True)"
         )
         environment = {**os.environ, "PYTHONPATH": os.path.join(cases.TOP, "python")}
         command = [sys.executable, "-c", code, self.path]
@@ -433,13 +577,51 @@ class Into(Folder):
         self.holds(**{"a": BAD, "b": BAD_MADE, "b~": b"old"})
         self.assertEqual([stat.S_IMODE(os.stat(self.at(name)).st_mode) for name in ("b", "b~")], [0o640, 0o640])
 
-    def test_a_link_is_followed(self) -> None:
+    def test_a_link_is_refused(self) -> None:
+        """Also one that leads nowhere, since it would choose where a new file is made. As the source it is followed."""
+        self.put("a", GOOD), self.put("real", b"old")
+        for leads_to in ("real", "none"):
+            os.symlink(leads_to, self.at("b"))
+            self.assertRaisesRegex(OSError, "Is a symbolic link", self.convert, self.path, self.at("b"))
+            os.unlink(self.at("b"))
+        os.symlink("a", self.at("b"))
+        self.convert(self.at("b"), self.at("c"))
+        self.holds(a=GOOD, b=GOOD, c=GOOD_MADE, real=b"old")
+
+    def test_a_source_that_changes(self) -> None:
+        """It is an error, and there is no output."""
+        for threads in (1, 3):
+            self.put("b", b"old")
+
+            def add(read: int) -> None:
+                if read == len(GOOD):
+                    with open(self.path, "ab") as file:
+                        file.write(b"more")
+
+            for target in ("b", "c"):
+                self.put("a", GOOD)
+                with self.assertRaisesRegex(jillapun.JillapunError, "changed while it was converted"):
+                    self.convert(self.path, self.at(target), threads=threads, progress=add)
+            self.assertEqual(sorted(os.listdir(self.folder)), ["a", "b"])
+            self.assertEqual(Path(self.at("b")).read_bytes(), b"old")
+        self.assertGreater(self.convert("/proc/self/status", self.at("c")).read, 0)
+
+    def test_a_target_that_comes_or_goes(self) -> None:
+        """What another program puts in the place in the meantime is not thrown away."""
         self.put("a", GOOD)
-        os.symlink("real", self.at("b"))
-        for _ in range(2):
-            self.convert(self.path, self.at("b"))
-            self.assertEqual(os.readlink(self.at("b")), "real")
-            self.holds(a=GOOD, b=GOOD_MADE, real=GOOD_MADE)
+        for old, new in ((None, b"new"), (b"old", b"new"), (b"old", None)):
+            if old:
+                self.put("b", old)
+
+            def change(_: int) -> None:
+                Path(self.at("b")).unlink(missing_ok=True)
+                if new:
+                    os.replace(self.put("c", new), self.at("b"))
+
+            with self.assertRaisesRegex(jillapun.JillapunError, "in the meantime"):
+                self.convert(self.path, self.at("b"), progress=change)
+            self.holds(a=GOOD, **({"b": new} if new else {}))
+            Path(self.at("b")).unlink(missing_ok=True)
 
     def test_no_file(self) -> None:
         """A folder, a device, a pipe, a loop and a folder that is not there stay as they are."""
@@ -472,9 +654,9 @@ class Into(Folder):
             there = os.path.join(folder, "a")
             self.convert(self.path, there)
             self.assertEqual(Path(there).read_bytes(), GOOD_MADE)
-            os.symlink(there, self.at("link"))
+            os.symlink(folder, self.at("link"))
             Path(there).write_bytes(GOOD)
-            self.convert(self.at("link"))
+            self.convert(self.at("link/a"))
             self.assertEqual(Path(there).read_bytes(), GOOD_MADE)
             self.assertEqual(os.listdir(folder), ["a"])
         self.assertEqual(sorted(os.listdir(self.folder)), ["a", "link"])

@@ -68,14 +68,14 @@ def input_of(chance: random.Random, source: str) -> bytes:
 
 
 class Parts(Folder):
-    def found(self, *words: str, processes: int = 1, part: int = 1, **options: Any) -> Tuple[Any, ...]:
+    def found(self, *words: str, threads: int = 1, part: int = 1, **options: Any) -> Tuple[Any, ...]:
         """The result or the exception of a conversion of the file `a`, the losses as they came, and the output."""
         told: List[jillapun._results.Loss] = []
         read: List[int] = []
         try:
             with mock.patch("jillapun._parts.PART", part):
                 result: Any = jillapun.convert_file(
-                    self.path, self.at("b"), *words, processes=processes, on_loss=told.append, keep_losses=3,
+                    self.path, self.at("b"), *words, threads=threads, on_loss=told.append, keep_losses=3,
                     progress=read.append, **options,
                 )  # fmt: skip
             self.assertEqual((read, read[-1]), (sorted(read), result.read))
@@ -87,12 +87,12 @@ class Parts(Folder):
         self.assertEqual(os.listdir(self.folder), ["a"])
         return result, told, data
 
-    def agree(self, data: bytes, *words: str, part: int = 1, processes: int = 4, **options: Any) -> Tuple[Any, ...]:
+    def agree(self, data: bytes, *words: str, part: int = 1, threads: int = 4, **options: Any) -> Tuple[Any, ...]:
         """Parts give what the whole gives, which is returned."""
         self.put("a", data)
         whole = self.found(*words, **options)
         self.assertEqual(
-            self.found(*words, processes=processes, part=part, **options), whole, (data, words, part, options)
+            self.found(*words, threads=threads, part=part, **options), whole, (data, words, part, options)
         )
         return whole
 
@@ -107,8 +107,8 @@ class Parts(Folder):
                 "unmappable": chance.choice(["decimal", "hexadecimal", "stop"]),
                 "limit": chance.choice([None, None, None, len(data), chance.randrange(len(data) + 1)]),
             }
-            part, processes = chance.choice([1, 2, 3, 7, 20, 100]), chance.randrange(2, 6)
-            result = self.agree(data, source, target, part=part, processes=processes, **options)[0]
+            part, threads = chance.choice([1, 2, 3, 7, 20, 100]), chance.randrange(2, 6)
+            result = self.agree(data, source, target, part=part, threads=threads, **options)[0]
             seen.add(result[0] if isinstance(result[0], type) else result.faithful)
         self.assertEqual(seen, {True, False, jillapun.Stopped, jillapun.TooLong})
 
@@ -160,7 +160,7 @@ class Parts(Folder):
                 self.agree(head + b"a\n\0\n\0" * 9, source, target)
         os.mkfifo(self.at("pipe"))
         with subprocess.Popen(["sh", "-c", 'printf "caf\\303\\251 \\n" > "$0"', self.at("pipe")]):
-            done = jillapun.convert_file(self.at("pipe"), self.at("b"), "utf-8", "windows-1252", processes=2)
+            done = jillapun.convert_file(self.at("pipe"), self.at("b"), "utf-8", "windows-1252", threads=2)
         self.assertEqual((done.read, Path(self.at("b")).read_bytes()), (7, b"caf\xe9 \n"))
 
     def test_the_encoding_of_parts(self) -> None:
@@ -194,19 +194,19 @@ class Parts(Folder):
 
         self.put("a", b"a\n" * 100)
         with mock.patch("jillapun._parts._Block.convert", convert):
-            self.found("utf-8", "windows-1252", processes=3)
+            self.found("utf-8", "windows-1252", threads=3)
         self.assertEqual(max(most), 3)
-        self.assertRaises(ValueError, self.found, "utf-8", "utf-8", processes=0)
+        self.assertRaises(ValueError, self.found, "utf-8", "utf-8", threads=0)
 
     def test_in_its_own_place(self) -> None:
         for data, options in ((GOOD * 9, {}), (BAD * 9, {}), (BAD * 9, {"lossy": True}), (BAD * 9, {"backup": "~"})):
             found = []
-            for processes in (1, 3):
+            for threads in (1, 3):
                 self.put("a", data)
                 with mock.patch("jillapun._parts.PART", 10):
                     try:
                         done: Any = jillapun.convert_file(
-                            self.path, self.path, "utf-8", "windows-1252", processes=processes, **options
+                            self.path, self.path, "utf-8", "windows-1252", in_place=True, threads=threads, **options
                         )
                     except jillapun.NotReplaced as fault:
                         done = str(fault), fault.done
@@ -217,16 +217,17 @@ class Parts(Folder):
     def test_what_callbacks_raise(self) -> None:
         """The conversion ends, and its threads do."""
         self.put("a", BAD * 1000)
-        threads = threading.active_count()
+        running = threading.active_count()
         for fault in (KeyboardInterrupt, SystemExit, RuntimeError):
             for name in ("progress", "on_loss"):
                 calls = mock.Mock(side_effect=[None, None, fault])
                 with self.assertRaises(fault), mock.patch("jillapun._parts.PART", 10):
                     jillapun.convert_file(
-                        self.path, self.path, "utf-8", "windows-1252", lossy=True, processes=3, **{name: calls}
-                    )
+                        self.path, self.path, "utf-8", "windows-1252", in_place=True, lossy=True, threads=3,
+                        **{name: calls},
+                    )  # fmt: skip
                 self.assertEqual(calls.call_count, 3)
-        self.assertEqual(threading.active_count(), threads)
+        self.assertEqual(threading.active_count(), running)
         self.holds(a=BAD * 1000)
 
     def test_reading_that_fails(self) -> None:
@@ -235,24 +236,25 @@ class Parts(Folder):
         all_told = self.found("utf-8", "windows-1252")[1]
         found = _parts._FIND_CUT(BAD)
         with mock.patch("jillapun._parts._FIND_CUT", side_effect=[found, found, OSError(errno.EIO, "the disk fails")]):
-            result, told, data = self.found("utf-8", "windows-1252", processes=3, part=8)
+            result, told, data = self.found("utf-8", "windows-1252", threads=3, part=8)
         self.assertEqual((result[:2], data), ((OSError, "[Errno %d] the disk fails" % errno.EIO), None))
         self.assertEqual(told, all_told[:10])
 
     def test_writing_that_fails(self) -> None:
-        """In the third part the output gets longer than a file may be: message and folder are those of one process."""
+        """In the third part the output gets longer than a file may be: message and folder are those of one thread."""
         data = "日 ".encode() * 10_000
         self.put("a", data)
         code = (
             "import jillapun, resource, sys; from jillapun import _parts; _parts.PART = 10_000;"
             "resource.setrlimit(resource.RLIMIT_FSIZE, (60_000, 60_000));"
-            "jillapun.convert_file('a', sys.argv[1], 'utf-8', 'windows-1252', lossy=True, processes=int(sys.argv[2]))"
+            "jillapun.convert_file('a', sys.argv[1], 'utf-8', 'windows-1252', in_place=sys.argv[1] == 'a', lossy=True,"
+            "threads=int(sys.argv[2]))"
         )
         environment = {**os.environ, "PYTHONPATH": os.path.join(cases.TOP, "python")}
         said = set()
         for target in ("a", "b"):
-            for processes in ("1", "3"):
-                words = [sys.executable, "-c", code, target, processes]
+            for threads in ("1", "3"):
+                words = [sys.executable, "-c", code, target, threads]
                 ran = subprocess.run(
                     words, cwd=self.folder, env=environment, capture_output=True, text=True, check=False
                 )
@@ -266,7 +268,7 @@ class Parts(Folder):
             self.put("a", line.encode() * 600_000)
             tracemalloc.start()
             with mock.patch("jillapun._parts.PART", 1 << 15):
-                done = jillapun.convert_file(self.path, self.at("b"), "utf-8", "windows-1252", processes=3)
+                done = jillapun.convert_file(self.path, self.at("b"), "utf-8", "windows-1252", threads=3)
             peak = tracemalloc.get_traced_memory()[1]
             tracemalloc.stop()
             self.assertEqual(done.lost, 600_000)
@@ -338,14 +340,14 @@ class Words(Programs):
         self.put("a", (BAD + GOOD) * 50 + "日本\n".encode())
         with mock.patch("jillapun._parts.PART", 10):
             one = self.run_it("--into", self.at("one"), self.path)
-            self.assertEqual(self.run_it("--processes", "3", "--into", self.at("many"), self.path), one)
+            self.assertEqual(self.run_it("--threads", "3", "--into", self.at("many"), self.path), one)
         self.assertEqual(one[0], 1)
         self.assertEqual(*(Path(self.at(name)).read_bytes() for name in ("one/a", "many/a")))
 
     def test_numbers(self) -> None:
         self.put("a", GOOD)
         for word in ("0", "-1", "x", "", "1.5"):
-            self.assertIn("--processes", self.refused(2, "--processes", word, self.path))
+            self.assertIn("--threads", self.refused(2, "--threads", word, self.path))
 
 
 if __name__ == "__main__":

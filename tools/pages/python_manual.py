@@ -1,10 +1,11 @@
 #!/usr/bin/env python3
-"""The parts of the man page man/jillapun.1 that say what `--help` of the Python package's command says: `make generate`.
+"""The version of the Python package, and the parts of the man page man/jillapun.1 that say what `--help` of the package's
+command says: `make generate`.
 
     python3 tools/pages/python_manual.py
 
-They come from the parsers in python/jillapun/_words.py, which need no library. Each part stands between two comments of
-the page. `make lint` calls `faults`.
+The version is that of the programs. The parts come from the parsers in python/jillapun/_words.py, which need no library.
+Each stands between two comments of the page. `make lint` calls `faults`.
 """
 
 import importlib
@@ -17,6 +18,7 @@ import usage
 
 MAN = "man/jillapun.1"
 PACKAGE = os.path.join(usage.TOP, "python", "jillapun")
+VERSION = "python/jillapun/_version.py"
 
 
 def words():
@@ -50,7 +52,7 @@ def synopsis_of(parser, command):
     for action in parser._actions:
         if not action.option_strings:
             yield '.IR %s " ..."' % action.metavar
-        elif action.dest != "help":
+        elif action.dest not in ("help", "version"):
             yield fonts(taken(action)) if action.required else "[%s]" % fonts(taken(action))
 
 
@@ -83,16 +85,19 @@ def statuses(parser):
     return lines
 
 
+def version():
+    return usage.VERSION.search(usage.read(usage.SOURCE))[1]
+
+
 def parts():
-    version = usage.VERSION.search(usage.read(usage.SOURCE))[1]
     parsers = words()
     convert, places = parsers.convert_parser(), parsers.places_parser()
     which, labels = parsers.which_parser(), parsers.labels_parser()
-    yield "title", ['.TH JILLAPUN 1 "" "jillapun %s" "User Commands"' % version]
+    yield "title", ['.TH JILLAPUN 1 "" "jillapun %s" "User Commands"' % version()]
     lines = [*synopsis_of(convert, [".RB [ convert ]"])]
     for parser in (places, which, labels):
         lines += [".br", *synopsis_of(parser, [])]
-    yield "synopsis", lines
+    yield "synopsis", [*lines, ".br", ".B jillapun \\-\\-version"]
     yield "description", notes(convert)
     yield "options", [*options(convert)]
     yield "statuses", statuses(convert)
@@ -100,25 +105,27 @@ def parts():
         yield name, [usage.roff(parser.description), *notes(parser), *options(parser), ".PP", *statuses(parser)]
 
 
-def page():
-    """The page as it is, and as it should be."""
+def pages():
+    """Each file with what it has, and with what it should have."""
     text = usage.read(MAN)
-    return text, usage.put(text, parts(), '.\\" %s\n', '.\\" end of %s\n')
+    yield MAN, text, usage.put(text, parts(), '.\\" %s\n', '.\\" end of %s\n')
+    text = usage.read(VERSION)
+    yield VERSION, text, re.sub('(__version__ = ").*"', r'\g<1>%s"' % version(), text)
 
 
 def faults():
     """What `make lint` asks for."""
-    has, should = page()
-    if has != should:
-        yield "%s does not say what the help says: make generate" % MAN
+    for path, has, should in pages():
+        if has != should:
+            yield "%s does not say what the help or the programs say: make generate" % path
 
 
 def main():
-    has, should = page()
-    if has != should:
-        with open(os.path.join(usage.TOP, MAN), "w", encoding="utf-8") as file:
-            file.write(should)
-        print("wrote", MAN)
+    for path, has, should in pages():
+        if has != should:
+            with open(os.path.join(usage.TOP, path), "w", encoding="utf-8") as file:
+                file.write(should)
+            print("wrote", path)
     return 0
 
 
