@@ -13,7 +13,7 @@ _jillapun() {
         word=${word,,} ;;
     --mark) words="sniff remove keep" ;;
     --unmappable) words="decimal hexadecimal stop" ;;
-    --backup | --lines | --most | --processes) return ;;
+    --backup | --lines | --most | --threads) return ;;
     --indexes | --into)
         compopt -o filenames 2> /dev/null
         mapfile -t COMPREPLY < <(compgen -d -- "$word")

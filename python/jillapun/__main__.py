@@ -5,16 +5,17 @@ import contextlib
 import os
 import signal
 import sys
-from typing import Dict, Hashable, List, NoReturn, Optional
+from typing import BinaryIO, Dict, Hashable, List, NoReturn, Optional, cast
 
 import jillapun
 
 from . import _commands as commands
 from . import _library as c
-from ._files import convert_with
+from ._files import convert_with, write_with
 from ._names import shown
+from ._parts import Job
 from ._results import Losses
-from ._terminal import Terminal, Unsaid, complain, is_heard, unheard
+from ._terminal import Output, Terminal, Unsaid, complain, is_heard, unheard
 from ._words import convert_parser
 
 # The words of a loss, by its kind.
@@ -28,6 +29,9 @@ def words_of(arguments: List[str]) -> argparse.Namespace:
         parser.error("argument --into: no folder is named")
     if words.backup is not None and (not words.backup or os.path.basename(words.backup) != words.backup):
         parser.error("argument --backup: %r is no suffix of a name" % words.backup)
+    if words.into and words.in_place:
+        parser.error("argument --into: not allowed with argument --in-place")
+    words.in_place = not words.into and (words.in_place or words.backup is not None)
     return words
 
 
@@ -62,15 +66,33 @@ def identity(path: str) -> Hashable:
     return path
 
 
-def target_of(words: argparse.Namespace, path: str) -> str:
-    return os.path.join(words.into, os.path.basename(path)) if words.into else path
+def target_of(words: argparse.Namespace, path: str) -> Optional[str]:
+    """Where the output of a file is put; nowhere if it is written to standard output."""
+    return os.path.join(words.into, os.path.basename(path)) if words.into else path if words.in_place else None
+
+
+def is_standard_output(path: str) -> bool:
+    """Whether a regular file is standard output, so that a conversion would read what it writes."""
+    try:
+        output = os.fstat(sys.stdout.fileno())
+        return os.path.isfile(path) and os.path.samestat(output, os.stat(path))
+    except (AttributeError, OSError, ValueError):
+        return False
 
 
 def clash_of(words: argparse.Namespace) -> Optional[str]:
     """Why the files can't be converted in one run: the output of one would replace another, or its output."""
+    if not (words.into or words.in_place):
+        if len(words.files) > 1:
+            remedy = "--into FOLDER writes the outputs there, and --in-place replaces the files"
+            return "%d files and one standard output: %s" % (len(words.files), remedy)
+        path = words.files[0]
+        return "%s is standard output, too" % path if is_standard_output(path) else None
     outputs: Dict[Hashable, str] = {}
     for path in words.files:
-        target = target_of(words, path)
+        target = cast(str, target_of(words, path))
+        if words.into and identity(target) == identity(path):
+            return "%s would replace %s itself: --in-place, without --into, asks for that" % (target, path)
         other = outputs.get(identity(target))
         if other is not None:
             form = "%s and %s would both become %s" if words.into else "%s and %s are one file"
@@ -83,59 +105,90 @@ def clash_of(words: argparse.Namespace) -> Optional[str]:
     return None
 
 
-def reason_of(fault: Exception, path: str) -> str:
-    """What a failure says, with the name of the file where it is another."""
-    if not isinstance(fault, OSError) or not fault.strerror:
-        return str(fault) or type(fault).__name__
-    name = fault.filename2 or fault.filename
-    return fault.strerror if name in (None, path) else "%s: %s" % (name, fault.strerror)
+def converted(
+    words: argparse.Namespace, path: str, target: Optional[str], indexes: jillapun.Indexes, terminal: Terminal
+) -> jillapun.ConvertedFile:
+    job = Job(words.source, words.target, words.mark, words.unmappable, c.NO_LIMIT, indexes)
+    size, lines = 1, Lines(path, terminal)
+    with contextlib.suppress(OSError):
+        size = os.path.getsize(path) or 1
+
+    def progress(read: int) -> None:
+        terminal.show(path, min(read / size, 1))
+
+    if target is None:
+        output = cast(BinaryIO, Output())
+        return write_with(lines, path, output, job, threads=words.threads, progress=progress)
+    return convert_with(
+        lines, path, target, job, in_place=words.in_place, lossy=words.lossy, force=words.force, backup=words.backup,
+        threads=words.threads, progress=progress,
+    )  # fmt: skip
 
 
 def one_status(
     words: argparse.Namespace, path: str, indexes: jillapun.Indexes, terminal: Terminal, written: Dict[Hashable, str]
 ) -> int:
-    """Converts a file, and says what was lost: 0 if nothing was, 1 if something was, or would have been, 3 if an index
-    is missing, and 4 if it failed."""
+    """Converts a file, and says what was lost: 0 if nothing was, 1 if something was, or if the file stays as it was, 3
+    if an index is missing, and 4 if it failed."""
     target = target_of(words, path)
     terminal.show(path)
     try:
-        other = written.get(identity(target))
+        other = written.get(identity(target)) if target else None
         if other is not None:
             # Only where names are one that were two before: where the case of letters does not matter.
             raise jillapun.JillapunError("it would replace %s, which %s has become" % (target, other))
-        size = os.path.getsize(path) or 1
-        done = convert_with(
-            Lines(path, terminal), path, target, words.source, words.target, mark=words.mark,
-            unmappable=words.unmappable, indexes=indexes, lossy=words.lossy, backup=words.backup,
-            processes=words.processes, progress=lambda read: terminal.show(path, read / size),
-        )  # fmt: skip
-        written[identity(target)] = path
+        done = converted(words, path, target, indexes, terminal)
+        if target:
+            written[identity(target)] = path
     except jillapun.NotReplaced as fault:
         remedy = "--lossy replaces it all the same, and --backup SUFFIX keeps the original"
         terminal.clear()
         complain("%s: left as it was (%s): %s" % (path, fault.done.summary, remedy))
         return 1
+    except jillapun.AlreadyUtf8:
+        terminal.clear()
+        complain("%s: left as it was (it is UTF-8 already, and would be encoded twice): --force converts it" % path)
+        return 1
     except (OSError, MemoryError, jillapun.JillapunError) as fault:
         terminal.clear()
-        complain("%s: %s" % (path, reason_of(fault, path)))
+        complain("%s: %s" % (path, commands.reason_of(fault, path, words.indexes)))
         return 3 if isinstance(fault, jillapun.IndexesMissing) else 4
     terminal.clear()
     return 0 if done.faithful else 1
 
 
+def tell_interrupted(words: argparse.Namespace, done: List[str]) -> None:
+    """Says which files are converted."""
+    if not (words.into or words.in_place):
+        complain("interrupted: the output is not complete")
+        return
+    rest = "the others are as they were" if words.in_place else "the others have no output"
+    complain("interrupted: %d of %d files are converted, %s" % (len(done), len(words.files), rest))
+    for path in done:
+        complain("converted: %s" % path)
+
+
 def convert_all(words: argparse.Namespace, indexes: jillapun.Indexes) -> int:
     """The highest status of a file."""
-    terminal, status, path = Terminal(len(words.files)), 0, ""
+    terminal, status = Terminal(len(words.files), target_of(words, "") is None), 0
     written: Dict[Hashable, str] = {}
+    path = ""
+    was: Optional[Hashable] = None
     try:
         for path in words.files:
+            was = identity(target_of(words, path) or path)
             status = max(status, one_status(words, path, indexes, terminal, written))
+            was = None
             terminal.done += 1
     except Unsaid as fault:
         return unheard(fault)
     except (KeyboardInterrupt, SystemExit):
         terminal.clear()
-        complain("interrupted at %s: those after it are as they were" % path)
+        done = list(written.values())
+        # It can come between the replacement of a file and the line above that remembers it.
+        if was is not None and path not in done and identity(target_of(words, path) or path) != was:
+            done.append(path)
+        tell_interrupted(words, done)
         raise
     finally:
         terminal.clear()
@@ -154,24 +207,23 @@ def convert(arguments: List[str]) -> int:
     """The highest status of a file; 2 if a label is unknown or files would replace one another, 3 if the indexes are
     not there, and 4 if nothing can be printed or written."""
     words = words_of(arguments)
-    try:
-        jillapun.name(words.source), jillapun.name(words.target)
-        indexes = jillapun.Indexes(words.indexes)
-    except jillapun.UnknownLabel as fault:
-        complain("unknown encoding: %s" % fault)
+    refused = commands.refused_label(words) or clash_of(words)
+    if refused:
+        complain(refused)
         return 2
+    try:
+        indexes = jillapun.Indexes(words.indexes)
     except (OSError, jillapun.JillapunError) as fault:
         complain(str(fault))
         return 3
-    clash = clash_of(words)
-    if clash:
-        complain(clash)
-        return 2
+    if not is_heard(target_of(words, "") is None):
+        return 4
     if words.into and not os.path.isdir(words.into):
-        complain("%s: no such folder" % words.into)
-        return 4
-    if not is_heard():
-        return 4
+        try:
+            os.mkdir(words.into)
+        except OSError as fault:
+            complain("%s: the folder can't be made: %s" % (words.into, fault.strerror))
+            return 4
     return convert_all(words, indexes)
 
 

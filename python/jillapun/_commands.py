@@ -1,10 +1,12 @@
 """The commands beside the conversion: `which`, `places` and `labels`."""
 
+import argparse
 import os
-from typing import Callable, Dict, Hashable, Iterable, List
+from typing import Callable, Dict, Hashable, Iterable, List, Optional
 
-from ._indexes import Indexes, name, name_of
+from ._indexes import Indexes, default_folder, name, name_of
 from ._labels import LABELS
+from ._likely import told
 from ._names import shown
 from ._places import places_in
 from ._results import IndexesMissing, JillapunError, UnknownLabel
@@ -14,6 +16,29 @@ from ._words import labels_parser, places_parser, which_parser
 
 # How many columns of a line are shown.
 _WIDTH = 64
+
+# How many lines are shown, and of how many encodings, unless the command line says so. A guess looks at more.
+_LINES, _MOST, _GUESSED_LINES = 3, 24, 100
+
+
+def refused_label(words: argparse.Namespace) -> Optional[str]:
+    """Why a label of the command line is refused, if one is."""
+    for option, label in ("--from", words.source), ("--to", words.target):
+        try:
+            name(label)
+        except UnknownLabel as fault:
+            return '%s: unknown label %s; "jillapun labels" lists all' % (option, fault)
+    return None
+
+
+def reason_of(fault: Exception, path: str, folder: Optional[str]) -> str:
+    """What a failure says, with the name of the file where it is another, or with the folder of the index texts."""
+    if isinstance(fault, IndexesMissing):
+        return "%s; the index texts are read from %s, --indexes names another folder" % (fault, folder or default_folder())
+    if not isinstance(fault, OSError) or not fault.strerror:
+        return str(fault) or type(fault).__name__
+    name = fault.filename2 or fault.filename
+    return fault.strerror if name in (None, path) else "%s: %s" % (name, fault.strerror)
 
 
 def _for_each(paths: List[str], tell: Callable[[str, Terminal, Indexes], int], folder: str) -> int:
@@ -33,8 +58,7 @@ def _for_each(paths: List[str], tell: Callable[[str, Terminal, Indexes], int], f
                 status = max(status, tell(path, terminal, indexes))
             except (OSError, MemoryError, JillapunError) as fault:
                 terminal.clear()
-                reason = getattr(fault, "strerror", None) or str(fault) or type(fault).__name__
-                complain("%s: %s" % (path, reason))
+                complain("%s: %s" % (path, reason_of(fault, path, folder)))
                 status = max(status, 3 if isinstance(fault, IndexesMissing) else 4)
             terminal.done += 1
     except Unsaid as fault:
@@ -50,6 +74,8 @@ def _cut(line: str) -> str:
 
 def _by_readings(found: Which, most: int, lines: int) -> Iterable[str]:
     """The lines on a file, but for the first."""
+    if found.mark:
+        yield "begins with a byte order mark of %s" % found.mark
     yield "malformed  encodings"
     for reading in found.readings:
         yield "%9d  %s" % (reading.bad, ", ".join(reading.encodings))
@@ -64,15 +90,19 @@ def _by_readings(found: Which, most: int, lines: int) -> Iterable[str]:
 
 
 def tell_which(arguments: List[str]) -> int:
-    """The facts of files."""
+    """The encoding of each file, as far as it can be told, or how each encoding reads it."""
     words = which_parser().parse_args(arguments)
+    is_long = words.all or words.lines is not None or words.most is not None
+    lines = _GUESSED_LINES if not is_long else _LINES if words.lines is None else words.lines
+    most = _MOST if words.most is None else words.most
 
     def tell(path: str, terminal: Terminal, indexes: Indexes) -> int:
         size = os.path.getsize(path) or 1
         progress = lambda read: terminal.show(path, min(read / size, 1))  # noqa: E731
-        found = which(path, lines=words.lines, indexes=indexes, progress=progress)
-        head = "%s: %d bytes" % (shown(path), found.read)
-        terminal.tell("".join(line + "\n" for line in [head, *_by_readings(found, words.most, words.lines)]))
+        found = which(path, lines=lines, indexes=indexes, progress=progress)
+        head = "%s: %s" % (shown(path), "%d bytes" % found.read if is_long else told(found))
+        rows = _by_readings(found, most, lines) if is_long else ()
+        terminal.tell("".join(line + "\n" for line in [head, *rows]))
         return 0
 
     return _for_each(words.files, tell, words.indexes)
@@ -81,10 +111,9 @@ def tell_which(arguments: List[str]) -> int:
 def tell_places(arguments: List[str]) -> int:
     """What would be lost in files, and where."""
     words = places_parser().parse_args(arguments)
-    try:
-        name(words.source), name(words.target)
-    except UnknownLabel as fault:
-        complain("unknown encoding: %s" % fault)
+    refused = refused_label(words)
+    if refused:
+        complain(refused)
         return 2
 
     def tell(path: str, terminal: Terminal, indexes: Indexes) -> int:

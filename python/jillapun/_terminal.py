@@ -4,7 +4,7 @@ import argparse
 import contextlib
 import io
 import sys
-from typing import NoReturn
+from typing import Iterable, NoReturn
 
 from ._names import shown
 
@@ -28,12 +28,12 @@ class Parser(argparse.ArgumentParser):
 
 
 class Terminal:
-    """What is printed as files are read: lines on standard output, and, in the last line of a terminal, which file is
-    read, and how far."""
+    """What is printed as files are read: lines on standard output, or on standard error if standard output is taken, and,
+    in the last line of a terminal, which file is read, and how far."""
 
-    def __init__(self, count: int):
-        self.count, self.done, self.line = count, 0, ""
-        self.is_shown = sys.stderr is not None and sys.stderr.isatty()
+    def __init__(self, count: int, is_taken: bool = False):
+        self.count, self.done, self.line, self.is_taken = count, 0, "", is_taken
+        self.is_shown = sys.stderr is not None and sys.stderr.isatty() and not (is_taken and sys.stdout.isatty())
 
     def show(self, name: str, part: float = 0) -> None:
         """The file, and which part of it is read."""
@@ -53,19 +53,37 @@ class Terminal:
         self.line = line
 
     def tell(self, lines: str) -> None:
-        """Writes lines to standard output at once, so that what is lost is printed before a file is replaced."""
+        """Writes lines at once, so that what is lost is printed before a file is replaced."""
         self.clear()
+        stream, name = (sys.stderr, "standard error") if self.is_taken else (sys.stdout, "standard output")
         try:
-            sys.stdout.write(lines)
-            sys.stdout.flush()
+            stream.write(lines)
+            stream.flush()
+        except OSError as fault:
+            raise Unsaid("%s: %s" % (name, fault.strerror)) from fault
+
+
+class Output:
+    """Standard output, to which the bytes of a conversion are written."""
+
+    def write(self, data: bytes) -> None:
+        self.writelines([data])
+
+    def writelines(self, parts: Iterable[bytes]) -> None:
+        try:
+            sys.stdout.buffer.writelines(parts)
+            sys.stdout.buffer.flush()
         except OSError as fault:
             raise Unsaid("standard output: %s" % fault.strerror) from fault
 
 
-def is_heard() -> bool:
-    """Whether there is a standard output, which then takes names of all characters."""
+def is_heard(is_taken: bool = False) -> bool:
+    """Whether there is a standard output, which then takes names of all characters; and a standard error, if standard
+    output is taken."""
     if sys.stdout is None:
-        complain("standard output is closed: what is lost could not be told")
+        complain("standard output is closed")
+        return False
+    if is_taken and sys.stderr is None:
         return False
     if isinstance(sys.stdout, io.TextIOWrapper):
         sys.stdout.reconfigure(errors="backslashreplace")

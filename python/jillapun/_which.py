@@ -25,6 +25,9 @@ _LAST = "replacement"
 # shown for, where its line is long.
 _SAMPLE, _BEFORE = 1 << 12, 1 << 8
 
+# The byte order marks.
+_MARKS = {b"\xef\xbb\xbf": _UTF_8.upper(), b"\xff\xfe": "UTF-16LE", b"\xfe\xff": "UTF-16BE"}
+
 # What most encodings read as another character, or none.
 _TELLS = re.compile(rb"[^\t\n\r -~]")
 
@@ -49,17 +52,20 @@ class Which(NamedTuple):
     """The number of the first line that is shown, from 1 on, by line feeds."""
     readings: List[Reading]
     """What the encodings read, by the count of malformed sequences; replacement, which reads nothing, is the last."""
+    mark: Optional[str]
+    """The encoding whose byte order mark the input begins with."""
 
 
 class _Sample:
     """The bytes of the lines that are shown: from the first line on in which a byte is not printable ASCII."""
 
     def __init__(self) -> None:
-        self.at, self.line, self.data = 0, 1, b""
+        self.at, self.line, self.data, self.head = 0, 1, b"", b""
         self._is_found, self._first = False, b""
 
     def add(self, data: bytes) -> None:
         """Takes the next bytes of the input."""
+        self.head += data[: 3 - len(self.head)]
         if self._is_found:
             self.data += data[: _SAMPLE - len(self.data)]
             return
@@ -141,4 +147,5 @@ def which(
         alike.setdefault(key, []).append(reader.name)
     groups = sorted(alike.items(), key=lambda group: group[0][:2])
     readings = [Reading(names, key[1], sample.lines(names[0], lines, read, indexes)) for key, names in groups]
-    return Which(read, sample.line, readings)
+    mark = next((name for mark, name in _MARKS.items() if sample.head.startswith(mark)), None)
+    return Which(read, sample.line, readings, mark)

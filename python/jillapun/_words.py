@@ -4,35 +4,46 @@ import argparse
 from typing import Optional
 
 from ._terminal import Parser
+from ._version import __version__
 
 _USAGE = """\
 jillapun [convert] --from LABEL --to LABEL [OPTION ...] FILE ...
        jillapun places --from LABEL --to LABEL [OPTION ...] FILE ...
        jillapun which [OPTION ...] FILE ...
        jillapun labels
+       jillapun --version
 """
 
 _CONVERT = """\
-The other commands: places says by line and column what a conversion would lose, which how each
-encoding reads a file, labels lists the encodings. Each has a help of its own. A file with the name
-of a command is ./NAME.
+The other commands: places says by line and column what a conversion would lose, which names the
+encoding of each file as far as it can be told, labels lists the encodings. Each has a help of its
+own. A file with the name of a command is ./NAME.
 
-Without --into a file is replaced by its conversion if nothing is lost. Otherwise it stays as it
+Without --into and --in-place one file is converted to standard output, and several are refused.
+
+With --into the outputs get the names of the files, in FOLDER, which is made if its parent is there.
+A file that has such a name is replaced, as by cp, whatever is lost. Files are refused, and nothing
+is written, if one output would replace another, or one of the files.
+
+With --in-place a file is replaced by its conversion if nothing is lost. Otherwise it stays as it
 was, and the status is 1: --lossy replaces it all the same, and so does --backup, which keeps the
-original. A link is followed. Owner (if it may be set), permissions and extended attributes stay,
-the time is that of the change, and other hard links of the file keep what it was.
+original. A file that is UTF-8 already stays as it was, too, if it would be encoded as UTF-8 once
+more: so it does no harm to start an interrupted conversion to UTF-8 again. --force converts it. A
+symbolic link is refused. Owner (if it can be set), permissions and extended attributes stay, the
+time is that of the change, and other hard links of the file keep what it was.
 
-With --into a file in FOLDER that has the same name is replaced, as cp does, whatever is lost. If it
-is the file that is converted, by whatever path, it is treated as without --into. Files of which one
-would replace another, or its output, are refused, and nothing is written.
+Each loss is a line, NAME: bad OFFSET LENGTH or NAME: lost INDEX SCALAR, with the numbers of the log
+of recode. The lines are written to standard output, or to standard error if standard output has the
+conversion. A control character in a name is printed as its number, as <U+001B>, and so is a
+character that can't be seen.
 
-Standard output has a line for each loss, NAME: bad OFFSET LENGTH or NAME: lost INDEX SCALAR, with
-the numbers of the log of recode. In a name a control, or what can't be seen, stands as its number,
-as <U+001B>.
+Status 0 does not say that --from was right: in windows-1252 and others any bytes are text. Ask
+jillapun which FILE before.
 
 Exit status, the greatest of all files:
   0  all were converted, and nothing was lost
-  1  something was lost, or a file was not replaced, since something would have been
+  1  something was lost, or with --in-place a file stays as it was, since something would have been
+     lost, or since it is UTF-8 already
   2  the command line was refused
   3  an index is missing or faulty
   4  reading or writing failed, or with --unmappable stop a character has no bytes; what the output
@@ -40,13 +51,19 @@ Exit status, the greatest of all files:
 """
 
 _WHICH = """\
-For each of the 40 encodings the number of malformed sequences that a file has in it. Encodings that
-read the file alike stand in one line. Below it are the first lines of the file that are not all
-printable ASCII, or its first lines, as the first of these encodings read them. In them a control,
-or what can't be seen, stands as its number, as <U+001B>.
+Prints a line for each file, NAME: ENCODING. It says if the file begins with a byte order mark, if
+it is all ASCII, or if it is well-formed UTF-8, which text in another encoding hardly ever is.
+Otherwise the line names the encodings that read the file without a malformed sequence, the most
+likely first. This is a guess, by how letters stand beside one another in the first line that is not
+all ASCII and those after it: compare what --all prints. Encodings that read the file alike are
+named by one of them.
 
-No encoding is guessed. A count of 0 is no proof: in windows-1252 and others any bytes are a text.
-Replacement has at most one malformed sequence, and stands last.
+With --all, for each of the 40 encodings the number of malformed sequences that a file has in it.
+Encodings that read the file alike stand in one line. Below it are the first lines of the file that
+are not all printable ASCII, or its first lines, as the first of these encodings read them. A control
+character, or one that can't be seen, is printed as its number, as <U+001B>. A count of 0 is no
+proof: in windows-1252 and others any bytes are text. Replacement has at most one malformed sequence,
+and stands last.
 
 Exit status, the greatest of all files: 0; 2 if the command line was refused; 3 if an index is
 missing or faulty; 4 if reading failed, or nothing can be told.
@@ -98,15 +115,26 @@ def _add_files(parser: Parser) -> None:
 def convert_parser() -> Parser:
     parser = _parser("jillapun", "Converts files from one encoding to another.", _CONVERT, _USAGE)
     _add_labels(parser)
-    parser.add_argument("--into", metavar="FOLDER", help="where the files are put; else each takes its own place")
+    parser.add_argument("--into", metavar="FOLDER", help="write the outputs into this folder")
+    parser.add_argument("--in-place", action="store_true", help="replace each file by its conversion")
     parser.add_argument(
-        "--lossy", action="store_true", help="replace a file by its conversion even if something is lost"
+        "--backup",
+        metavar="SUFFIX",
+        help="keep each file that is replaced, as its name and SUFFIX; without --into it means --in-place",
     )
-    parser.add_argument("--backup", metavar="SUFFIX", help="keep each file that is replaced, as its name and SUFFIX")
+    parser.add_argument(
+        "--lossy", action="store_true", help="with --in-place, replace a file even if something is lost"
+    )
+    parser.add_argument(
+        "--force", action="store_true", help="with --in-place, convert a file to UTF-8 even if it is UTF-8 already"
+    )
     parser.add_argument("--mark", choices=_MARKS, default="sniff", help="byte order marks")
     parser.add_argument("--unmappable", choices=_POLICIES, default="decimal", help="characters without bytes")
-    parser.add_argument("--processes", metavar="N", type=_count, default=1, help="how many processors work on a file")
+    parser.add_argument(
+        "--threads", metavar="N", type=_count, default=1, help="how many threads convert a file, 1 by default"
+    )
     _add_files(parser)
+    parser.add_argument("--version", action="version", version="jillapun " + __version__, help="print the version")
     return parser
 
 
@@ -119,10 +147,11 @@ def places_parser() -> Parser:
 
 
 def which_parser() -> Parser:
-    parser = _parser("jillapun which", "Says how each encoding reads a file.", _WHICH)
-    parser.add_argument("--lines", metavar="N", type=_number, default=3, help="how many lines are shown, 3 by default")
+    parser = _parser("jillapun which", "Names the encoding of each file, as far as it can be told.", _WHICH)
+    parser.add_argument("--all", action="store_true", help="print how each encoding reads a file")
+    parser.add_argument("--lines", metavar="N", type=_number, help="with --all, how many lines are shown, 3 by default")
     parser.add_argument(
-        "--most", metavar="N", type=_number, default=24, help="as how many encodings at most read them, 24 by default"
+        "--most", metavar="N", type=_number, help="with --all, as how many encodings at most read them, 24 by default"
     )
     _add_files(parser)
     return parser

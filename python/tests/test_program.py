@@ -11,7 +11,7 @@ import tempfile
 import time
 import unittest
 from pathlib import Path
-from typing import Tuple
+from typing import Sequence, Tuple
 from unittest import mock
 
 import cases
@@ -25,6 +25,7 @@ sys.path.append(os.path.join(cases.TOP, "tools", "gate"))
 import places  # noqa: E402
 
 WORDS = ["--from", "utf-8", "--to", "windows-1252"]
+IN_PLACE = "--in-place"
 ENVIRONMENT = {**os.environ, "PYTHONPATH": os.path.join(cases.TOP, "python")}
 COMMAND = [sys.executable, "-m", "jillapun", *WORDS]
 
@@ -90,8 +91,9 @@ class Outputs(Programs):
         os.symlink("a", self.at("link"))
         os.link(self.path, self.at("hard"))
         for name in ("a", "link", "hard", "./a"):
-            error = self.refused(2, self.path, self.at(name))
-            self.assertEqual(error, "%s and %s are one file\n" % (self.path, self.at(name)))
+            for words in ([IN_PLACE], ["--backup", "~"]):
+                error = self.refused(2, *words, self.path, self.at(name))
+                self.assertEqual(error, "%s and %s are one file\n" % (self.path, self.at(name)))
 
     def test_an_output_that_is_an_input(self) -> None:
         self.folders("a", "b")
@@ -103,15 +105,26 @@ class Outputs(Programs):
             self.assertEqual(error, said % (other, self.at("b/link")))
 
     def test_the_folder_of_the_inputs(self) -> None:
-        """It is as without --into."""
-        self.put("a", BAD)
+        """By whatever path, and whatever else is asked for."""
+        self.put("a", GOOD)
         os.symlink(self.folder, self.folder + "-link")
         self.addCleanup(os.unlink, self.folder + "-link")
-        for into in (self.folder, self.folder + "-link"):
-            self.assertEqual(self.run_it("--into", into, self.path)[0], 1)
-            self.holds(a=BAD)
-        self.assertEqual(self.run_it("--into", self.folder, "--backup", "~", self.path)[0], 1)
-        self.holds(**{"a": BAD_MADE, "a~": BAD})
+        os.mkdir(self.at("o"))
+        os.symlink("../a", self.at("o/a"))
+        for into in (self.folder, self.folder + "-link", self.at("o")):
+            for words in ([], ["--lossy"], ["--backup", "~"], ["--force"]):
+                error = self.refused(2, "--into", into, *words, self.path)
+                said = "%s would replace %s itself: --in-place, without --into, asks for that\n"
+                self.assertEqual(error, said % (os.path.join(into, "a"), self.path))
+
+    def test_several_files_and_one_output(self) -> None:
+        one, other = self.put("a", GOOD), self.put("b", GOOD)
+        for words in ([], ["--lossy"], ["--force"], ["--threads", "2"]):
+            self.assertIn("2 files and one standard output: --into FOLDER", self.refused(2, *words, one, other))
+
+    def test_two_places(self) -> None:
+        self.put("a", GOOD)
+        self.assertIn("not allowed with", self.refused(2, IN_PLACE, "--into", self.at("o"), self.path))
 
     def test_where_case_does_not_matter(self) -> None:
         """Two names become one when the first is there. (The names are taken for one here, as some file systems do.)"""
@@ -130,15 +143,22 @@ class Outputs(Programs):
         self.assertEqual(os.listdir(self.at("o")), ["x"])
         self.assertEqual(Path(self.at("o/x")).read_bytes(), GOOD_MADE)
 
+    def test_a_folder_that_is_made(self) -> None:
+        """Also by a relative path; nothing is made if the command line is refused."""
+        self.put("a", GOOD)
+        self.refused(2, "--into", self.at("o"), "--from", "none", self.path)
+        self.refused(2, "--into", self.at("o"), self.path, self.path)
+        self.assertEqual(self.run_it("--into", self.at("o"), self.path), (0, "", ""))
+        self.assertEqual(Path(self.at("o/a")).read_bytes(), GOOD_MADE)
+
     def test_no_folder(self) -> None:
         self.put("a", GOOD)
-        for into in ("none", "a", "a/b"):
-            self.assertEqual(
-                self.refused(4, "--into", self.at(into), self.path), "%s: no such folder\n" % self.at(into)
-            )
+        for into, said in ("none/o", "No such file or directory"), ("a", "File exists"), ("a/b", "Not a directory"):
+            error = self.refused(4, "--into", self.at(into), self.path)
+            self.assertEqual(error, "%s: the folder can't be made: %s\n" % (self.at(into), said))
 
     def test_empty_words(self) -> None:
-        """A variable of the shell that is not set: else the file would be replaced."""
+        """A variable of the shell that is not set."""
         self.put("a", GOOD)
         self.assertIn("--into: no folder is named", self.refused(2, "--into", "", self.path))
         for suffix in ("", "/", "a/b", "/etc/x"):
@@ -162,13 +182,13 @@ class InPlace(Programs):
     def test_something_would_be_lost(self) -> None:
         """Of two files one is replaced, and the message says what to do with the other."""
         good, bad = self.put("good", GOOD), self.put("bad", BAD)
-        status, out, error = self.run_it(bad, good)
+        status, out, error = self.run_it(IN_PLACE, bad, good)
         self.assertEqual((status, out), (1, "%s: bad 3 1\n%s: lost 3 65533\n" % (bad, bad)))
         counts = "malformed sequences: 1, characters without bytes: 1"
         remedy = "--lossy replaces it all the same, and --backup SUFFIX keeps the original"
         self.assertEqual(error, "%s: left as it was (%s): %s\n" % (bad, counts, remedy))
         self.holds(good=GOOD_MADE, bad=BAD)
-        self.assertEqual(self.run_it("--lossy", bad)[::2], (1, ""))
+        self.assertEqual(self.run_it(IN_PLACE, "--lossy", bad)[::2], (1, ""))
         self.holds(good=GOOD_MADE, bad=BAD_MADE)
 
     def test_backup(self) -> None:
@@ -181,7 +201,7 @@ class InPlace(Programs):
 
     def test_characters_that_do_not_read_back(self) -> None:
         self.put("a", "¥".encode())
-        words = ["--to", "shift_jis", self.path]
+        words = [IN_PLACE, "--to", "shift_jis", self.path]
         status, out, error = self.run_it(*words)
         self.assertEqual((status, out), (1, ""))
         self.assertIn("left as it was (some characters do not read back)", error)
@@ -191,7 +211,7 @@ class InPlace(Programs):
 
     def test_stop(self) -> None:
         self.put("a", "日".encode())
-        for words in ([], ["--lossy"], ["--backup", "~"]):
+        for words in ([IN_PLACE], [IN_PLACE, "--lossy"], ["--backup", "~"]):
             status, out, error = self.run_it("--unmappable", "stop", *words, self.path)
             self.assertEqual((status, out), (4, "%s: lost 0 26085\n" % self.path))
             self.assertIn("no bytes for U+65E5", error)
@@ -205,10 +225,23 @@ class InPlace(Programs):
             ("in", "Is a directory"),
             ("pipe", "Not a regular file"),
             ("none", "No such file"),
-            ("loop", "Too"),
+            ("loop", "Is a symbolic link: name the file that it leads to"),
         ):
-            self.assertIn("%s: %s" % (self.at(name), said), self.refused(4, self.at(name)))
-        self.assertIn("Not a regular file", self.refused(4, "/dev/null"))
+            self.assertIn("%s: %s" % (self.at(name), said), self.refused(4, IN_PLACE, self.at(name)))
+        self.assertIn("Not a regular file", self.refused(4, IN_PLACE, "/dev/null"))
+
+    def test_a_batch_that_is_started_again(self) -> None:
+        """What is UTF-8 already stays, and the rest is converted."""
+        done, left, plain = self.put("a", "é".encode()), self.put("b", b"\xe9"), self.put("c", b"e")
+        words = ["--from", "windows-1252", "--to", "utf-8"]
+        status, out, error = self.run_it(*words, IN_PLACE, done, left, plain)
+        said = "%s: left as it was (it is UTF-8 already, and would be encoded twice): --force converts it\n"
+        self.assertEqual((status, out, error), (1, "", said % done))
+        self.holds(a="é".encode(), b="é".encode(), c=b"e")
+        for again in ([IN_PLACE, "--lossy"], ["--backup", "~"]):
+            self.assertEqual(self.run_it(*words, *again, done), (1, "", said % done))
+        self.assertEqual(self.run_it(*words, IN_PLACE, "--force", done), (0, "", ""))
+        self.holds(a="Ã©".encode(), b="é".encode(), c=b"e")
 
 
 class Names(Programs):
@@ -225,11 +258,11 @@ class Names(Programs):
         names = {"a\x1b[2J\n\tb": "a<U+001B>[2J<U+000A> b", "\u202ec": "<U+202E>c", os.fsdecode(b"d\xff"): "d<FF>"}
         for name, told in names.items():
             path, told = self.put(name, BAD), self.at(told)
-            status, out, error = self.run_it(path)
+            status, out, error = self.run_it(IN_PLACE, path)
             self.assertEqual((status, out), (1, "%s: bad 3 1\n%s: lost 3 65533\n" % (told, told)))
             self.assertTrue(error.startswith("%s: left as it was" % told), error)
-            self.assertEqual(self.run_it(path + "0")[2], "%s0: No such file or directory\n" % told)
-            self.assertEqual(self.refused(2, path, path), "%s and %s are one file\n" % (told, told))
+            self.assertEqual(self.run_it(IN_PLACE, path + "0")[2], "%s0: No such file or directory\n" % told)
+            self.assertEqual(self.refused(2, IN_PLACE, path, path), "%s and %s are one file\n" % (told, told))
             for words in (["--into", path, path], ["--from", name, path], ["--mark", name, path], ["--\x1b", path]):
                 error = self.run_it(*words)[2]
                 self.assertFalse(set("\x1b\t\u202e\udcff") & set(error), error)
@@ -239,7 +272,7 @@ class Names(Programs):
         self.addCleanup(os.chdir, os.getcwd())
         os.chdir(self.folder)
         self.put("-x", GOOD), self.put("--lossy", BAD), self.put("-", GOOD)
-        self.assertEqual(self.run_it("--", "-x", "--lossy", "-")[0], 1)
+        self.assertEqual(self.run_it(IN_PLACE, "--", "-x", "--lossy", "-")[0], 1)
         self.holds(**{"-x": GOOD_MADE, "--lossy": BAD, "-": GOOD_MADE})
 
     def test_a_terminal(self) -> None:
@@ -257,7 +290,7 @@ class Streams(Programs):
     def test_standard_output_fails(self) -> None:
         """What cannot be printed is not lost."""
         self.put("a", BAD), self.put("b", GOOD)
-        command = [*COMMAND, "--lossy", self.path, self.at("b")]
+        command = [*COMMAND, IN_PLACE, "--lossy", self.path, self.at("b")]
         with open("/dev/full", "wb") as full:
             ran = subprocess.run(command, env=ENVIRONMENT, stdout=full, stderr=subprocess.PIPE, check=False)
         self.assertEqual((ran.returncode, ran.stderr), (4, b"standard output: No space left on device\n"))
@@ -279,7 +312,7 @@ class Streams(Programs):
         """What no line of a loss says is printed before the file is replaced, too."""
         self.put("a", "¥".encode())
         with open("/dev/full", "wb") as full:
-            command = [*COMMAND, "--to", "shift_jis", "--lossy", self.path]
+            command = [*COMMAND, "--to", "shift_jis", IN_PLACE, "--lossy", self.path]
             ran = subprocess.run(command, env=ENVIRONMENT, stdout=full, stderr=subprocess.PIPE, check=False)
         self.assertEqual((ran.returncode, ran.stderr), (4, b"standard output: No space left on device\n"))
         self.holds(a="¥".encode())
@@ -289,7 +322,7 @@ class Streams(Programs):
         self.put("a", "日".encode())
         for redirected in (">/dev/full", ">&-"):
             self.put("b", GOOD)
-            words = ["sh", "-c", 'exec "$@" 2%s' % redirected, "sh", *COMMAND, self.path, self.at("b")]
+            words = ["sh", "-c", 'exec "$@" 2%s' % redirected, "sh", *COMMAND, IN_PLACE, self.path, self.at("b")]
             ran = subprocess.run(words, env=ENVIRONMENT, stdout=subprocess.PIPE, check=False)
             self.assertEqual((ran.returncode, ran.stdout), (1, b"%s: lost 0 26085\n" % self.path.encode()))
             self.holds(a="日".encode(), b=GOOD_MADE)
@@ -300,7 +333,8 @@ class Streams(Programs):
         """A terminal that has not all characters."""
         path = self.put("日", BAD)
         environment = {**ENVIRONMENT, "PYTHONIOENCODING": "ascii"}
-        ran = subprocess.run([*COMMAND, "--lossy", path], env=environment, capture_output=True, check=False)
+        command = [*COMMAND, IN_PLACE, "--lossy", path]
+        ran = subprocess.run(command, env=environment, capture_output=True, check=False)
         self.assertEqual((ran.returncode, ran.stderr), (1, b""))
         self.assertTrue(ran.stdout.endswith(b"/\\u65e5: lost 3 65533\n"), ran.stdout)
 
@@ -312,11 +346,59 @@ class Streams(Programs):
         self.holds(stdin=GOOD_MADE)
         command = [*COMMAND, "/dev/stdin"]
         ran = subprocess.run(command, env=ENVIRONMENT, input=GOOD, capture_output=True, check=False)
-        self.assertEqual((ran.returncode, ran.stderr), (4, b"/dev/stdin: Not a regular file\n"))
+        self.assertEqual((ran.returncode, ran.stdout, ran.stderr), (0, GOOD_MADE, b""))
+        command = [*COMMAND, IN_PLACE, "/dev/stdin"]
+        ran = subprocess.run(command, env=ENVIRONMENT, input=GOOD, capture_output=True, check=False)
+        said = b"/dev/stdin: Is a symbolic link: name the file that it leads to\n"
+        self.assertEqual((ran.returncode, ran.stdout, ran.stderr), (4, b"", said))
 
-    def in_the_middle(self, number: int) -> Tuple[int, bytes]:
-        """The status of the program that a signal meets while it waits to print more, and what it leaves to standard
-        error."""
+    def ran(self, *words: str, **streams: object) -> Tuple[int, bytes, bytes]:
+        pipes = {"stdout": subprocess.PIPE, "stderr": subprocess.PIPE, **streams}
+        ran = subprocess.run([*COMMAND, *words], env=ENVIRONMENT, check=False, **pipes)
+        return ran.returncode, ran.stdout, ran.stderr
+
+    def test_standard_output(self) -> None:
+        """It takes the conversion of one file, and standard error the losses; the file stays as it is."""
+        data, made, count = BAD + GOOD, BAD_MADE + GOOD_MADE, 20_000
+        self.put("a", data * count)
+        line = "%s: bad %%d 1\n%s: lost %%d 65533\n" % (self.path, self.path)
+        lines = "".join(line % (number * len(data) + 3, number * 13 + 3) for number in range(count)).encode()
+        for threads in ("1", "3"):
+            status, out, error = self.ran("--threads", threads, self.path)
+            self.assertTrue((status, out, error) == (1, made * count, lines), (status, out[:99], error[:99]))
+        self.assertEqual(self.ran("--lossy", "--force", self.put("b", GOOD)), (0, GOOD_MADE, b""))
+        self.assertEqual(self.ran(self.put("c", b"")), (0, b"", b""))
+        error = b"%s: some characters do not read back\n" % self.put("d", "¥".encode()).encode()
+        self.assertEqual(self.ran("--to", "shift_jis", self.at("d")), (1, b"\\", error))
+        status, out, error = self.ran("--unmappable", "stop", self.put("e", "é日".encode()))
+        self.assertEqual((status, out, error.count(b"\n")), (4, b"", 2))
+        self.assertEqual(self.ran(self.at("none"))[:2], (4, b""))
+        self.assertEqual(self.ran(self.folder)[:2], (4, b""))
+        self.holds(a=data * count, b=GOOD, c=b"", d="¥".encode(), e="é日".encode())
+
+    def test_standard_output_that_is_the_input(self) -> None:
+        """It would never end."""
+        self.put("a", GOOD)
+        for mode in ("ab", "r+b"):
+            with open(self.path, mode) as output:
+                found = self.ran(self.path, stdout=output)
+            self.assertEqual(found, (2, None, b"%s is standard output, too\n" % self.path.encode()))
+        self.holds(a=GOOD)
+
+    def test_standard_output_fails_in_a_conversion(self) -> None:
+        self.put("a", BAD)
+        with open("/dev/full", "wb") as full:
+            status, _, error = self.ran(self.path, stdout=full)
+            self.assertEqual((status, error.splitlines()[-1]), (4, b"standard output: No space left on device"))
+            self.assertEqual(self.ran(self.path, stderr=full)[0], 4)
+        for closed in (">&-", "2>&-"):
+            words = ["sh", "-c", 'exec "$@" %s' % closed, "sh", *COMMAND, self.path]
+            ran = subprocess.run(words, env=ENVIRONMENT, capture_output=True, check=False)
+            self.assertEqual((ran.returncode, ran.stdout), (4, b""))
+
+    def in_the_middle(self, number: int, before: Sequence[str] = (), after: Sequence[str] = ()) -> Tuple[int, bytes]:
+        """The status of the program that a signal meets while it waits to print more, of a file between others, and what
+        it leaves to standard error."""
 
         def heed() -> None:
             # What starts the tests may ignore them, as nohup does, and so would the program.
@@ -324,9 +406,10 @@ class Streams(Programs):
                 signal.signal(ignored, signal.SIG_DFL)
 
         pipes = {"stdout": subprocess.PIPE, "stderr": subprocess.PIPE, "preexec_fn": heed}
-        with subprocess.Popen([*COMMAND, "--lossy", self.path], env=ENVIRONMENT, **pipes) as process:
+        command = [*COMMAND, IN_PLACE, "--lossy", *before, self.path, *after]
+        with subprocess.Popen(command, env=ENVIRONMENT, **pipes) as process:
             end = time.monotonic() + PATIENCE
-            while len(os.listdir(self.folder)) < 2 and time.monotonic() < end:
+            while not self.is_begun(process.pid) and time.monotonic() < end:
                 time.sleep(0.01)
             time.sleep(0.2)
             self.assertEqual(Path(self.path).read_bytes(), b"\xff" * 100000)
@@ -338,11 +421,45 @@ class Streams(Programs):
         """The file is as it was, and nothing stands beside it."""
         self.put("a", b"\xff" * 100000)
         for number in (signal.SIGINT, signal.SIGTERM, signal.SIGHUP):
-            said = "interrupted at %s: those after it are as they were\n" % self.path
-            self.assertEqual(self.in_the_middle(number), (128 + number, said.encode()))
+            said = b"interrupted: 0 of 1 files are converted, the others are as they were\n"
+            self.assertEqual(self.in_the_middle(number), (128 + number, said))
             self.holds(a=b"\xff" * 100000)
         self.assertEqual(self.in_the_middle(signal.SIGKILL), (-signal.SIGKILL, b""))
         self.assertEqual(Path(self.path).read_bytes(), b"\xff" * 100000)
+
+    def is_begun(self, process: int) -> bool:
+        """Whether the program writes a file beside the one that it waits at."""
+        names = (os.path.join("/proc/%d/fd" % process, name) for name in os.listdir("/proc/%d/fd" % process))
+        return sum(os.path.exists(name) and ".jillapun-" in os.readlink(name) for name in names) > 0
+
+    def test_a_batch_that_is_interrupted(self) -> None:
+        """Those that are done are listed; those that stay as they are do not count as done."""
+        self.put("a", b"\xff" * 100000)
+        before, after = [self.put("b\x1b", GOOD), self.put("c", GOOD), self.at("none")], [self.put("d", GOOD)]
+        status, error = self.in_the_middle(signal.SIGTERM, before, after)
+        lines = ["%s: No such file or directory" % self.at("none")]
+        lines += ["interrupted: 2 of 5 files are converted, the others are as they were"]
+        lines += ["converted: %s" % self.at("b<U+001B>"), "converted: %s" % self.at("c")]
+        self.assertEqual((status, error.decode().splitlines()), (128 + signal.SIGTERM, lines))
+        self.holds(**{"a": b"\xff" * 100000, "b\x1b": GOOD_MADE, "c": GOOD_MADE, "d": GOOD})
+
+    def test_an_interruption_at_the_last_moment(self) -> None:
+        """A file that is replaced counts as done, also if the call that did it does not return."""
+        self.put("a", GOOD)
+        replace = os.replace
+
+        def interrupted(*words: str, **folders: int) -> None:
+            replace(*words, **folders)
+            raise KeyboardInterrupt
+
+        for words in ([IN_PLACE], ["--backup", "~"], ["--into", self.at("o")]):
+            self.put("a", GOOD)
+            error = io.StringIO()
+            with mock.patch("os.replace", interrupted), contextlib.redirect_stderr(error):
+                self.assertRaises(KeyboardInterrupt, program.main, [*WORDS, *words, self.path])
+            self.assertIn("interrupted: 1 of 1 files are converted", error.getvalue())
+            self.assertIn("converted: %s\n" % self.path, error.getvalue())
+        self.assertEqual(Path(self.at("a~")).read_bytes(), GOOD)
 
     def test_a_disk_that_is_full(self) -> None:
         self.put("a", "日".encode() * 30000)
@@ -350,7 +467,7 @@ class Streams(Programs):
         def limit() -> None:
             resource.setrlimit(resource.RLIMIT_FSIZE, (100000, 100000))
 
-        command = [*COMMAND, "--lossy", self.path]
+        command = [*COMMAND, IN_PLACE, "--lossy", self.path]
         ran = subprocess.run(command, env=ENVIRONMENT, preexec_fn=limit, capture_output=True, check=False)
         self.assertEqual((ran.returncode, ran.stderr), (4, b"%s: File too large\n" % os.fsencode(self.path)))
         self.holds(a="日".encode() * 30000)
@@ -360,7 +477,7 @@ class Memory(Folder):
     """Whatever is lost takes no memory that stays."""
 
     PARTS = {
-        "the program": "program.main(['--from', 'utf-8', '--to', 'utf-8', '--lossy', path])",
+        "the program": "program.main(['--from', 'utf-8', '--to', 'utf-8', '--in-place', '--lossy', path])",
         "a file": "jillapun.convert_file(path, path + '.made', 'shift_jis', 'utf-8', on_loss=id, keep_losses=9)",
         "which": "jillapun.which(path)",
         "places": "program.main(['places', '--from', 'utf-8', '--to', 'big5', path])",
@@ -421,7 +538,29 @@ class Files(Programs):
         self.assertEqual(Path(into, "bad").read_bytes(), "a\ufffdb".encode())
         self.assertEqual(self.run_it("--from", "none", good)[0], 2)
         self.assertEqual(self.run_it(self.at("none"))[0], 4)
-        self.assertEqual(self.run_it(*words, "--indexes", self.folder, good)[0], 3)
+        self.assertEqual(self.run_it(*words, "--indexes", self.folder, "--into", into, good)[0], 3)
+
+    def test_labels(self) -> None:
+        """The message names the option, the label and where labels are listed."""
+        path = self.put("a", GOOD)
+        for option in ("--from", "--to"):
+            error = self.refused(2, option, "no\x1bne", path)
+            self.assertEqual(error, '%s: unknown label no<U+001B>ne; "jillapun labels" lists all\n' % option)
+
+    def test_indexes(self) -> None:
+        """The message names the folder and the option."""
+        self.folders("o")
+        path = self.put("a", GOOD)
+        error = self.refused(3, "--from", "sjis", "--indexes", self.at("o"), "--into", self.at("o"), path)
+        self.assertIn("are read from %s, --indexes names another folder\n" % self.at("o"), error)
+
+    def test_version(self) -> None:
+        """That of the programs, which stands beside them."""
+        status, out, error = self.run_it("--version")
+        self.assertEqual((status, out, error), (0, "jillapun %s\n" % jillapun.__version__, ""))
+        source = Path(cases.TOP, "crates/recode_words/src/command.rt")
+        if source.exists():
+            self.assertIn('const VERSION: &str = "%s"' % jillapun.__version__, source.read_text(encoding="utf-8"))
 
 
 if __name__ == "__main__":
