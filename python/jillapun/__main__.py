@@ -106,7 +106,7 @@ def clash_of(words: argparse.Namespace) -> Optional[str]:
 
 
 def converted(
-    words: argparse.Namespace, path: str, target: Optional[str], indexes: jillapun.Indexes, terminal: Terminal
+    words: argparse.Namespace, path: str, target: Optional[str], indexes: Optional[jillapun.Indexes], terminal: Terminal
 ) -> jillapun.ConvertedFile:
     job = Job(words.source, words.target, words.mark, words.unmappable, c.NO_LIMIT, indexes)
     size, lines = 1, Lines(path, terminal)
@@ -126,7 +126,11 @@ def converted(
 
 
 def one_status(
-    words: argparse.Namespace, path: str, indexes: jillapun.Indexes, terminal: Terminal, written: Dict[Hashable, str]
+    words: argparse.Namespace,
+    path: str,
+    indexes: Optional[jillapun.Indexes],
+    terminal: Terminal,
+    written: Dict[Hashable, str],
 ) -> int:
     """Converts a file, and says what was lost: 0 if nothing was, 1 if something was, or if the file stays as it was, 3
     if an index is missing, and 4 if it failed."""
@@ -168,7 +172,7 @@ def tell_interrupted(words: argparse.Namespace, done: List[str]) -> None:
         complain("converted: %s" % path)
 
 
-def convert_all(words: argparse.Namespace, indexes: jillapun.Indexes) -> int:
+def convert_all(words: argparse.Namespace, indexes: Optional[jillapun.Indexes]) -> int:
     """The highest status of a file."""
     terminal, status = Terminal(len(words.files), target_of(words, "") is None), 0
     written: Dict[Hashable, str] = {}
@@ -212,9 +216,9 @@ def convert(arguments: List[str]) -> int:
         complain(refused)
         return 2
     try:
-        indexes = jillapun.Indexes(words.indexes)
+        indexes = jillapun.Indexes(words.indexes) if words.indexes else None
     except (OSError, jillapun.JillapunError) as fault:
-        complain(str(fault))
+        complain(commands.reason_of(fault, "", words.indexes))
         return 3
     if not is_heard(target_of(words, "") is None):
         return 4

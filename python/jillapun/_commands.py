@@ -34,19 +34,19 @@ def refused_label(words: argparse.Namespace) -> Optional[str]:
 def reason_of(fault: Exception, path: str, folder: Optional[str]) -> str:
     """What a failure says, with the name of the file where it is another, or with the folder of the index texts."""
     if isinstance(fault, IndexesMissing):
-        return "%s; the index texts are read from %s, --indexes names another folder" % (fault, folder or default_folder())
+        return "%s; --indexes names the folder of the index texts, now %s" % (fault, folder or default_folder())
     if not isinstance(fault, OSError) or not fault.strerror:
         return str(fault) or type(fault).__name__
     name = fault.filename2 or fault.filename
     return fault.strerror if name in (None, path) else "%s: %s" % (name, fault.strerror)
 
 
-def _for_each(paths: List[str], tell: Callable[[str, Terminal, Indexes], int], folder: str) -> int:
+def _for_each(paths: List[str], tell: Callable[[str, Terminal, Optional[Indexes]], int], folder: Optional[str]) -> int:
     """The highest status of a file."""
     try:
-        indexes = Indexes(folder)
+        indexes = Indexes(folder) if folder else None
     except (OSError, JillapunError) as fault:
-        complain(str(fault))
+        complain(reason_of(fault, "", folder))
         return 3
     if not is_heard():
         return 4
@@ -96,7 +96,7 @@ def tell_which(arguments: List[str]) -> int:
     lines = _GUESSED_LINES if not is_long else _LINES if words.lines is None else words.lines
     most = _MOST if words.most is None else words.most
 
-    def tell(path: str, terminal: Terminal, indexes: Indexes) -> int:
+    def tell(path: str, terminal: Terminal, indexes: Optional[Indexes]) -> int:
         size = os.path.getsize(path) or 1
         progress = lambda read: terminal.show(path, min(read / size, 1))  # noqa: E731
         found = which(path, lines=lines, indexes=indexes, progress=progress)
@@ -116,7 +116,7 @@ def tell_places(arguments: List[str]) -> int:
         complain(refused)
         return 2
 
-    def tell(path: str, terminal: Terminal, indexes: Indexes) -> int:
+    def tell(path: str, terminal: Terminal, indexes: Optional[Indexes]) -> int:
         status, label = 0, shown(path)
         with open(path, "rb") as file:
             for place in places_in(file, words.source, words.target, mark=words.mark, indexes=indexes):

@@ -358,7 +358,7 @@ def convert_with(
         if in_place and not is_in_place:
             raise ValueError("in_place=True, but %r and %r are two files" % (source_path, target_path))
         if is_in_place and not (in_place or backup):
-            raise JillapunError("it would replace itself: in_place=True asks for that, and backup=SUFFIX, which keeps it")
+            raise JillapunError("it would replace itself: in_place=True or backup=SUFFIX asks for that")
         if is_in_place and not force and work.encodes_twice(given):
             raise AlreadyUtf8(
                 "left as it was (it is well-formed UTF-8 already, and would be encoded twice): force=True converts it"

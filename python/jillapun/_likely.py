@@ -85,7 +85,8 @@ def _weights(name: str, text: str) -> Iterator[int]:
         if _is_wrong(second):
             yield -1
         elif tongue:
-            yield _weight(second, tongue)
+            # One of these in the middle of a Latin word is an accented letter in another encoding.
+            yield min(_weight(second, tongue), 0 if first.isascii() and first.isalpha() else 1)
         elif name.startswith("UTF-16"):
             yield _weight_of_unit(second)
         else:
@@ -108,33 +109,36 @@ def _told_bad(bad: int) -> str:
 
 
 def _guess(found: Dict[str, Reading]) -> str:
-    """The most likely of these readings, each by the encoding that stands for it."""
-    scores = {name: _score(name, reading) for name, reading in found.items()}
+    """The most likely of these readings, each by the encoding that stands for it. One with malformed sequences is named
+    if it is far more likely than those without."""
+    scores = {name: _score(name, reading) - 0.1 * (reading.bad > 0) for name, reading in found.items()}
     best = max(scores.values())
     names = [name for name in _ORDER if scores.get(name, -1) > best - 0.02]
+    fit = sum(not one.bad for one in found.values())
     if best <= 0.5:
-        return "unclear: %d readings fit, --all shows them" % sum(not one.bad for one in found.values())
+        return "unclear: %d readings fit, --all shows them" % fit
     if found[names[0]].bad:
-        return names[0] + _told_bad(found[names[0]].bad)
-    others = sum(not one.bad for one in found.values()) - len(names)
-    return "likely " + _names(names) + (" (%d other readings fit, too)" % others if others > 0 else "")
+        return "likely " + names[0] + _told_bad(found[names[0]].bad)
+    names = [name for name in names if not found[name].bad]
+    others = fit - len(names)
+    return "likely " + _names(names) + (" (%d other readings fit, too)" % others if others else "")
 
 
 def told(found: Which) -> str:
     """What is told of a file in a line. The more lines its readings have, the better is a guess."""
     if not found.read:
         return "empty"
-    readings = {next(name for name in _ORDER if name in one.encodings): one for one in found.readings}
     if found.mark:
         bad = next(one.bad for one in found.readings if found.mark in one.encodings)
         return found.mark + " (byte order mark)" + _told_bad(bad)
+    readings = {next(name for name in _ORDER if name in one.encodings): one for one in found.readings}
+    readings.pop("replacement", None)
     utf_8 = readings["UTF-8"]
-    fit = {name: one for name, one in readings.items() if not one.bad and name != "replacement"}
     if "windows-1252" in utf_8.encodings:
         # All bytes are ASCII. Two kinds of encodings still read them as other text.
-        others = {name: one for name, one in fit.items() if name.startswith(("UTF-16", "ISO-2022-JP"))}
+        others = {name: one for name, one in readings.items() if name.startswith(("UTF-16", "ISO-2022-JP")) and not one.bad}
         others = {name: one for name, one in others.items() if _score(name, one) > 0.9 > 2 * _score("UTF-8", utf_8)}
         return _guess(others) if others else "ASCII"
-    if not utf_8.bad:
-        return "UTF-8"
-    return _guess({**fit, "UTF-8": utf_8})
+    # What is well-formed UTF-8 for the most part is hardly by chance.
+    is_utf_8 = not utf_8.bad or _score("UTF-8", utf_8) > 0.6
+    return "UTF-8" + _told_bad(utf_8.bad) if is_utf_8 else _guess(readings)

@@ -53,10 +53,10 @@ Exit status, the greatest of all files:
 _WHICH = """\
 Prints a line for each file, NAME: ENCODING. It says if the file begins with a byte order mark, if
 it is all ASCII, or if it is well-formed UTF-8, which text in another encoding hardly ever is.
-Otherwise the line names the encodings that read the file without a malformed sequence, the most
-likely first. This is a guess, by how letters stand beside one another in the first line that is not
-all ASCII and those after it: compare what --all prints. Encodings that read the file alike are
-named by one of them.
+Otherwise the line is a guess: it names the likely ones of the encodings that read the file without
+a malformed sequence, or one that is far more likely and has few. A guess goes by how characters
+stand beside one another, in the first lines that are not all ASCII. Encodings that read the file
+alike are named by one of them. Compare what --all prints before you rely on a guess.
 
 With --all, for each of the 40 encodings the number of malformed sequences that a file has in it.
 Encodings that read the file alike stand in one line. Below it are the first lines of the file that

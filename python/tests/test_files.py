@@ -267,31 +267,40 @@ class InPlace(Folder):
         self.assertFalse(any(name.startswith(".jillapun-") for name in os.listdir(folder)))
 
     def test_a_name_that_is_swapped_at_each_moment(self) -> None:
-        """The same, once, before each call that could be misled."""
-        calls = "os.open", "os.stat", "os.fstat", "os.fsync", "os.link", "os.replace"
-        for call in calls:
-            for moment in range(9):
-                for backup in (None, "~"):
-                    self.swapped_at(call, moment, backup)
+        """The same, once, before each call that could be misled; first the name is that of the file, or of the link."""
+        for call in ("os.open", "os.stat", "os.fstat", "os.fsync", "os.link", "os.replace"):
+            for moment in range(5):
+                for backup, is_link in ((None, False), ("~", False), (None, True)):
+                    self.swapped_at(call, moment, backup, is_link)
 
-    def swapped_at(self, call: str, moment: int, backup: Optional[str]) -> None:
+    def swapped_at(self, call: str, moment: int, backup: Optional[str], is_link: bool) -> None:
         with tempfile.TemporaryDirectory(dir=self.folder) as folder:
             path, other, secret = (os.path.join(folder, name) for name in ("a", "b", "secret"))
             Path(path).write_bytes(GOOD)
-            Path(secret).write_bytes(GOOD)
+            Path(secret).write_bytes(b"secret")
             os.symlink("secret", other)
             real, left = eval(call), [moment]
 
+            def exchange() -> None:
+                self.assertEqual(ctypes.CDLL(None).syscall(RENAMEAT2, -100, path.encode(), -100, other.encode(), 2), 0)
+
             def swap(*words: object, **options: object) -> object:
                 if not left[0]:
-                    self.assertEqual(ctypes.CDLL(None).syscall(RENAMEAT2, -100, path.encode(), -100, other.encode(), 2), 0)
+                    exchange()
                 left[0] -= 1
                 return real(*words, **options)
 
+            if is_link:
+                exchange()
             with mock.patch(call, swap), contextlib.suppress(OSError, jillapun.JillapunError):
                 self.convert(path, backup=backup)
-            self.assertEqual(Path(secret).read_bytes(), GOOD, (call, moment, backup))
-            self.assertFalse(any(name.startswith(".jillapun-") for name in os.listdir(folder)))
+            files = {name: Path(folder, name) for name in os.listdir(folder)}
+            found = {name: file.read_bytes() for name, file in files.items() if not file.is_symlink()}
+            # The secret is where it was, and neither written nor read: there is no other file with what it holds.
+            self.assertEqual([name for name in found if b"secret" in found[name]], ["secret"], (call, moment, backup))
+            self.assertEqual(found.pop("secret"), b"secret")
+            self.assertLessEqual(set(found), {"a", "b", "a~"})
+            self.assertIn(GOOD if GOOD in found.values() else GOOD_MADE, found.values())
 
     def test_attributes(self) -> None:
         """Permissions and extended attributes stay, and the time is that of the change."""

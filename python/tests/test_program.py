@@ -1,13 +1,13 @@
 """The program: what it does with files, what it says, and what it leaves when it is cut short."""
 
 import contextlib
+import errno
 import io
 import os
 import resource
 import signal
 import subprocess
 import sys
-import tempfile
 import time
 import unittest
 from pathlib import Path
@@ -503,29 +503,72 @@ class Memory(Folder):
             self.assertLess(after - before, 8192, name)
 
 
-class Documents(unittest.TestCase):
-    def test_examples(self) -> None:
-        examples = os.path.join(cases.TOP, "docs/examples/python")
-        environment = {**os.environ, "PYTHONPATH": os.path.join(cases.TOP, "python")}
-        with tempfile.TemporaryDirectory() as folder:
-            given, into = os.path.join(folder, "given"), os.path.join(folder, "into")
-            os.mkdir(given)
-            for number in range(4):
-                Path(given, str(number)).write_bytes("日".encode("cp932") + b"\xff" * (number == 3))
+class Documents(Folder):
+    EXAMPLES = os.path.join(cases.TOP, "docs/examples/python")
 
-            def ran(*words: str) -> str:
-                command = [sys.executable, *words]
-                return subprocess.run(command, env=environment, capture_output=True, text=True, check=False).stdout
+    def ran(self, name: str, *words: str) -> Tuple[int, str, str]:
+        """Status, standard output and standard error of an example."""
+        command = [sys.executable, os.path.join(self.EXAMPLES, name), *words]
+        ran = subprocess.run(command, env=ENVIRONMENT, capture_output=True, text=True, check=False)
+        return ran.returncode, ran.stdout, ran.stderr
 
-            counts = "malformed sequences: 1, characters without bytes: 0"
-            said = ran(os.path.join(examples, "convert_folder.py"), "sjis", "utf-8", given, into)
-            self.assertEqual(
-                said.splitlines(), ["%d: nothing was lost" % n for n in range(3)] + ["3: " + counts, "  bad 2 1"]
-            )
-            made = os.path.join(folder, "made")
-            said = ran(os.path.join(examples, "verdict.py"), "sjis", "utf-8", os.path.join(given, "3"), made)
-            self.assertEqual(said, counts + "\n")
-            self.assertEqual(Path(made).read_bytes(), "日\ufffd".encode())
+    def test_a_folder(self) -> None:
+        """With the folders in it; the outputs may be put in one of them, and are no inputs of the next run."""
+        os.makedirs(self.at("given/in/deep"))
+        for name in ("0", "in/1", "in/deep/0"):
+            self.put("given/" + name, "日".encode("cp932") + b"\xff" * (name == "in/1"))
+        lines = ["0: nothing was lost", "in/1: malformed sequences: 1, characters without bytes: 0", "  bad 2 1"]
+        lines += ["in/deep/0: nothing was lost"]
+        for into in ("into", "given/in/out", "given/in/out"):
+            status, out, error = self.ran("convert_folder.py", "sjis", "utf-8", self.at("given"), self.at(into))
+            self.assertEqual((status, out.splitlines(), error), (1, lines, ""))
+            made = {str(path.relative_to(self.at(into))) for path in Path(self.at(into)).rglob("*") if path.is_file()}
+            self.assertEqual(made, {"0", "in/1", "in/deep/0"})
+        self.assertEqual(Path(self.at("into/in/1")).read_bytes(), "日\ufffd".encode())
+
+    def test_a_folder_that_fails(self) -> None:
+        """No file at all, one that can't be written, an unknown label, and the files in their own place."""
+        os.makedirs(self.at("given/in"))
+        words = "sjis", "utf-8", self.at("given"), self.at("into")
+        status, out, error = self.ran("convert_folder.py", *words)
+        self.assertEqual((status, out, error), (4, "", "%s: there is no file to convert\n" % self.at("given")))
+        self.put("given/a", b"a"), self.put("given/b", b"b")
+        os.makedirs(self.at("into/a"))
+        status, out, error = self.ran("convert_folder.py", *words)
+        self.assertEqual((status, out), (4, "b: nothing was lost\n"))
+        self.assertIn("a: [Errno %d]" % errno.EISDIR, error)
+        self.assertEqual(self.ran("convert_folder.py", "none", *words[1:])[0], 4)
+        status, out, error = self.ran("convert_folder.py", *words[:3], self.at("given/../given"))
+        self.assertEqual((status, out), (4, ""))
+
+    def test_a_session(self) -> None:
+        """The commands of docs/PYTHON.md on files in unknown encodings print what stands there."""
+        text = Path(cases.TOP, "docs/PYTHON.md").read_text(encoding="utf-8")
+        lines = text.split("## Files in unknown encodings")[1].split("\n## ")[0].splitlines()
+        shown = [line[4:] for line in lines if line.startswith("    ")]
+        prices = "name;price\nGröße;3 €\n"
+        self.put("april.csv", b"\xff\xfe" + prices.encode("utf-16-le")), self.put("march.csv", b"name;price\nTea;3\n")
+        self.put("february.csv", prices.encode("cp1252")), self.put("january.csv", prices.encode())
+        self.put("may.csv", "品名;価格\nりんご;3".encode("cp932") + b"\xff\n" + "みかん;4\nぶどう;5\n".encode("cp932"))
+        os.mkdir(self.at("bin"))
+        self.put("bin/jillapun", b'#!/bin/sh\nexec "%s" -m jillapun "$@"\n' % os.fsencode(sys.executable))
+        os.chmod(self.at("bin/jillapun"), 0o755)
+        environment = {**ENVIRONMENT, "PATH": self.at("bin") + os.pathsep + os.environ["PATH"]}
+        said = []
+        for line in shown:
+            if line.startswith("$ "):
+                streams = {"stdout": subprocess.PIPE, "stderr": subprocess.STDOUT, "text": True, "cwd": self.folder}
+                ran = subprocess.run(["bash", "-c", line[2:]], env=environment, check=False, **streams)
+                said += [line, *ran.stdout.splitlines()]
+        self.assertEqual(said, shown)
+        self.assertEqual(Path(self.at("new/february.csv")).read_bytes(), prices.encode())
+        self.assertEqual(Path(self.at("february.csv")).read_bytes(), prices.encode())
+
+    def test_a_verdict(self) -> None:
+        self.put("a", "日".encode("cp932") + b"\xff")
+        counts = "malformed sequences: 1, characters without bytes: 0"
+        self.assertEqual(self.ran("verdict.py", "sjis", "utf-8", self.path, self.at("b")), (0, counts + "\n", ""))
+        self.assertEqual(Path(self.at("b")).read_bytes(), "日\ufffd".encode())
 
 
 class Files(Programs):
@@ -552,7 +595,7 @@ class Files(Programs):
         self.folders("o")
         path = self.put("a", GOOD)
         error = self.refused(3, "--from", "sjis", "--indexes", self.at("o"), "--into", self.at("o"), path)
-        self.assertIn("are read from %s, --indexes names another folder\n" % self.at("o"), error)
+        self.assertIn("--indexes names the folder of the index texts, now %s\n" % self.at("o"), error)
 
     def test_version(self) -> None:
         """That of the programs, which stands beside them."""

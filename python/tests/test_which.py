@@ -15,7 +15,7 @@ from unittest import mock
 import cases
 import jillapun
 from jillapun import _commands as commands
-from jillapun import _places, _which
+from jillapun import _likely, _places, _which
 from jillapun._labels import LABELS
 from test_codecs import EDGES, inputs, seen_by
 from test_files import Folder
@@ -108,6 +108,18 @@ class Facts(Folder):
             data = b"!\nA\n" + "日本".encode(codec)
             self.assertEqual(self.lines(data, name)[1][-1][-2:], "日本")
 
+    def test_marks(self) -> None:
+        """At the start alone, also if it comes byte by byte."""
+
+        class Slow(io.BytesIO):
+            def read(self, size: int = -1) -> bytes:
+                return super().read(1)
+
+        rows = {b"\xef\xbb\xbfa": "UTF-8", b"\xff\xfea\0": "UTF-16LE", b"\xfe\xff\0a": "UTF-16BE"}
+        rows.update(dict.fromkeys([b"", b"a", b"\xef\xbb", b"\xff", b"a\xff\xfe", b"\xbf\xbb\xef"]))
+        for data, name in rows.items():
+            self.assertEqual((jillapun.which(data).mark, jillapun.which(Slow(data)).mark), (name, name), data)
+
     def test_long_lines(self) -> None:
         """A part of a line, from a little before the first byte that decides."""
         data = b"x" * 100000 + "é".encode() + b"y" * 100000
@@ -124,6 +136,65 @@ class Facts(Folder):
     def test_examples(self) -> None:
         ran = doctest.testmod(_which, extraglobs=vars(jillapun))
         self.assertEqual((ran.failed, ran.attempted), (0, 3))
+
+
+# Texts with the codec of Python's in which they are written, and the encoding that is the most likely.
+GUESSED = [
+    ("Größe;Straße;3 €\nfür Äpfel, Öl\n", "cp1252", "windows-1252"),
+    ("Größe;3 €\n", "cp1252", "windows-1252"),
+    ("café noir\n", "cp1252", "windows-1252"),
+    ("it’s “quoted” — naïve\n", "cp1252", "windows-1252"),
+    ("Zażółć gęślą jaźń\n", "cp1250", "windows-1250"),
+    ("Příliš žluťoučký kůň\n", "cp1250", "windows-1250"),
+    ("café\n", "mac_roman", "macintosh"),
+    ("Привет, как дела? Хорошо, я рад за тебя\n", "cp1251", "windows-1251"),
+    ("Привет, как дела? Хорошо, я рад за тебя\n", "koi8-r", "KOI8-R"),
+    ("Привет, как дела? Хорошо, я рад за тебя\n", "cp866", "IBM866"),
+    ("Καλημέρα, τι κάνετε; Όλα καλά, ευχαριστώ\n", "cp1253", "windows-1253"),
+    ("مرحبا كيف حالك\n", "cp1256", "windows-1256"),
+    ("日本語のテキストです。これはテストです\n", "cp932", "Shift_JIS"),
+    ("日本語のテキストです。これはテストです\n", "euc-jp", "EUC-JP"),
+    ("日本語のテキストです。これはテストです\n", "iso2022_jp", "ISO-2022-JP"),
+    ("안녕하세요. 반갑습니다. 오늘은 날씨가 좋습니다\n", "euc-kr", "EUC-KR"),
+    ("这是一个中文文本，我们在测试。\n", "gbk", "GBK"),
+    ("這是一個中文文本，我們在測試。\n", "big5", "Big5"),
+    ("name;price\nTea;3\n", "utf-16-le", "UTF-16LE"),
+    ("name;price\nTea;3\n", "utf-16-be", "UTF-16BE"),
+    ("Привет мир\n", "utf-16-le", "UTF-16LE"),
+]
+
+
+class Likely(unittest.TestCase):
+    def told(self, data: bytes) -> str:
+        return _likely.told(jillapun.which(data, lines=100))
+
+    def test_facts(self) -> None:
+        rows = {
+            b"": "empty",
+            b"abc\n": "ASCII",
+            "é\n".encode(): "UTF-8",
+            b"\xef\xbb\xbfabc": "UTF-8 (byte order mark)",
+            b"\xef\xbb\xbf\xff\xff": "UTF-8 (byte order mark) (malformed sequences: 2)",
+            b"\xff\xfea\0": "UTF-16LE (byte order mark)",
+            b"\xfe\xff\0a": "UTF-16BE (byte order mark)",
+            "Größe für alle, café\n".encode() * 9 + b"caf\xe9\n": "UTF-8 (malformed sequences: 1)",
+        }
+        self.assertEqual({data: self.told(data) for data in rows}, rows)
+
+    def test_guesses(self) -> None:
+        for text, codec, name in GUESSED:
+            told = self.told(text.encode(codec))
+            self.assertIn(told.split(" (")[0].split(",")[0], ["likely " + name], (text, codec, told))
+
+    def test_guesses_with_losses(self) -> None:
+        """A damaged file is not taken for another encoding, in which its bytes happen to be text."""
+        data = "日本語のテキストです。これはテストです\n".encode("cp932") * 9 + b"\xff\n"
+        self.assertEqual(self.told(data), "likely Shift_JIS (malformed sequences: 1)")
+
+    def test_no_guess(self) -> None:
+        """Where no letter tells one reading from another."""
+        for data in (b"5 \x80\n", "GRÖSSE\n".encode("cp1252")):
+            self.assertRegex(self.told(data), r"^unclear: \d+ readings fit, --all shows them$")
 
 
 class Places(Folder):
@@ -169,7 +240,7 @@ class Commands(Programs):
 
     def test_which(self) -> None:
         path = self.put("a", b"name\nx\x1b[2J\xc3\xa9\n")
-        status, out, error = self.ran("which", path)
+        status, out, error = self.ran("which", "--all", path)
         self.assertEqual((status, error), (0, ""))
         lines = out.splitlines()
         self.assertEqual(lines[:2], ["%s: 13 bytes" % path, "malformed  encodings"])
@@ -182,10 +253,20 @@ class Commands(Programs):
         self.assertNotIn("line", self.ran("which", "--lines", "0", path)[1].replace("lines", ""))
         self.assertNotIn("line 1", self.ran("which", "--most", "0", path)[1])
 
+    def test_which_in_a_line(self) -> None:
+        """One for each file, whatever its name."""
+        files = {"a\x1b\n": b"abc", "b": "é".encode(), "c": b"\xff\xfea\0", "d": "Größe".encode("cp1252")}
+        status, out, error = self.ran("which", *(self.put(name, data) for name, data in files.items()))
+        self.assertEqual((status, error), (0, ""))
+        lines = out.splitlines()
+        told = ["a<U+001B><U+000A>: ASCII", "b: UTF-8", "c: UTF-16LE (byte order mark)", "d: likely windows-1252"]
+        self.assertEqual([line.split(" (1")[0] for line in lines], [self.at(line) for line in told])
+        self.assertIn("begins with a byte order mark of UTF-16LE\n", self.ran("which", "--all", self.at("c"))[1])
+
     def test_shown(self) -> None:
         """A name, and what turns the direction of a text or writes to a terminal, stand by number; lines are cut."""
         path = self.put("\u202ea\x1b", "\u202e\u009b1m日\n".encode() + "é".encode() * 200)
-        _, out, _ = self.ran("which", path)
+        _, out, _ = self.ran("which", "--all", path)
         self.assertFalse(set("\x1b\u202e\x9b") & set(out))
         self.assertIn("<U+202E><U+009B>1m日", out)
         self.assertIn("é" * 63 + "…\n", out)
@@ -199,7 +280,7 @@ class Commands(Programs):
         self.assertEqual(self.ran("which")[0], 2)
         self.assertEqual(self.ran("which", "--lines", "-1", path)[0], 2)
         words = ["places", "--from", "none", "--to", "utf-8", path]
-        self.assertEqual(self.ran(*words)[::2], (2, "unknown encoding: none\n"))
+        self.assertEqual(self.ran(*words)[::2], (2, '--from: unknown label none; "jillapun labels" lists all\n'))
         self.assertEqual(self.ran("labels", "x")[0], 2)
         self.assertEqual(self.ran("none")[0], 2)
 
@@ -223,9 +304,9 @@ class Commands(Programs):
         """As without the word, and a file of that name is converted by its path."""
         self.put("a", b"\xff")
         words = ["--from", "l1", "--to", "utf-8"]
-        self.assertEqual(self.ran("convert", *words, self.path), (0, "", ""))
+        self.assertEqual(self.ran("convert", *words, "--in-place", self.path), (0, "", ""))
         self.holds(a=b"\xc3\xbf")
-        self.assertEqual(self.ran(*words, self.path), (0, "", ""))
+        self.assertEqual(self.ran(*words, "--in-place", "--force", self.path), (0, "", ""))
         self.holds(a="Ã¿".encode())
 
     def test_a_terminal(self) -> None:
@@ -251,7 +332,7 @@ class Commands(Programs):
         words = [*COMMAND[:3], "which", "/dev/stdin"]
         streams = {"input": b"abc", "capture_output": True, "timeout": MINUTE}
         ran = subprocess.run(words, env=ENVIRONMENT, check=False, **streams)
-        self.assertEqual((ran.returncode, ran.stdout[:20]), (0, b"/dev/stdin: 3 bytes\n"))
+        self.assertEqual((ran.returncode, ran.stdout), (0, b"/dev/stdin: ASCII\n"))
 
 
 # What is typed, and what bash completes the last word to.
