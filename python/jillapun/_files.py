@@ -32,8 +32,7 @@ def _naming(path: str) -> Iterator[None]:
     try:
         yield
     except OSError as fault:
-        fault.filename, fault.filename2 = path, None
-        raise
+        raise OSError(fault.errno, fault.strerror, path) from fault
 
 
 def _attributes_of(descriptor: int) -> List[str]:
@@ -187,6 +186,8 @@ class _Place:
     def put(self, name: str) -> None:
         """Moves the file of this name to its place, and syncs the folder. What stood there is kept, if that was asked
         for."""
+        # Between this and the move another file can still get the name. It would be replaced, but what is written is the
+        # conversion of the file that was read, with its owner and permissions.
         if not self._has(self.name):
             raise _replaced_meanwhile()
         if self.backup:

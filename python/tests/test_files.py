@@ -9,6 +9,7 @@ import struct
 import subprocess
 import sys
 import tempfile
+import time
 import unittest
 from pathlib import Path
 from typing import Iterator, List, Optional
@@ -128,9 +129,9 @@ class InPlace(Folder):
     def test_backup_that_comes_to_be(self) -> None:
         """Another program makes a file of its name in the meantime."""
         self.put("a", BAD)
-        self.assertRaises(
-            FileExistsError, self.convert, self.path, backup="~", progress=lambda _: self.put("a~", b"theirs")
-        )
+        with self.assertRaises(FileExistsError) as it:
+            self.convert(self.path, backup="~", progress=lambda _: self.put("a~", b"theirs"))
+        self.assertEqual(str(it.exception), "[Errno %d] File exists: %r" % (errno.EEXIST, self.at("a~")))
         self.holds(**{"a": BAD, "a~": b"theirs"})
 
     def test_backup_without_links(self) -> None:
@@ -246,12 +247,13 @@ class InPlace(Folder):
         code = "import ctypes; call = ctypes.CDLL(None).syscall\nwhile True: call(%d, -100, b'a', -100, b'b', 2)"
         with subprocess.Popen([sys.executable, "-c", code % RENAMEAT2], cwd=folder) as swaps:
             try:
-                for number in range(40):
+                end = time.monotonic() + 60
+                while len(ends) < 40 or not any(ends) and time.monotonic() < end:
                     for path in words:
                         Path(path).unlink(missing_ok=True)
                     Path(words[0]).write_bytes(BAD)
                     os.symlink("../secret", words[1])
-                    options = {"in_place": True} if number % 2 else {"backup": "~%d" % number}
+                    options = {"in_place": True} if len(ends) % 2 else {"backup": "~%d" % len(ends)}
                     try:
                         jillapun.convert_file(words[0], words[0], "koi8-r", "windows-1251", **options)
                         ends.append(None)
@@ -263,7 +265,7 @@ class InPlace(Folder):
                 swaps.kill()
         self.assertEqual(Path(secret).read_bytes(), BAD)
         self.assertLessEqual(set(ends), {None, OSError, jillapun.JillapunError})
-        self.assertIn(OSError, ends)
+        self.assertTrue(any(ends))
         self.assertFalse(any(name.startswith(".jillapun-") for name in os.listdir(folder)))
 
     def test_a_name_that_is_swapped_at_each_moment(self) -> None:
