@@ -39,3 +39,12 @@ of_no_character = refl
 
 of_none : fate_read_back 0xCA None ≡ Folded None
 of_none = refl
+
+-- refuted: the yen sign, which Shift_JIS writes as a backslash, is kept there
+of_fold_as_kept : fate_of (in_encoding ShiftJis) 0xA5 ≡ Kept → ⊥
+unfolding fate_of pieces_in
+of_fold_as_kept e = cc
+
+-- refuted: a character is kept whose bytes read back as two
+of_two_as_kept : fate_read_back 0xCA (read_alone (well_formed 2 (0xCA ∷ 0x304 ∷ []) ∷ [])) ≡ Kept → ⊥
+of_two_as_kept e = cc

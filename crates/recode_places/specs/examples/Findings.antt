@@ -1,11 +1,12 @@
 -- Worked rows of `specs/Findings.antt`.
-use Rattle.std.specs.Prelude.{◌≡◌, Bool, false, true, None, Some, [], ◌∷◌, refl}
+use Rattle.std.proofs.Common.{◌≡◌, ◌∙◌, ◌++◌, Bool, false, true, None, Some, [], ◌∷◌, ap, arith, length, map, refl, sym}
+use Rattle.std.proofs.lemmas.Option.{same_Some}
 use Rattle.encoding_mem.specs.Piece.{malformed, well_formed}
 use Rattle.encoding_mem.specs.Pieces.{pieces_in}
 use Rattle.encoding_tables.specs.examples.IndexLists.{no_flats}
 use Rattle.encoding_front.specs.declared.encoding.Encoding.TheVariants.{ShiftJis}
 use Rattle.recode_places.specs.Fates.{fate_of}
-use Rattle.recode_places.specs.Findings.{Asked, found_in, found_in_text}
+use Rattle.recode_places.specs.Findings.{Asked, TellsFound, found_by, found_in, found_in_text}
 use Rattle.recode_places.specs.declared.entry.Finding.TheVariants.{Folded, Lost, Malformed}
 
 -- no log, and Shift_JIS without its index
@@ -31,3 +32,13 @@ of_input : found_in (asking true) 0 0 (well_formed 1 (0x61 ∷ []) ∷ malformed
     ≡ (1, Malformed 1 1) ∷ (2, Lost 0x65E5) ∷ (3, Malformed 5 2) ∷ []
 unfolding fate_of pieces_in
 of_input = refl
+
+-- refuted: no log is read, and a lost character is left out
+of_left_out : TellsFound (asking false) (found_in_text (asking false) 7 (0x65E5 ∷ [])) [] (Some []) (Some []) → ⊥
+unfolding fate_of pieces_in
+of_left_out h = let more = h refl in omega (arith, ap length (more.2 ∙ ap (λ es. map found_by es ++ []) (sym (same_Some [] more.0 more.1))))
+
+-- refuted: folds are asked for, and one is left out
+of_fold_left_out : TellsFound (asking true) (found_in_text (asking true) 7 (0xA5 ∷ [])) [] (Some []) (Some []) → ⊥
+unfolding fate_of pieces_in
+of_fold_left_out h = let more = h refl in omega (arith, ap length (more.2 ∙ ap (λ es. map found_by es ++ []) (sym (same_Some [] more.0 more.1))))
