@@ -15,7 +15,8 @@ use std::io::Read;
 
 /// A log whose lines are matched with an input, a line to the malformed sequence with its offset
 /// and length, or to the character with its index and number. The log may be a part of the one
-/// that `recode` wrote, such as what `grep` or `head` leaves of it, if the lines are in order.
+/// that `recode` wrote, such as what `grep` or `head` leaves of it, if the lines are in order. Its
+/// clauses speak of a log whose reader says its bytes, as one over memory does.
 #[derive(Drop)]
 pub struct LogMatch<L> {
     lines: LogLines<L>,

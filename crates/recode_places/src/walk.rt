@@ -330,6 +330,10 @@ impl<'t> Walk<'t> {
 /// fails, or `TooLong`, which comes only if the input has more than 2^48 bytes. It is not `Unfit`
 /// if the log fits the input: if each line names what stands in the input, in its order. The
 /// condition, that the indexes of the encoding are there, is tested by `Encoding::is_ready`.
+///
+/// The clauses on an input or a log speak of a reader that says its bytes, as one over memory does.
+/// A file or a standard stream does not say them: of these the clauses promise only that entries
+/// come in order, which folds and losses they name, and which errors can come.
 pub fn tell_places<R: Read, L: Read, V: Visitor>(
     reader: &mut R,
     reading: Reading<'_>,
