@@ -2,8 +2,10 @@
 
 use anyhow::ensure;
 use recode_log::{Counted, LogLine};
-use recode_parts::{Before, join_log};
+use recode_parts::{Before, JoinFault, join_log};
 use std::alloc::Global;
+use std::io;
+use std::io::{ErrorKind, Read};
 
 pub(crate) fn joins_a_log(alloc: Global) -> anyhow::Result<bool> {
     // recode_parts
@@ -44,4 +46,44 @@ pub(crate) fn joins_a_long_log(alloc: Global) -> anyhow::Result<bool> {
     };
     join_log(&mut part, before, &mut whole)?;
     Ok(log.len() > 4096 && whole.get_ref().as_slice() == moved.as_slice())
+}
+
+// A reader that fails after its bytes.
+#[derive(Drop)]
+struct Broken<'a> {
+    bytes: &'a [u8],
+}
+
+impl<'a> Read for Broken<'a> {
+    fn read(&mut self, buf: &mut [u8]) -> io::Result<usize> {
+        if self.bytes.is_empty() {
+            return Err(io::Error::from(ErrorKind::Other));
+        }
+        self.bytes.read(buf)
+    }
+}
+
+/// Joins logs whose reader fails: before a line, between two lines, and in a line. Each is refused,
+/// after the lines that were read.
+pub(crate) fn refuses_a_broken_log(alloc: Global) -> bool {
+    let rows: [(&[u8], &[u8]); 3] = [
+        (b"", b""),
+        (b"bad 6 1\n", b"bad 1006 1\n"),
+        (b"bad 6 1\nlost 7 12", b"bad 1006 1\n"),
+    ];
+    for (bytes, joined) in rows {
+        let mut part = Counted::new(Broken { bytes });
+        let mut whole = Counted::new(Vec::new(alloc));
+        let before = Before {
+            bytes: 1000,
+            characters: 900,
+        };
+        if join_log(&mut part, before, &mut whole) != Err(JoinFault::Read)
+            || part.failures() != 1
+            || whole.get_ref().as_slice() != joined
+        {
+            return false;
+        }
+    }
+    true
 }
