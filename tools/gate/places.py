@@ -303,7 +303,17 @@ WRONG_LOGS = [
 ]
 
 # What a log may end with.
-ENDS = [b"", b"recode: read fault\n", b"recode: unmappable 5 26085\n", b"lost 5 2608", b"lo"]
+ENDS = [b"", b"lost 5 2608", b"lo", b"recode:"]
+
+# Messages that end a log, and what is shown of them.
+MESSAGES = [
+    (b"recode: write fault\n", "recode: write fault\n"),
+    (b"recode: read fault\nrecode: Is a directory\n", "recode: read fault\nrecode: Is a directory\n"),
+    (b"recode: unknown label \x1b[1mx\xc2\x9b\n", "recode: unknown label <U+001B>[1mx<U+009B>\n"),
+    (b"error: unexpected argument 'x' found\n\nUsage: ..\n", "error: unexpected argument 'x' found\n\nUsage: ..\n"),
+    (b"error: \xff", "error: \n"),
+    (b"error: " + b"x" * 5000, "error: " + "x" * 4089 + "\n"),
+]
 
 TRY_HELP = "\n\nFor more information, try '--help'.\n"
 USAGE = "\n\nUsage: recode-places [OPTIONS] --from <LABEL> --to <LABEL> <INPUT> < LOG" + TRY_HELP
@@ -364,11 +374,32 @@ def log_faults(folder):
     for end in ENDS:
         status, lines, error = trial.told(log=b"lost 2 26085\n" + end)
         yield from trial.differences("end %r" % end, (status, starts(lines), error), (1, heads[:1], ""))
+    for message, said in MESSAGES:
+        for log, right in (b"", []), (b"lost 2 26085\n", heads[:1]):
+            status, lines, error = trial.told(log=log + message)
+            yield from trial.differences("message %r" % message[:60], (status, starts(lines), error), (4, right, said))
+        status, lines, error = trial.told("--count", log=b"lost 2 26085\n" + message)
+        yield from trial.differences("count and message %r" % message[:60], (status, len(lines), error), (4, 1, said))
+    yield from trial.differences("no log", trial.told("--no-log", log=MESSAGES[0][0])[::2], (1, ""))
     rows = trial.log.splitlines(True)
     yield from trial.differences("log", rows, [b"lost 2 26085\n", b"lost 5 26085\n", b"bad 11 1\n", b"lost 7 65533\n"])
     for kept, right in [([0, 1, 3], heads), ([2], heads[2:]), ([3], heads[2:]), ([1, 2], heads[1:]), ([], [])]:
         status, lines, error = trial.told(log=b"".join(rows[number] for number in kept))
         yield from trial.differences("lines %r" % kept, (status, starts(lines), error), (1 if right else 0, right, ""))
+
+
+def message_faults(folder):
+    """Runs of `recode` that failed: the message at the end of the log is shown after the places, wherever reads cut it."""
+    for count in (280, 281):
+        # The message begins 6 bytes before byte 4096 of the log, or 9 bytes after it.
+        trial = Trial(folder, "stopped.txt", Job("utf-8", "windows-1252", "sniff", "decimal"), "日".encode() * count)
+        status, lines, error = trial.told("--most", "300", log=trial.log + b"recode: log fault\n")
+        right = 4, 3 * count, "recode: log fault\n"
+        yield from trial.differences("%d bytes and a message" % len(trial.log), (status, len(lines), error), right)
+    trial = Trial(folder, "stopped.txt", Job("utf-8", "windows-1252", "sniff", "stop"), "a日b日".encode())
+    status, lines, error = trial.told()
+    right = 4, 3, "recode: unmappable 1 26085\n"
+    yield from trial.differences("stop", (status, len(lines), error), right)
 
 
 def refusal_faults(folder):
@@ -542,7 +573,8 @@ def faults():
             return ["%s was not built" % os.path.relpath(program, TOP)]
     encodings = standard.encodings(INDEXES)
     with tempfile.TemporaryDirectory() as folder:
-        wrong = [*written_faults(folder), *log_faults(folder), *refusal_faults(folder), *flood_faults(folder)]
+        wrong = [*written_faults(folder), *log_faults(folder), *message_faults(folder), *refusal_faults(folder)]
+        wrong += [*flood_faults(folder)]
         wrong += [*terminal_faults(folder), *memory_faults(folder)]
         wrong += [*long_faults(folder), *model_faults(folder, encodings, made(), "made")]
         wrong += model_faults(folder, encodings, random_files(encodings, 150), "random")

@@ -34,9 +34,10 @@ Words of what is lost:
 
 Log: each line is told, but a line \"lost\" after the line \"bad\" of the same place, which is of
 the U+FFFD there, is not told again. A part of the log serves as well, as grep or head leaves it.
-A message of recode, or a line that is cut short, ends it. With --no-log no log is read, and what
-recode would log is told. Characters that are written as others have no line in the log: if recode
-had status 1 and its log is empty, --folds shows them.
+A line that is cut short ends it. So does a message of recode (a line that begins with
+\"recode: \" or \"error:\"): recode-places copies it to standard error and exits with 4. With
+--no-log no log is read, and what recode would log is told. Characters that are written as others
+have no line in the log: if recode had status 1 and its log is empty, --folds shows them.
 
 Exit status:
   0  there was nothing to tell; or help or version was asked for, whether or not it could be
@@ -45,8 +46,9 @@ Exit status:
   2  the command line was refused
   3  the input or an index file is missing, or an index file is faulty, or memory was refused at
      the start
-  4  a read or a write failed, memory was refused, the input is too long, or a line of the log is
-     not of this input, read with these encodings; the places that were told before are right
+  4  a read or a write failed, memory was refused, the input is too long, a line of the log is not
+     of this input, read with these encodings, or the log ends in a message of recode; the places
+     that were told before are right
 
 Message, at the end of standard error:
   2  lines from \"error:\" on; \"recode-places: unknown label WORD\";
@@ -55,9 +57,10 @@ Message, at the end of standard error:
      \"recode-places: FILE: missing\", \"recode-places: FILE: line N: KIND\" and
      \"recode-places: FILE: table: KIND\" of an index file, as those of recode;
      \"recode-places: out of memory\"
-  4  \"recode-places: read fault\"; \"recode-places: log: read fault\";
-     \"recode-places: write fault\"; \"recode-places: out of memory\";
-     \"recode-places: input too long\"; \"recode-places: line N of the log is not of this input\"";
+  4  the message of recode that ends the log; \"recode-places: read fault\";
+     \"recode-places: log: read fault\"; \"recode-places: write fault\";
+     \"recode-places: out of memory\"; \"recode-places: input too long\";
+     \"recode-places: line N of the log is not of this input\"";
 
 // `--name VALUE`, which has to be there.
 fn required_option<'a>(

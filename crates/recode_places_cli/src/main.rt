@@ -4,6 +4,7 @@
 
 mod command;
 mod fault;
+mod log;
 mod program;
 mod words;
 

@@ -4,6 +4,7 @@ ghost use Rattle.std.specs.Prelude.{◌≡◌, ◌≤◌};
 ghost use Rattle.encoding_front.specs.Encodings.{IsReady};
 
 use crate::fault::Fault;
+use crate::log::Log;
 use crate::words::{Request, Words, parse};
 use encoding_front::Encoding;
 use encoding_tables::Tables;
@@ -121,7 +122,7 @@ fn run<F: Files, L: Read + Drop, W: Write + Drop>(
     alloc: Global,
     words: Words<'_>,
     files: &F,
-    log: L,
+    log: &mut Log<L>,
     output: W,
     has_colour: bool,
 ) -> Result<bool, Fault> {
@@ -185,6 +186,30 @@ fn fail<M: Write>(messages: &mut M, fault: &Fault) -> u8
     fault.status()
 }
 
+// Copies the message that ended the log, if one did, says why nothing more is printed, and returns
+// the exit status.
+fn conclude<L: Read, M: Write>(
+    alloc: Global,
+    told: Result<bool, Fault>,
+    log: &mut Log<L>,
+    messages: &mut M,
+) -> u8
+    ensures { result ≤ 4 }
+{
+    let message = log.message();
+    for line in message.lines() {
+        let Ok(text) = shown(alloc, line) else {
+            return fail(messages, &Fault::Stop(Stop::Memory));
+        };
+        let _ = writeln!(messages, "{text}");
+    }
+    match told {
+        Ok(_) if !message.is_empty() => 4,
+        Ok(is_any) => u8::from(is_any),
+        Err(fault) => fail(messages, &fault),
+    }
+}
+
 // Does what the words of the command line ask for, and returns the exit status.
 pub(crate) fn answer<
     S: CommandLine + AllocGlobal + Files,
@@ -214,10 +239,11 @@ pub(crate) fn answer<
         return fail(&mut messages, &Fault::Memory);
     };
     match parse(alloc, slices.as_slice()) {
-        Ok(Request::Tell(words)) => match run(alloc, words, system, log, output, has_colour) {
-            Ok(is_any) => u8::from(is_any),
-            Err(fault) => fail(&mut messages, &fault),
-        },
+        Ok(Request::Tell(words)) => {
+            let mut log = Log::new(log);
+            let told = run(alloc, words, system, &mut log, output, has_colour);
+            conclude(alloc, told, &mut log, &mut messages)
+        }
         Ok(Request::Print(text)) => {
             say(&mut output, text.as_str());
             0
