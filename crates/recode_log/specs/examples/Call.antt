@@ -29,11 +29,11 @@ calls_once-again h = omega (arith, ap length h)
 calls_once-cut : CallsOnce {E = ℕ} [] (Passed 2 (1 ∷ []) ∷ []) (Ok 1) (1 ∷ 2 ∷ 3 ∷ []) → ⊥
 calls_once-cut h = let same : ◌≡◌ {A = ℕ} 2 3 = cc in omega (arith, same)
 
--- refuted: an answer is made up, and no call is made
+-- refuted: a call returns an answer, and the device was not called
 calls_once-none : CallsOnce {E = ℕ} [] [] (Ok 0) (1 ∷ 2 ∷ 3 ∷ []) → ⊥
 calls_once-none h = omega (arith, ap length h)
 
--- refuted: the error of a flush that went well
+-- refuted: a flush returns an error, and the device returned none
 flushes_once-well : FlushesOnce {T = ℕ} {E = ℕ} [] (Flush false ∷ []) (Err 5) → ⊥
 flushes_once-well h = cc
 
@@ -57,7 +57,7 @@ failed_write-nothing_to_take = refl
 ends_in_failed_write-flush : EndsInFailedWrite (Passed 2 (1 ∷ 2 ∷ []) ∷ Flush true ∷ [])
 ends_in_failed_write-flush = record { earlier = Passed 2 (1 ∷ 2 ∷ []) ∷ []; last = Flush true; ends = refl; failed = refl }
 
--- refuted: a fault after a write that took a byte
+-- refuted: the fault is of a write that took a byte
 ends_in_failed_write-took : EndsInFailedWrite (Failed 2 ∷ Passed 2 (1 ∷ []) ∷ []) → ⊥
 ends_in_failed_write-took h = omega (arith, h.failed, ap failed_write (same_from_push (Failed 2 ∷ []) h.earlier (Passed 2 (1 ∷ [])) h.last h.ends).1)
 

@@ -30,7 +30,7 @@ line_bytes-lost_longest : line_bytes (Lost 281474976710656 1114111) ≡ codes "l
 unfolding digits
 line_bytes-lost_longest = refl
 
--- refuted: offset and length change places
+-- refuted: a line has its length before its offset
 line_bytes-changed : line_bytes (Bad 6 1) ≡ codes "bad 1 6\n" → ⊥
 unfolding digits
 line_bytes-changed e = omega (arith, ap (λ l. slice_index_or l 4 0) e)

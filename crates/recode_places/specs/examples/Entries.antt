@@ -24,7 +24,7 @@ of_malformed = (well_formed 1 (0x61 ∷ []) ∷ well_formed 1 (10 ∷ []) ∷ we
 of_character : IsCharacterAt (0x61 ∷ 10 ∷ 0x62 ∷ 0x65E5 ∷ 0x63 ∷ []) place 0x65E5
 of_character = (0x61 ∷ 10 ∷ 0x62 ∷ [], 0x63 ∷ [], refl, record { index = refl; line = refl; column = refl })
 
--- refuted: the next character is told there
+-- refuted: an entry names the next character instead
 of_next_character : IsCharacterAt (0x61 ∷ 10 ∷ 0x62 ∷ 0x65E5 ∷ 0x63 ∷ []) place 0x63 → ⊥
 of_next_character h =
     let there : 0x65E5 ≡ 0x63 = ap (λ l. get_or l 3 0) h.2 ∙ ap (λ n. get_or (h.0 ++ (0x63 ∷ h.1)) n 0) h.3.index ∙ get_or-append_seam h.0 0x63 h.1 0 in
@@ -36,7 +36,7 @@ offset_1 [] after e = absurd (cc)
 offset_1 (p ∷ []) after e = let same : well_formed 1 (0x61 ∷ []) ≡ p = cc in ap (λ x. sizes (x ∷ [])) (sym same)
 offset_1 (p ∷ q ∷ before) after e = absurd (omega (arith, ap length e, length-append before (malformed 1 ∷ after)))
 
--- refuted: its offset counts from 1
+-- refuted: its offset is one too great
 of_offset_2 : (p : Place) → IsMalformedAt (well_formed 1 (0x61 ∷ []) ∷ malformed 1 ∷ []) p 2 1 → ⊥
 of_offset_2 p h = omega (arith, offset_1 h.0 h.1 h.2, h.3)
 
@@ -92,14 +92,14 @@ of_cut = inl (refl, omega arith)
 of_message : IsLogEnd (codes "recode: write fault\n")
 of_message = inr (codes "write fault\n", refl)
 
--- refuted: a line of the log is passed over, and its end is told
+-- refuted: a walk by a log succeeds, and no entry is of its line
 of_line_passed_over : TellsLines (bytes (codes "lost 3 26085\n")) ended (Some []) (Some []) → ⊥
 of_line_passed_over h =
     let none = subst (λ more. NameAll more h.2.0) (sym (same_Some [] h.0 h.1)) h.2.2 in
     let left : codes "lost 3 26085\n" ≡ h.2.1.0 = h.2.1.1 ∙ ap (λ bs. bs ++ h.2.1.0) none in
     elim h.2.1.2 [ inl end ↦ omega (arith, ap feeds left, end.0) | inr message ↦ omega (arith, ap (λ l. slice_index_or l 0 0) (left ∙ message.1)) ]
 
--- refuted: a character is told that no line names
+-- refuted: a walk by a log has an entry of a lost character that no line names
 of_no_line : TellsLines (bytes []) ended (Some []) (Some (lost ∷ [])) → ⊥
 of_no_line h =
     let named = subst (λ more. NameAll more h.2.0) (sym (same_Some (lost ∷ []) h.0 h.1)) h.2.2 in

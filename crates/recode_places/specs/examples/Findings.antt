@@ -33,12 +33,12 @@ of_input : found_in (asking true) 0 0 (well_formed 1 (0x61 ∷ []) ∷ malformed
 unfolding fate_of pieces_in
 of_input = refl
 
--- refuted: no log is read, and a lost character is left out
+-- refuted: without a log, a lost character has no entry
 of_left_out : TellsFound (asking false) (found_in_text (asking false) 7 (0x65E5 ∷ [])) [] (Some []) (Some []) → ⊥
 unfolding fate_of pieces_in
 of_left_out h = let more = h refl in omega (arith, ap length (more.2 ∙ ap (λ es. map found_by es ++ []) (sym (same_Some [] more.0 more.1))))
 
--- refuted: folds are asked for, and one is left out
+-- refuted: folds are asked for, and one has no entry
 of_fold_left_out : TellsFound (asking true) (found_in_text (asking true) 7 (0xA5 ∷ [])) [] (Some []) (Some []) → ⊥
 unfolding fate_of pieces_in
 of_fold_left_out h = let more = h refl in omega (arith, ap length (more.2 ∙ ap (λ es. map found_by es ++ []) (sym (same_Some [] more.0 more.1))))

@@ -78,6 +78,6 @@ of_no_line h = elim h [ inl cut ↦ absurd (omega (arith, cut.1)) | inr message 
 of_refused : (IsLeftOfLog (Fits 0 0 (well_formed 1 (0x61 ∷ []) ∷ malformed 1 ∷ [])) (bytes (codes "bad 1 1\nlost 1 65533\n")) → IfErr {T = ℕ} {E = Stop} (Err (Unfit 1)) IsNotUnfit) → ⊥
 of_refused h = h of_whole
 
--- refuted: a line fits after the end of the input
+-- refuted: a log fits that has a line more than the input has losses
 of_line_too_many : Fits 0 0 [] (codes "bad 0 1\n") → ⊥
 of_line_too_many h = elim h [ inl end ↦ absurd (omega (arith, end.0)) | inr message ↦ absurd (omega (arith, ap (λ l. slice_index_or l 0 0) message.1)) ]

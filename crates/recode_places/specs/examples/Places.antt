@@ -24,11 +24,11 @@ of_first = refl
 of_start : after_feed (0x61 ∷ 10 ∷ []) ≡ 0
 of_start = refl
 
--- refuted: a line feed is no end of a line
+-- refuted: the character after a line feed is in line 1
 not_line_1 : (p : Place) → IsPlaceAfter p (0x61 ∷ 0x62 ∷ 10 ∷ 0x63 ∷ []) → p.line ≡ 1 → ⊥
 not_line_1 p h e = omega (arith, h.line, e)
 
--- refuted: the line feed before a line has a column in it
+-- refuted: a column counts the line feed before its line
 not_column_3 : (p : Place) → IsPlaceAfter p (0x61 ∷ 0x62 ∷ 10 ∷ 0x63 ∷ []) → p.column ≡ 3 → ⊥
 not_column_3 p h e = omega (arith, h.column, e)
 

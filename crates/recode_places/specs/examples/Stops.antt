@@ -14,11 +14,11 @@ no_log = record { has_log = false; target = None; folds = false }
 abbrev by_log : Asked
 by_log = record { has_log = true; target = None; folds = false }
 
--- refuted: without a log, a line is not of the input
+-- refuted: without a log, the error is that a line of it is not of the input
 of_no_log : ¬ (IsOfLogOrVisitor no_log (Unfit 1))
 of_no_log h = false≢true h.0
 
--- refuted: without a log, a read of the log fails
+-- refuted: without a log, the error is that it cannot be read
 of_unread : ¬ (IsOfLogOrVisitor no_log Log)
 of_unread h = false≢true h.0
 
@@ -36,6 +36,6 @@ of_longest x size h = omega (arith, size, h)
 of_longer : (x : List ℕ) → length x ≡ 2 ^ 48 + 1 → CanStopWalk no_log (Some x) TooLong
 of_longer x size = omega (arith, size)
 
--- refuted: on success a byte of the input is left
+-- refuted: a walk succeeds, and a byte of the input is not read
 of_unread_byte : IsAtEnd (Some (0x61 ∷ [])) → ⊥
 of_unread_byte h = omega (arith, ap length h)
