@@ -114,6 +114,12 @@ fn well_formed_bytes_become_units(rt: HostRuntime) {
     let written = convert_utf8_to_utf16_without_replacement(&[0x61, 0xC3, 0xA9], &mut units);
     assert_eq!(rt; written, Some(2));
     assert_eq!(rt; units, [0x61, 0xE9, 0, 0]);
+    // U+8000 and U+1F4A9, as bytes and as a text.
+    assert_eq!(rt; convert_utf8_to_utf16(b"\xE8\x80\x80", &mut units), 1);
+    assert_eq!(rt; units, [0x8000, 0xE9, 0, 0]);
+    let mut units = [0; 8];
+    assert_eq!(rt; convert_str_to_utf16("💩\u{8000}", &mut units), 3);
+    assert_eq!(rt; units, [0xD83D, 0xDCA9, 0x8000, 0, 0, 0, 0, 0]);
 }
 
 #[test]

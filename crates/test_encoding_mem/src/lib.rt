@@ -4,6 +4,8 @@
 #![tactic(auto)]
 
 #[cfg(test)]
+mod byte_blocks;
+#[cfg(test)]
 mod checks;
 #[cfg(test)]
 mod conversions;

@@ -112,12 +112,12 @@ fn parts_of_rules_and_drivers(rt: HostRuntime) {
     let mut dst = [0xFF; 4];
     assert_eq!(rt; put_all(&mut dst, 1, b"ab"), 3);
     assert_eq!(rt; dst, [0xFF, 0x61, 0x62, 0xFF]);
-    // Characters of one to four bytes; and two behind a vector of ASCII.
+    // Characters of one to four bytes; and one within a vector and two after it.
     assert_eq!(rt; count_characters("aé日💩"), 4);
-    let text = "0123456789012345678901234567890123456789012345678901234567890123é日";
-    assert_eq!(rt; count_characters(text), 66);
-    // A pair, a surrogate alone and a letter.
-    assert_eq!(rt; count_in_units(&[0xD83D, 0xDCA9, 0xD83D, 0x41]), 3);
+    let text = "é0123456789012345678901234567890123456789012345678901234567890123é日";
+    assert_eq!(rt; count_characters(text), 67);
+    // A letter, a pair, a surrogate alone and a letter.
+    assert_eq!(rt; count_in_units(&[0x61, 0xD83D, 0xDCA9, 0xD83D, 0x41]), 4);
 }
 
 // The two continuation bytes behind the first byte of U+20AC are cleared, and nothing more.
