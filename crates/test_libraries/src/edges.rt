@@ -1,6 +1,9 @@
-//! The edges of the two conditions of a conversion: a job is valid, and buffers are enough.
+//! The edges of the two conditions of a conversion: a job is valid, and buffers are enough; and where
+//! an input can be cut into parts.
 
-use encoding_front::{GB18030, REPLACEMENT, SHIFT_JIS, UTF_8, UTF_16LE, X_USER_DEFINED};
+use encoding_front::{
+    GB18030, ISO_2022_JP, REPLACEMENT, SHIFT_JIS, UTF_8, UTF_16BE, UTF_16LE, X_USER_DEFINED,
+};
 use encoding_tables::Tables;
 use recode::{Buffers, GREATEST_LIMIT, Job, Mark, Pivot, Policy};
 
@@ -124,5 +127,38 @@ fn pivots_of_two_kinds_are_not_enough(rt: HostRuntime) {
             check,
         };
         assert!(rt; !buffers.is_enough(), "{wide_pivot}");
+    }
+}
+
+// A part ends in a byte below 30, and both encodings are compatible with ASCII. Later parts are in
+// the encoding of the mark, if the job takes it.
+#[test]
+fn a_part_ends_in_a_low_byte(rt: HostRuntime) {
+    let tables = Tables::new(rt.alloc());
+    let rows = [
+        (UTF_8, UTF_8, Mark::Keep, b"a/".as_slice(), UTF_8, true),
+        (UTF_8, UTF_8, Mark::Keep, b"a0", UTF_8, false),
+        (UTF_8, UTF_8, Mark::Keep, b"", UTF_8, false),
+        (UTF_8, UTF_16LE, Mark::Keep, b"\n", UTF_8, true),
+        (UTF_8, ISO_2022_JP, Mark::Keep, b"\n", UTF_8, false),
+        (UTF_16BE, UTF_8, Mark::Keep, b"\0\n", UTF_16BE, false),
+        (UTF_8, UTF_8, Mark::Keep, b"\xFE\xFF\n", UTF_8, true),
+        (UTF_8, UTF_8, Mark::Remove, b"\xFE\xFF\n", UTF_8, true),
+        (UTF_8, UTF_8, Mark::Sniff, b"\xFE\xFF\0\n", UTF_16BE, false),
+        (SHIFT_JIS, UTF_8, Mark::Sniff, b"\xEF\xBB\xBF\n", UTF_8, true),
+    ];
+    for (from, to, mark, first, source, want) in rows {
+        let job = Job {
+            from,
+            to,
+            mark,
+            policy: Policy::Decimal,
+            limit: 9,
+            tables: &tables,
+        };
+        assert_eq!(rt; job.source(first), source, "{from:?} {mark:?} {first:?}");
+        assert_eq!(rt; job.can_be_cut(first), want, "{from:?} {to:?} {first:?}");
+        let later = job.later(first);
+        assert_eq!(rt; (later.from, later.to, later.mark), (source, to, Mark::Keep));
     }
 }

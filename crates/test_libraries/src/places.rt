@@ -3,7 +3,8 @@
 use encoding_front::{Encoding, Mark};
 use encoding_tables::{IndexKind, Tables};
 use recode_places::{
-    Choice, Entry, Fate, Fates, Finding, LogMatch, Place, Reading, Stop, tell_places,
+    Choice, Entry, Fate, Fates, Finding, LogMatch, Place, Reading, Refusal, Stop, Visitor,
+    tell_places,
 };
 use std::alloc::Global;
 use std::io;
@@ -13,22 +14,46 @@ use std::test::Fail;
 // This is `one`, a line feed, `t`, a byte that is malformed in UTF-8, `o` and a Greek letter.
 const INPUT: &[u8] = b"one\nt\xFFo\xCE\xA9";
 
+// A reader of one byte at a time.
+#[derive(Drop)]
+struct Single<'a> {
+    rest: &'a [u8],
+}
+
+impl<'a> Read for Single<'a> {
+    fn read(&mut self, buf: &mut [u8]) -> io::Result<usize> {
+        let len = buf.len().min(1);
+        self.rest.read(&mut buf[..len])
+    }
+}
+
 // Returns the entries for an input in UTF-8 that a log names.
-fn told_by_log(alloc: Global, input: &[u8], log: &[u8]) -> Result<Vec<Entry>, Stop> {
+fn told_of_reads<R: Read>(alloc: Global, reader: &mut R, log: &[u8]) -> Result<Vec<Entry>, Stop> {
     let tables = Tables::new(alloc);
     let reading = Reading {
         from: Encoding::Utf8,
         mark: Mark::Sniff,
         tables: &tables,
     };
-    let mut reader = input;
     let mut entries = Vec::new(alloc);
     if !reading.from.is_ready(&tables) {
         return Err(Stop::Input);
     }
     let mut choice = Choice::of_log(LogMatch::new(log)?);
-    tell_places(&mut reader, reading, &mut choice, &mut entries)?;
+    tell_places(reader, reading, &mut choice, &mut entries)?;
     Ok(entries)
+}
+
+// The same, if reads of single bytes give the same answer. Otherwise returns `TooLong`.
+fn told_by_log(alloc: Global, input: &[u8], log: &[u8]) -> Result<Vec<Entry>, Stop> {
+    let mut whole = input;
+    let mut single = Single { rest: input };
+    let entries = told_of_reads(alloc, &mut whole, log);
+    match (entries, told_of_reads(alloc, &mut single, log)) {
+        (Ok(entries), Ok(again)) if entries.as_slice() == again.as_slice() => Ok(entries),
+        (Err(stop), Err(again)) if stop == again => Err(stop),
+        _ => Err(Stop::TooLong),
+    }
 }
 
 // Returns how many entries there are for an input in UTF-8 and a log, or why the search for places
@@ -150,6 +175,7 @@ fn without_a_log_what_a_target_loses_is_told(rt: HostRuntime) -> Result<(), Fail
     assert_eq!(rt; fates.of('a'), Fate::Kept);
     assert_eq!(rt; fates.of('\u{F780}'), Fate::Kept);
     assert_eq!(rt; fates.of('\u{3A9}'), Fate::Lost);
+    assert_eq!(rt; fates.of('a'), Fate::Kept);
     assert_eq!(rt; fates.keeps("ab"), true);
     assert_eq!(rt; fates.keeps("\u{F780}"), false);
     let mut choice: Choice<'_, &[u8]> = Choice::of_target(fates, true);
@@ -248,4 +274,85 @@ fn a_read_that_fails_is_told(rt: HostRuntime) -> Result<(), Fail> {
     };
     assert_eq!(rt; stop, Stop::Log);
     Ok(())
+}
+
+// The calls of a visitor.
+#[derive(Clone, Copy, PartialEq, Eq, Debug)]
+enum Call {
+    Characters,
+    Malformed,
+    Entry,
+}
+
+// A visitor that refuses one kind of call, and counts the entries.
+#[derive(Drop)]
+struct Refusing {
+    call: Call,
+    refusal: Refusal,
+    entries: u64,
+}
+
+impl Refusing {
+    fn answer(&self, call: Call) -> Result<(), Refusal> {
+        if call == self.call {
+            return Err(self.refusal);
+        }
+        Ok(())
+    }
+}
+
+impl Visitor for Refusing {
+    ghost use Rattle.std.specs.Prelude.{None};
+
+    ghost told = { λ _. None };
+
+    fn characters(&mut self, _text: &str) -> Result<(), Refusal> {
+        self.answer(Call::Characters)
+    }
+
+    fn malformed(&mut self, _bytes: &[u8], _encoding: Encoding) -> Result<(), Refusal> {
+        self.answer(Call::Malformed)
+    }
+
+    fn entry(&mut self, _entry: Entry) -> Result<(), Refusal> {
+        self.entries = self.entries.saturating_add(1);
+        self.answer(Call::Entry)
+    }
+}
+
+// The entry of a character, or of malformed bytes, comes before them. Nothing comes after a call that
+// is refused. x-user-defined has no byte for U+00E9.
+#[test]
+fn a_visitor_that_refuses_ends_the_search(rt: HostRuntime) {
+    let tables = Tables::new(rt.alloc());
+    let reading = Reading {
+        from: Encoding::Utf8,
+        mark: Mark::Keep,
+        tables: &tables,
+    };
+    let to = Encoding::XUserDefined;
+    let rows = [
+        (b"a\xC3\xA9".as_slice(), Call::Characters, 0),
+        (b"\xC3\xA9a", Call::Characters, 1),
+        (b"\xFF\xFE", Call::Malformed, 1),
+        (b"\xC3\xA9\xFF", Call::Malformed, 2),
+        (b"\xC3\xA9\xFF", Call::Entry, 1),
+    ];
+    for (input, call, entries) in rows {
+        for refusal in [Refusal::Write, Refusal::Memory] {
+            let mut reader = input;
+            let mut visitor = Refusing {
+                call,
+                refusal,
+                entries: 0,
+            };
+            assert!(rt; reading.from.is_ready(&tables));
+            assert!(rt; to.output_encoding().is_ready(&tables));
+            let fates = Fates::new(to, &tables);
+            let mut choice: Choice<'_, &[u8]> = Choice::of_target(fates, true);
+            let answer = tell_places(&mut reader, reading, &mut choice, &mut visitor);
+            assert_eq!(rt; answer, Err(Stop::from(refusal)), "{input:?} {call:?}");
+            assert_eq!(rt; visitor.entries, entries, "{input:?} {call:?}");
+        }
+    }
 }
