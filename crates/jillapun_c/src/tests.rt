@@ -189,6 +189,7 @@ fn stream_is_decoded(rt: HostRuntime) {
         (progress.malformed_length, progress.malformed_after),
         (1, 0)
     );
+    assert!(rt; !progress.had_errors);
     let mut units = [0; 4];
     let status = jillapun_decoder_decode_to_utf16(
         &mut decoder,

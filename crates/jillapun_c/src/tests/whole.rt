@@ -253,6 +253,10 @@ fn text_stays_text(rt: HostRuntime) {
     let left = put_over(alloc, UTF_8, b"abc", 2);
     assert_eq!(rt; (left.0, left.2), (ROOM, 3));
     assert!(rt; str::from_utf8(&left.1[..2]).is_ok());
+    // The euro sign has no room, and the two bytes in its place go on with no character.
+    let left = put_over(alloc, UTF_8, "aé€".as_bytes(), 5);
+    assert_eq!(rt; (left.0, left.2), (ROOM, 6));
+    assert!(rt; str::from_utf8(&left.1[..5]).is_ok());
     assert_eq!(rt; put_over(alloc, 40, b"abc", 8), (UNKNOWN, same, 0));
 }
 
