@@ -1,6 +1,7 @@
 //! Converts a case at every cut, byte by byte, with buffers of all sizes, and with each call of a
-//! device failing.
+//! device failing; and by a `Converter`.
 
+use crate::converters::{check_converter_once, check_converters};
 use anyhow::{bail, ensure};
 use encoding_tables::Tables;
 use recode::{Fault, Mark, Policy};
@@ -269,7 +270,7 @@ fn check_once(
     for sizes in [ROOMY, ROOMY_WIDE] {
         check(rt, subject, &Plan { sizes, ..AT_ONCE }, report)?;
     }
-    Ok(())
+    check_converter_once(rt, subject, report)
 }
 
 // Converts no bytes, with the least buffers of either kind of pivot. Marks are treated in each way.
@@ -348,6 +349,7 @@ pub(crate) fn check_case(
             let setting = Setting { mark, ..setting };
             let subject = Subject { setting, ..subject };
             check_cuts(rt, subject, report)?;
+            check_converters(rt, subject, report)?;
             if scope.has_rooms {
                 check_rooms(rt, subject, report)?;
             }

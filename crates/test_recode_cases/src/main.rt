@@ -14,6 +14,7 @@ mod calls;
 mod characters;
 mod checks;
 mod codec_calls;
+mod converters;
 mod faults;
 mod files;
 mod indexes;
