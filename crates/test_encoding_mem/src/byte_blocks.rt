@@ -8,7 +8,8 @@ use encoding_mem::{
 };
 
 // 69 bytes of ASCII, all different.
-const LETTERS: [u8; 69] = *b"0123456789:;<=>?@ABCDEFGHIJKLMNOPQRSTUVWXYZ[\\]^_`abcdefghijklmnopqrst";
+const LETTERS: [u8; 69] =
+    *b"0123456789:;<=>?@ABCDEFGHIJKLMNOPQRSTUVWXYZ[\\]^_`abcdefghijklmnopqrst";
 
 #[test]
 fn bytes_are_copied_up_to_the_one_that_is_not_ascii(rt: HostRuntime) {
@@ -21,7 +22,10 @@ fn bytes_are_copied_up_to_the_one_that_is_not_ascii(rt: HostRuntime) {
             let mut bytes = [1; 69];
             let mut units = [1; 69];
             assert_eq!(rt; copy_ascii_to_ascii(&src[..length], &mut bytes), offset);
-            assert_eq!(rt; copy_ascii_to_basic_latin(&src[..length], &mut units), offset);
+            assert_eq!(rt;
+                copy_ascii_to_basic_latin(&src[..length], &mut units),
+                offset
+            );
             for (i, letter) in LETTERS.iter().enumerate() {
                 let expected = if i < offset { *letter } else { 1 };
                 assert!(rt; bytes[i] == expected && units[i] == expected as u16);
@@ -39,7 +43,10 @@ fn one_character_of_latin1_stands_anywhere(rt: HostRuntime) {
                 let mut latin1 = LETTERS;
                 latin1[offset] = byte;
                 let mut text = [1; 138];
-                assert_eq!(rt; convert_latin1_to_utf8(&latin1[..length], &mut text), length + 1);
+                assert_eq!(rt;
+                    convert_latin1_to_utf8(&latin1[..length], &mut text),
+                    length + 1
+                );
                 assert!(rt; text[..offset] == LETTERS[..offset]);
                 assert_eq!(rt; (text[offset], text[offset + 1]), (lead, second));
                 assert!(rt; text[offset + 2..length + 1] == LETTERS[offset + 1..length]);
@@ -52,7 +59,10 @@ fn one_character_of_latin1_stands_anywhere(rt: HostRuntime) {
                 assert!(rt; again[..written] == latin1[..length]);
                 let mut units = [1; 138];
                 let written = convert_utf8_to_utf16(&text[..length + 1], &mut units);
-                assert_eq!(rt; (written, units[offset], units[length]), (length, byte as u16, 1));
+                assert_eq!(rt;
+                    (written, units[offset], units[length]),
+                    (length, byte as u16, 1)
+                );
             }
         }
     }

@@ -1,4 +1,4 @@
-//! The edges of the two conditions of a conversion: a job is valid, and buffers are enough; and where
+//! The edges of the two conditions of a conversion: a job is valid, and buffers are enough. Where
 //! an input can be cut into parts.
 
 use encoding_front::{
@@ -145,7 +145,14 @@ fn a_part_ends_in_a_low_byte(rt: HostRuntime) {
         (UTF_8, UTF_8, Mark::Keep, b"\xFE\xFF\n", UTF_8, true),
         (UTF_8, UTF_8, Mark::Remove, b"\xFE\xFF\n", UTF_8, true),
         (UTF_8, UTF_8, Mark::Sniff, b"\xFE\xFF\0\n", UTF_16BE, false),
-        (SHIFT_JIS, UTF_8, Mark::Sniff, b"\xEF\xBB\xBF\n", UTF_8, true),
+        (
+            SHIFT_JIS,
+            UTF_8,
+            Mark::Sniff,
+            b"\xEF\xBB\xBF\n",
+            UTF_8,
+            true,
+        ),
     ];
     for (from, to, mark, first, source, want) in rows {
         let job = Job {
@@ -159,6 +166,9 @@ fn a_part_ends_in_a_low_byte(rt: HostRuntime) {
         assert_eq!(rt; job.source(first), source, "{from:?} {mark:?} {first:?}");
         assert_eq!(rt; job.can_be_cut(first), want, "{from:?} {to:?} {first:?}");
         let later = job.later(first);
-        assert_eq!(rt; (later.from, later.to, later.mark), (source, to, Mark::Keep));
+        assert_eq!(rt;
+            (later.from, later.to, later.mark),
+            (source, to, Mark::Keep)
+        );
     }
 }

@@ -320,8 +320,8 @@ impl Visitor for Refusing {
     }
 }
 
-// The entry of a character, or of malformed bytes, comes before them. Nothing comes after a call that
-// is refused. x-user-defined has no byte for U+00E9.
+// The entry of a character, or of malformed bytes, comes before them. Nothing comes after a call
+// that is refused. x-user-defined has no byte for U+00E9.
 #[test]
 fn a_visitor_that_refuses_ends_the_search(rt: HostRuntime) {
     let tables = Tables::new(rt.alloc());

@@ -1,5 +1,5 @@
-//! Converts a case by a `Converter`: the input comes in small parts and as a whole, and each call has
-//! the least room, or much.
+//! Converts a case by a `Converter`: the input comes in small parts and as a whole, and each call
+//! has the least room, or much.
 
 use crate::checks::Subject;
 use anyhow::{Context, bail, ensure};
