@@ -1,6 +1,6 @@
 -- What is there after an index is loaded.
 use Rattle.std.proofs.Common.{◌≡◌, ◌≢◌, ◌⊎◌, ◌∙◌, ◌<◌, ℕ, zero, suc, List, [], ◌∷◌, ap, refl, subst, sym, arith, Option, None, Some, Bool, true, false, inl, inr, is_some, ◌++◌, drop, take, length, get_or}
-use Rattle.std.specs.Prelude.{if◌then◌else◌, IfSome, MatchOption, Result, Ok, Err, option_map}
+use Rattle.std.specs.Prelude.{if◌then◌else◌, MatchOption, Result, Ok, Err, option_map}
 use Rattle.std.specs.Option.{option_or}
 use Rattle.std.specs.Bool.{MatchBool}
 use Rattle.std.proofs.lemmas.Bool.{false_from_ne_true, cases_Bool}
@@ -21,7 +21,7 @@ use Rattle.encoding_index.specs.declared.fault.LoadFault.{LoadFault}
 use Rattle.encoding_index.specs.declared.fault.LoadFault.TheVariants.{Text, Table}
 use Rattle.encoding_index.specs.Loads.{KeepsOtherKinds, Loads, load_fault, table_fault, text_fault}
 use Rattle.recode.specs.IndexFaults.{AddsOnly}
-use Rattle.recode.specs.Program.{AddsFromFiles, AreKept, AreOfFiles, FileTexts, IsOfFile, IsSameIndex, NeedAnIndex}
+use Rattle.recode.specs.Program.{AddsFromFiles, AreKept, AreOfFiles, CanHold, FileTexts, FileTold, IsOfFile, IsSameIndex, NeedAnIndex}
 use Rattle.recode_words.specs.declared.words.Words.{Words}
 use Rattle.recode.specs.laws.KeptIndexes.{has_still}
 
@@ -113,7 +113,7 @@ load_met_no_fault old kind text result value Y ok h =
     no_fault (text_fault kind text) (table_fault old kind text) (ended (load_fault old kind text) result value Y ok h)
 
 -- an index that is kept is of its file still
-of_file_still : (old new : IndexLists) (kind : IndexKind) (told : Option (List ℕ)) → IsSameIndex old new kind → IsOfFile old kind told → IsOfFile new kind told
+of_file_still : (old new : IndexLists) (kind : IndexKind) (told : FileTold) → IsSameIndex old new kind → IsOfFile old kind told → IsOfFile new kind told
 of_file_still old new kind told same was = record {
   text = was.text;
   known = was.known;
@@ -122,7 +122,7 @@ of_file_still old new kind told same was = record {
 }
 
 pub load_adds : (holds holds' : FileTexts) (dir : List ℕ) (old new : IndexLists) (kind : IndexKind) (text : List ℕ)
-    → ((d f : List ℕ) → holds' d f ≡ holds d f) → IfSome (holds dir (file_name_of kind)) (λ t. text ≡ t) → text_fault kind text ≡ None → has old kind ≡ false → Loads new kind text
+    → ((d f : List ℕ) → holds' d f ≡ holds d f) → CanHold (holds dir (file_name_of kind)) text → text_fault kind text ≡ None → has old kind ≡ false → Loads new kind text
     → KeepsOtherKinds old new kind → AddsFromFiles holds holds' dir old new
 load_adds holds holds' dir old new kind text same told faultless lacking loads keeps = record {
   same = same;

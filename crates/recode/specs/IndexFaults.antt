@@ -9,14 +9,14 @@ use Rattle.encoding_tables.specs.FileNames.{file_name_of}
 use Rattle.encoding_tables.specs.IndexLists.{IndexLists, has}
 use Rattle.encoding_tables.specs.declared.index_kind.IndexKind.{IndexKind}
 use Rattle.encoding_tables.specs.declared.table_fault.TableFault.{TableFault}
-use Rattle.recode.specs.Program.{FileTexts}
+use Rattle.recode.specs.Program.{CanBeAbsent, CanHold, FileTexts, FileTold}
 use Rattle.recode.specs.declared.indexes.SourceFault.{SourceFault}
 use Rattle.recode.specs.declared.indexes.StartFault.{StartFault}
 
--- The fault fits a file whose bytes are known, or are not: a file of known bytes is not missing. Memory may be
--- refused at any file.
-abbrev pub IsReadFault : Option (List ℕ) → SourceFault → Type 0
-IsReadFault told SourceFault.Missing = told ≡ None
+-- The fault fits what the source says of the file: one whose text it says is not missing. Memory can be refused at
+-- any file.
+abbrev pub IsReadFault : FileTold → SourceFault → Type 0
+IsReadFault told SourceFault.Missing = CanBeAbsent told
 IsReadFault told SourceFault.Memory = ⊤
 
 -- the name of the variant, as messages have it
@@ -39,18 +39,18 @@ ReportsFault file (Text fault) StartFault.Memory = fault.kind ≡ IndexFaultKind
 ReportsFault file (Table fault) StartFault.Memory = fault ≡ TableFault.Memory
 ReportsFault _ _ _ = ⊥
 
--- a load of the text of the kind's file, the known one if it is known, ends with the fault that is reported
-pub record ReportsLoad (tables : IndexLists) (kind : IndexKind) (told : Option (List ℕ)) (reported : StartFault) : Type 0 where
+-- a load of a text that the kind's file can have ends with the fault that is reported
+pub record ReportsLoad (tables : IndexLists) (kind : IndexKind) (told : FileTold) (reported : StartFault) : Type 0 where
   pub text : List ℕ
-  pub known : IfSome told (λ all. text ≡ all)
+  pub known : CanHold told text
   pub fault : LoadFault
   pub loading : load_fault tables kind text ≡ Some fault
   pub reports : ReportsFault (file_name_of kind) fault reported
 
--- The fault fits the file of the kind, whose bytes are known or not: that file is missing, or its text has the fault.
--- Memory may be refused at any file.
-abbrev pub IsStartFault : IndexLists → IndexKind → Option (List ℕ) → StartFault → Type 0
-IsStartFault tables kind told (StartFault.Missing file) = (file.now ≡ file_name_of kind) × (told ≡ None)
+-- The fault fits what the source says of the file of the kind: that file can be absent, or can have a text with the
+-- fault. Memory can be refused at any file.
+abbrev pub IsStartFault : IndexLists → IndexKind → FileTold → StartFault → Type 0
+IsStartFault tables kind told (StartFault.Missing file) = (file.now ≡ file_name_of kind) × CanBeAbsent told
 IsStartFault tables kind told (StartFault.Line file line fault) = ReportsLoad tables kind told (StartFault.Line file line fault)
 IsStartFault tables kind told (StartFault.Table file fault) = ReportsLoad tables kind told (StartFault.Table file fault)
 IsStartFault tables kind told StartFault.Memory = ⊤

@@ -1,5 +1,5 @@
 -- What the program does and returns for its words.
-use Rattle.std.specs.Prelude.{◌≡◌, ◌≢◌, ◌⊎◌, ℕ, List, [], ◌++◌, Option, None, IfSome, false, true}
+use Rattle.std.specs.Prelude.{◌≡◌, ◌≢◌, ◌⊎◌, ℕ, List, [], ◌++◌, Option, Some, None, IfSome, false, true}
 use Rattle.std.specs.Bool.{MatchBool}
 use Rattle.encoding_front.specs.Encodings.{HasLabel, needs_of, output_encoding_of}
 use Rattle.encoding_front.specs.declared.encoding.Encoding.{Encoding}
@@ -84,18 +84,30 @@ pub record AskForText (words : List (List ℕ)) : Type 0 where
   pub asked : AsksFor words request
   pub text : IsText request
 
--- the index of the kind was loaded from a text without a fault: that of its file, if that is known
-pub record IsOfFile (tables : IndexLists) (kind : IndexKind) (told : Option (List ℕ)) : Type 0 where
+-- what a source says of a file: nothing (`None`), that it is absent (`Some None`), or which bytes it has
+abbrev pub FileTold : Type 0
+FileTold = Option (Option (List ℕ))
+
+-- the file can have this text: it is the text that the source says, and a file that is said to be absent has none
+abbrev pub CanHold : FileTold → List ℕ → Type 0
+CanHold told text = IfSome told (λ content. content ≡ Some text)
+
+-- the file can be absent: the source does not say that it has some text
+abbrev pub CanBeAbsent : FileTold → Type 0
+CanBeAbsent told = IfSome told (λ content. content ≡ None)
+
+-- the index of the kind was loaded from a text without a fault, which its file can have
+pub record IsOfFile (tables : IndexLists) (kind : IndexKind) (told : FileTold) : Type 0 where
   pub text : List ℕ
-  pub known : IfSome told (λ all. text ≡ all)
+  pub known : CanHold told text
   pub faultless : text_fault kind text ≡ None
   pub loads : Loads tables kind text
 
--- what files hold, by their folders and their names, as far as it is known
+-- what a source says of each file, by its folder and its name
 abbrev pub FileTexts : Type 0
-FileTexts = (dir file : List ℕ) → Option (List ℕ)
+FileTexts = (dir file : List ℕ) → FileTold
 
--- each index that is there was loaded from a text without a fault: that of its file in the folder, if that is known
+-- each index that is there was loaded from a text without a fault, which its file in the folder can have
 abbrev pub AreOfFiles : FileTexts → List ℕ → IndexLists → Type 0
 AreOfFiles holds dir tables = (kind : IndexKind) → has tables kind ≡ true → IsOfFile tables kind (holds dir (file_name_of kind))
 

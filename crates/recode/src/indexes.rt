@@ -7,7 +7,7 @@ ghost use Rattle.encoding_tables.specs.IndexLists.{has};
 ghost use Rattle.encoding_front.specs.Encodings.{IsReady, needs_of};
 ghost use Rattle.recode.specs.IndexFaults.{AddsOnly, IsReadFault, IsStartFault, LacksOne};
 ghost use Rattle.recode.specs.IndexFaults.{ReportsFault, table_fault_name};
-ghost use Rattle.recode.specs.Program.{AddsFromFiles};
+ghost use Rattle.recode.specs.Program.{AddsFromFiles, CanHold};
 
 use encoding_front::Encoding;
 use encoding_index::{IndexFaultKind, LoadFault, load};
@@ -29,16 +29,21 @@ pub enum SourceFault {
 /// Where index files come from, as the folders of a file system: what `program` is given, so that
 /// it can be run without one.
 pub trait IndexSource {
-    /// The bytes of the file of a name in a folder, if the source says them.
-    ghost holds: { Self → (dir file : List ℕ) → Option (List ℕ) };
+    /// What the source says of the file of a name in a folder: nothing (`None`), that it is absent
+    /// (`Some None`), or which bytes it has.
+    ghost holds: { Self → (dir file : List ℕ) → Option (Option (List ℕ)) };
 
-    /// The bytes of the file with this name in the folder `dir`, all of them. The error is
-    /// `Missing` if there is no such file that can be read, or if it is longer than the source
-    /// takes, and `Memory` if memory was refused. If the source says the bytes of the file, it is
-    /// not `Missing`.
+    /// Returns all bytes of the file with this name in the folder `dir`: those that the source says
+    /// it has, if it says them.
+    ///
+    /// # Errors
+    ///
+    /// `Missing` if there is no such file, it can't be read, or it is longer than the source takes,
+    /// and `Memory` if memory was refused. A file that the source says is absent is always an
+    /// error, and one whose bytes it says is never `Missing`.
     fn read_file(&mut self, alloc: Global, dir: &str, file: &str) -> Result<Vec<u8>, SourceFault>
-        ensures text { IfOk result (λ bytes. IfSome (holds self.old dir.now file.now)
-            (λ text. bytes.items ≡ text)) }
+        ensures text { IfOk result (λ bytes. CanHold (holds self.old dir.now file.now)
+            bytes.items) }
         ensures fault { IfErr result (IsReadFault (holds self.old dir.now file.now)) }
         ensures files { (d f : List ℕ) → holds self.new d f ≡ holds self.old d f };
 }
@@ -144,7 +149,8 @@ fn load_index<S: IndexSource>(
 /// Puts the indexes that the encoding needs into the tables, and no others, each once, in the order
 /// of `needs`. An index that is there already is not loaded again: it stays as it is. If all are
 /// there, the source is not called. A new one is what a text without a fault stands for: that of
-/// its file in the folder `dir`, if the source says what the file holds.
+/// its file in the folder `dir`, if the source says what the file holds. A file that the source
+/// says is absent gives no index.
 ///
 /// The error is that of the first whose file is missing or faulty, or at which memory was refused:
 /// those before it are there, and none after it was loaded.

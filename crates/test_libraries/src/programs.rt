@@ -9,7 +9,8 @@ use recode_log::counted::Counted;
 use std::alloc::Global;
 use std::test::Fail;
 
-// A folder in memory with one file. The ghost `holds` states the content of the file.
+// A folder in memory with one file. The ghost `holds` states the content of the file, and that no
+// other file is there.
 #[derive(Drop)]
 struct ToldFile {
     dir: &'static str,
@@ -19,8 +20,8 @@ struct ToldFile {
 
 impl IndexSource for ToldFile {
     ghost holds = { λ s dir file.
-        if pointwise nat_eq dir s.dir.now && pointwise nat_eq file s.name.now then Some s.text.now
-        else None };
+        Some (if pointwise nat_eq dir s.dir.now && pointwise nat_eq file s.name.now
+        then Some s.text.now else None) };
 
     fn read_file(&mut self, alloc: Global, dir: &str, file: &str) -> Result<Vec<u8>, SourceFault> {
         if dir != self.dir || file != self.name {

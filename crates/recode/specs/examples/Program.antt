@@ -1,8 +1,8 @@
--- Worked rows: indexes that stay as they are.
+-- Worked rows: indexes that stay as they are, and none from a folder without files.
 use Rattle.std.specs.Prelude.{◌≡◌, ◌∷◌, [], ℕ, List, Option, None, Some, refl}
 use Rattle.encoding_tables.specs.IndexLists.{IndexLists}
 use Rattle.encoding_tables.specs.declared.index_kind.IndexKind.TheVariants.{Gb18030Ranges, Ibm866}
-use Rattle.recode.specs.Program.{AreKept, IsSameIndex}
+use Rattle.recode.specs.Program.{AreKept, AreOfFiles, IsSameIndex}
 
 -- tables with this list of each kind, and these rows
 abbrev tables_of : Option (List ℕ) → Option (List (ℕ × ℕ)) → IndexLists
@@ -21,3 +21,7 @@ other_list h = apart 233 [] (h Ibm866 refl)
   where
     apart : (scalar : ℕ) (rest : List ℕ) → Some (scalar ∷ rest) ≡ Some [] → ⊥
     apart scalar rest e = cc
+
+-- from a folder without files no index is loaded
+nothing_is_loaded : AreOfFiles (λ dir file. Some None) [] (tables_of (Some []) None) → ⊥
+nothing_is_loaded h = let known : None ≡ Some (h Ibm866 refl).text = (h Ibm866 refl).known in cc

@@ -1,6 +1,6 @@
-use Rattle.std.proofs.Common.{◌≡◌, ◌∙◌, List, Option, sym, ℕ}
-use Rattle.std.specs.Prelude.{IfSome}
+use Rattle.std.proofs.Common.{◌∙◌, sym}
 use Rattle.encoding_tables.specs.FileNames.{file_name_of}
+use Rattle.recode.specs.Program.{CanHold, FileTexts}
 use Rattle.recode.proofs.LoadLemmas.{load_adds, load_adds_only, load_met_no_fault, loaded_there}
 use Rattle.recode.proofs.indexes.load_index.Goals as goal
 
@@ -9,8 +9,8 @@ returns-in-Ok-load-clause-there g c = loaded_there c.load.new.tables c.args.kind
 
 pub returns-in-Ok-load-clause-files : goal.returns-in-Ok-load-clause-files
 returns-in-Ok-load-clause-files g c =
-    let holds : List ℕ → List ℕ → Option (List ℕ) = g.S.IndexSource.holds c.args.source.now in
-    let told : IfSome (holds c.args.dir.now (file_name_of c.args.kind)) (λ text. c.deref.result.now ≡ text) =
+    let holds : FileTexts = g.S.IndexSource.holds c.args.source.now in
+    let told : CanHold (holds c.args.dir.now (file_name_of c.args.kind)) c.deref.result.now =
     rw (← c.file_name-file.ensures, c.deref.ensures.value) c.in-Ok.ensures.text in
     load_adds holds (g.S.IndexSource.holds c.read_file.new.self) c.args.dir.now c.args.tables.now c.load.new.tables c.args.kind c.deref.result.now
     c.read_file.ensures.files told (load_met_no_fault c.args.tables.now c.args.kind c.deref.result.now c.load.result _ _ c.in-Ok-load.is c.load.ensures.fault)
