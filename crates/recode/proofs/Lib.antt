@@ -11,3 +11,4 @@ pub mod LoadLemmas
 pub mod TurnLemmas
 pub mod ShellLemmas
 pub mod SavedLemmas
+pub mod MessageLemmas

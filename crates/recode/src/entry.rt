@@ -19,9 +19,13 @@ use encoding_front::{Encoding, Mark};
 use encoding_tables::Tables;
 use recode_log::counted::Counted;
 use recode_log::deliver::tell;
-use recode_words::{MarkWord, PivotWord, PolicyWord, Request, Words, WordsFault, parse_words};
+use recode_words::{
+    MarkWord, PivotWord, PolicyWord, Request, ShownWord, Words, WordsFault, parse_words,
+};
 use std::alloc::{AllocError, Global};
+use std::fmt;
 use std::io::{Read, Write};
+use thiserror::Error;
 
 /// The status if the words are refused, or a label in them is unknown.
 pub const REFUSED: u8 = 2;
@@ -52,14 +56,19 @@ fn refuse_words<L: Write>(log: &mut Counted<L>, message: &str) -> u8
     REFUSED
 }
 
-// What is reported of a fault of the start, a line.
-fn start_message(alloc: Global, fault: &StartFault) -> Result<String, AllocError>
+// The line of the log that reports this.
+fn message_line<M: fmt::Display>(alloc: Global, message: &M) -> Result<String, AllocError>
     ensures { IfOk result (λ text. IsLine (string_bytes text)) }
 {
-    let mut text = format!(in alloc; "recode: {fault}")?;
+    let mut text = format!(in alloc; "recode: {message}")?;
     text.push_str("\n")?;
     Ok(text)
 }
+
+// No encoding has the label.
+#[derive(Clone, Copy, Debug, Error)]
+#[error("unknown label {0}")]
+struct UnknownLabel<'a>(ShownWord<'a>);
 
 // Reports which index is not there, or that memory was refused.
 fn refuse_start<L: Write>(alloc: Global, log: &mut Counted<L>, fault: &StartFault) -> u8
@@ -67,7 +76,7 @@ fn refuse_start<L: Write>(alloc: Global, log: &mut Counted<L>, fault: &StartFaul
     ensures status { result ≡ 3 }
     ensures told { TellsSome log.old log.new }
 {
-    match start_message(alloc, fault) {
+    match message_line(alloc, fault) {
         Ok(message) => tell(log, message.as_bytes()),
         Err(_) => tell(log, b"recode: out of memory\n"),
     }
@@ -80,7 +89,7 @@ fn refuse_label<L: Write>(alloc: Global, log: &mut Counted<L>, label: &str) -> u
     ensures status { (result ≡ 2) ⊎ (result ≡ 3) }
     ensures told { TellsSome log.old log.new }
 {
-    match format!(in alloc; "recode: unknown label {label}\n") {
+    match message_line(alloc, &UnknownLabel(ShownWord(label))) {
         Ok(message) => refuse_words(log, &message),
         Err(_) => refuse_start(alloc, log, &StartFault::Memory),
     }
@@ -230,7 +239,8 @@ fn run_words<S: IndexSource, R: Read, W: Write, L: Write>(
 /// what is written is the same.
 ///
 /// The statuses 0, 1 and 4 are those of `convert`. Otherwise a message says why nothing was read:
-/// - 2 (`REFUSED`): that of `clap`, or `recode: unknown label WORD`;
+/// - 2 (`REFUSED`): that of `clap`, or `recode: unknown label WORD`, with the word as `ShownWord`
+///   of `recode_words` shows it;
 /// - 3 (`NOT_STARTED`): `recode: FILE: missing`, `recode: FILE: line N: KIND` with a kind of
 ///   `IndexFaultKind`, `recode: FILE: table: KIND` with one of `TableFault`, and `recode: out of
 ///   memory` if memory was refused.

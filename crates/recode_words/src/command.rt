@@ -68,14 +68,19 @@ Exit status:
      limit; or with --unmappable stop a character has no bytes in the output's encoding
 
 Message, at the end of standard error:
-  2  lines from \"error:\" on; \"recode: unknown label WORD\"; \"recode: a word is not UTF-8\"
+  2  lines from \"error:\" on; \"recode: unknown label WORD\", with each control character in WORD
+     by its number, as <U+001B>; \"recode: a word is not UTF-8\"; \"recode: standard output is the
+     input file\"
   3  \"recode: FILE: missing\" in the folder that --indexes names, the current one by default, also
      if it can't be read or has more than 2^24 bytes;
      \"recode: FILE: line N: KIND\" with Row, Order or Pointer; \"recode: FILE: table: KIND\" with
      Entry, Reserved or Ranges; \"recode: out of memory\"
   4  \"recode: read fault\"; \"recode: write fault\"; \"recode: log fault\";
      \"recode: input too long\"; \"recode: unmappable INDEX SCALAR\", with the numbers of its line
-     in the log";
+     in the log
+After these messages a second line \"recode: REASON\" explains an unknown label by its option, a
+missing index file by its path and the error of the system, and a read, write or log fault by its
+stream and the error of the system. A pipe whose reader has ended has no second line.";
 
 // `--name VALUE`, which has to be there.
 fn required_option<'a>(alloc: Global, name: &'a str, value_name: &'a str, help: &'a str) -> Arg<'a>

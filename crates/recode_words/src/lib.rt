@@ -1,5 +1,6 @@
 //! The words of the command line of the program `recode`: what they ask for (`Request`), or why
-//! they are refused (`WordsFault`). `recode::program` does what they ask for.
+//! they are refused (`WordsFault`). `recode::program` does what they ask for. `ShownWord` shows a
+//! word in a message.
 //!
 //! # Use
 //!
@@ -16,9 +17,11 @@
 mod command;
 pub mod laws;
 pub mod request;
+pub mod shown;
 mod values;
 pub mod words;
 
 pub use command::VERSION;
 pub use request::{Request, WordsFault, parse_words};
+pub use shown::ShownWord;
 pub use words::{GREATEST_LIMIT, MarkWord, PivotWord, PolicyWord, Words};
