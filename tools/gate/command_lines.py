@@ -108,6 +108,9 @@ CONVERSIONS = [
 TRY_HELP = "\n\nFor more information, try '--help'.\n"
 USAGE = "\n\nUsage: recode [OPTIONS] --from <LABEL> --to <LABEL> < INPUT > OUTPUT" + TRY_HELP
 
+# What explains an unknown label, after its message.
+UNKNOWN = "recode: %s: no encoding has this label; recode --list prints all labels\n"
+
 # Words that are refused, and the message; nothing is read, so the input does not matter.
 REFUSALS = [
     (
@@ -139,10 +142,19 @@ REFUSALS = [
         "error: invalid value '281474976710657' for '--limit <N>'\n"
         "  [possible values: 0 to 281474976710656, in decimal digits]" + USAGE,
     ),
-    (["--from", "nope", "--to", "utf-8"], "recode: unknown label nope\n"),
-    (["--from", "utf-8", "--to", "utf-9"], "recode: unknown label utf-9\n"),
+    (["--from", "nope", "--to", "utf-8"], "recode: unknown label nope\n" + UNKNOWN % "--from"),
+    (["--from", "utf-8", "--to", "utf-9"], "recode: unknown label utf-9\n" + UNKNOWN % "--to"),
+    (["--from", "utf-9", "--to", "utf-9"], "recode: unknown label utf-9\n" + UNKNOWN % "--from"),
+    (
+        ["--from", "\x1b[31m\nbad 1 1\x7f\x9bé", "--to", "utf-8"],
+        "recode: unknown label <U+001B>[31m<U+000A>bad 1 1<U+007F><U+009B>é\n" + UNKNOWN % "--from",
+    ),
     (["--from", b"\xff"], "recode: a word is not UTF-8\n"),
 ]
+
+# What explains a missing index file, after its message: its path, and the reason.
+MISSING = "recode: %s: %s; set --indexes to the folder of the index files\n"
+ABSENT = "No such file or directory (os error 2)"
 
 # The words, the index files that are there, and what is said of which.
 INDEX_FILES = [
@@ -182,25 +194,34 @@ def index_file_faults():
             for name, text in files.items():
                 with open(os.path.join(folder, "index-%s.txt" % name), "wb") as file:
                     file.write(text)
-            wanted = (3, b"", b"recode: %s\n" % message.encode())
-            for where, words in [(folder, []), (None, ["--indexes", folder])]:
+            name, _, fault = message.partition(": ")
+            for where, path, words in [(folder, ".", []), (None, folder, ["--indexes", folder])]:
+                said = "recode: %s\n" % message + (MISSING % (path + "/" + name, ABSENT) if fault == "missing" else "")
                 words = ["--from", source, "--to", target, *words]
-                yield from differences(words, run(words, b"a", where), wanted)
+                yield from differences(words, run(words, b"a", where), (3, b"", said.encode()))
 
 
 def other_files():
-    """A folder, and a file without an end, in place of an index file; a file, and nothing, in place of the folder."""
-    words = ["--from", "shift_jis", "--to", "utf-8"]
-    wanted = (3, b"", b"recode: index-jis0208.txt: missing\n")
-    for other in (["--indexes", "/dev/null"], ["--indexes", "/dev/none"]):
-        yield from differences(words + other, run(words + other, b"A"), wanted)
+    """A folder, a file without an end and a link to itself in place of an index file; a file, and nothing, in place of the
+    folder."""
+    words, name = ["--from", "shift_jis", "--to", "utf-8"], "index-jis0208.txt"
+
+    def wanted(folder, reason):
+        return 3, b"", ("recode: %s: missing\n" % name + MISSING % (folder + "/" + name, reason)).encode()
+
+    shown = {"/dev/null": "Not a directory (os error 20)", "/dev/none": ABSENT, "/dev/\x1bnone": ABSENT}
+    for other, reason in shown.items():
+        given = [*words, "--indexes", other]
+        yield from differences(given, run(given, b"A"), wanted(other.replace("\x1b", "<U+001B>"), reason))
     with tempfile.TemporaryDirectory() as folder:
-        path = os.path.join(folder, "index-jis0208.txt")
+        path = os.path.join(folder, name)
         os.mkdir(path)
-        yield from differences(words, run(words, b"A", folder), wanted)
+        yield from differences(words, run(words, b"A", folder), wanted(".", "Is a directory (os error 21)"))
         os.rmdir(path)
-        os.symlink("/dev/zero", path)
-        yield from differences(words, run(words, b"A", folder), wanted)
+        for other, reason in [("/dev/zero", "longer than 16777216 bytes"), (name, "Too many levels of symbolic links (os error 40)")]:
+            os.symlink(other, path)
+            yield from differences(words, run(words, b"A", folder), wanted(".", reason))
+            os.remove(path)
 
 
 def text_faults():

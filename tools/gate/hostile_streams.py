@@ -11,9 +11,11 @@ the status is 1 if one failed.
 
 import os
 import select
+import shlex
 import signal
 import subprocess
 import sys
+import tempfile
 import time
 
 from steps import TOP, main
@@ -24,9 +26,23 @@ INDEXES = os.path.join(TOP, "indexes")
 UTF_8 = ["--from", "utf-8", "--to", "utf-8"]
 FROM_JAPANESE = ["--from", "shift_jis", "--to", "utf-8", "--indexes", INDEXES]
 
-READ_FAULT = b"recode: read fault\n"
 WRITE_FAULT = b"recode: write fault\n"
 MALFORMED = b"\xef\xbf\xbd"
+
+# The reasons of the system.
+CLOSED = "Bad file descriptor (os error 9)"
+FULL = "No space left on device (os error 28)"
+IS_FOLDER = "Is a directory (os error 21)"
+WOULD_WAIT = "Resource temporarily unavailable (os error 11)"
+
+
+def read_fault(reason):
+    return ("recode: read fault\nrecode: standard input: %s\n" % reason).encode()
+
+
+def write_fault(reason):
+    return WRITE_FAULT + ("recode: standard output: %s\n" % reason).encode()
+
 
 # No case takes longer, in seconds, but for that of 4 GiB.
 PATIENCE = 30
@@ -56,11 +72,11 @@ def start(words, **streams):
 def broken_streams():
     """Streams that are closed, full, or no streams at all."""
     good, bad = b"abc", b"a\xffb"
-    check("closed output", shell('"$@" >&-', UTF_8, good), (4, b"", WRITE_FAULT))
-    check("full output", shell('"$@" >/dev/full', UTF_8, good), (4, b"", WRITE_FAULT))
-    check("closed output, with an index file", shell('"$@" >&-', FROM_JAPANESE, good), (4, b"", WRITE_FAULT))
-    check("closed output, status 2", shell('"$@" >&-', ["--from", "x", "--to", "x"]),
-          (2, b"", b"recode: unknown label x\n"))
+    check("closed output", shell('"$@" >&-', UTF_8, good), (4, b"", write_fault(CLOSED)))
+    check("full output", shell('"$@" >/dev/full', UTF_8, good), (4, b"", write_fault(FULL)))
+    check("closed output, with an index file", shell('"$@" >&-', FROM_JAPANESE, good), (4, b"", write_fault(CLOSED)))
+    unknown = b"recode: unknown label x\nrecode: --from: no encoding has this label; recode --list prints all labels\n"
+    check("closed output, status 2", shell('"$@" >&-', ["--from", "x", "--to", "x"]), (2, b"", unknown))
     for words in ["--help", "--version", "--list"]:
         check(f"full output of {words}", shell('"$@" >/dev/full', [words]), (0, b"", b""))
     for name, target in [("closed", "&-"), ("full", "/dev/full")]:
@@ -69,16 +85,38 @@ def broken_streams():
         check(f"{name} log, status 2", shell(f'"$@" 2>{target}', ["--from", "x", "--to", "x"]), (2, b"", b""))
         check(f"{name} log and output", shell(f'"$@" >{target} 2>{target}', UTF_8, good), (4, b"", b""))
     check("closed log, status 3", shell('"$@" 2>&-', FROM_JAPANESE[:4]), (3, b"", b""))
-    check("closed input", shell('"$@" <&-', UTF_8), (4, b"", READ_FAULT))
-    check("closed input, with an index file", shell('"$@" <&-', FROM_JAPANESE), (4, b"", READ_FAULT))
-    check("a folder as input", shell('"$@" </', UTF_8), (4, b"", READ_FAULT))
+    check("closed input", shell('"$@" <&-', UTF_8), (4, b"", read_fault(CLOSED)))
+    check("closed input, with an index file", shell('"$@" <&-', FROM_JAPANESE), (4, b"", read_fault(CLOSED)))
+    check("a folder as input", shell('"$@" </', UTF_8), (4, b"", read_fault(IS_FOLDER)))
+    check("a log before a fault", shell('"$@" >/dev/full', UTF_8, b"\xffa"), (4, b"", b"bad 0 1\n" + write_fault(FULL)))
     read, write = os.pipe()
     os.set_blocking(read, False)
     waiting = start(UTF_8, stdin=read)
     out, error = waiting.communicate(timeout=PATIENCE)
-    check("an input that would wait", (waiting.returncode, out, error), (4, b"", READ_FAULT))
+    check("an input that would wait", (waiting.returncode, out, error), (4, b"", read_fault(WOULD_WAIT)))
     os.close(read)
     os.close(write)
+
+
+def one_file():
+    """An output that is the input file: it is refused, and the file stays as the shell left it."""
+    refused = (2, b"", b"recode: standard output is the input file\n")
+    with tempfile.TemporaryDirectory() as folder:
+        path, link, other = (os.path.join(folder, name) for name in ("file", "link", "other"))
+        os.symlink("file", link)
+        # The file is not filled without end by a program that does not look.
+        bounded = "ulimit -f 1000; cd " + shlex.quote(folder) + "; "
+        for script, left in [('<file >>file', b"abc"), ('<file 1<>file', b"abc"), ('<link >>file', b"abc"), ('<file >file', b"")]:
+            with open(path, "wb") as file:
+                file.write(b"abc")
+            got = shell(bounded + '"$@" ' + script, UTF_8)
+            with open(path, "rb") as file:
+                check(f"one file, {script}", (got, file.read()), (refused, left))
+        with open(path, "wb") as file:
+            file.write(b"abc")
+        check("two files", shell(bounded + '"$@" <file >other; cat other', UTF_8), (0, b"abc", b""))
+        check("one file, no conversion", shell(bounded + '"$@" <file >>file; cat file', ["--version"]), (0, b"abcrecode 0.1.0\n", b""))
+        check("one device", shell('"$@" </dev/null >/dev/null', UTF_8), (0, b"", b""))
 
 
 def slow_reader(delay):
@@ -162,6 +200,7 @@ def faults(is_whole=False):
     if not os.path.isfile(PROGRAM):
         return ["%s was not built" % os.path.relpath(PROGRAM, TOP)]
     broken_streams()
+    one_file()
     gone_consumers()
     slow_reader(1 if is_whole else 0)
     long_input(256 << 20)

@@ -143,7 +143,7 @@ def man_parts(usage):
         lines += man_item('.BI %s " %s"' % (word, rest), said)
     yield "log", lines + [".PP", roff(usage.behind("Log"))]
     yield "statuses", man_list(usage, "Exit status")
-    yield "messages", man_list(usage, "Message")
+    yield "messages", man_list(usage, "Message") + [".PP", roff(usage.behind("Message"))]
     yield "names", [roff(usage.names())]
     files = usage.notes["Index files"]
     yield "files", [roff(files[0].upper() + files[1:])]

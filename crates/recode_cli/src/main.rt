@@ -2,16 +2,40 @@
 //! standard error what was lost.
 #![tactic(auto)]
 
-use recode_log::counted::Counted;
-use recode_system::answer;
+mod noted;
+mod reason;
+mod same_file;
+
+use crate::noted::Noted;
+use crate::reason::{Asked, Reason};
+use crate::same_file::is_output_the_input;
+use recode::{Counted, FAULT, NOT_STARTED, REFUSED};
+use recode_system::{SystemFiles, answer};
 use std::process::ExitCode;
 
 fn main(rt: HostRuntime) -> ExitCode {
-    ExitCode::from(answer(
-        &rt,
-        &rt,
-        &mut Counted::new(rt.stdin()),
-        &mut Counted::new(rt.stdout()),
-        &mut Counted::new(rt.stderr()),
-    ))
+    let mut reader = Counted::new(Noted::new(rt.stdin()));
+    let mut writer = Counted::new(Noted::new(rt.stdout()));
+    let mut log = Counted::new(Noted::new(rt.stderr()));
+    if is_output_the_input(&rt) && Asked::of_line(&rt) == Asked::Conversion {
+        Reason::OutputIsInput.explain(rt.alloc(), &mut log);
+        return ExitCode::from(REFUSED);
+    }
+    let mut indexes = SystemFiles::new(&rt);
+    let status = answer(&rt, &mut indexes, &mut reader, &mut writer, &mut log);
+    let reason = match status {
+        REFUSED => match Asked::of_line(&rt) {
+            Asked::UnknownLabel(option) => Some(Reason::Label(option)),
+            _ => None,
+        },
+        NOT_STARTED => indexes.missing.as_ref().map(Reason::Index),
+        FAULT => Reason::of_stream("standard input", &reader)
+            .or(Reason::of_stream("standard output", &writer))
+            .or(Reason::of_stream("standard error", &log)),
+        _ => None,
+    };
+    if let Some(reason) = reason {
+        reason.explain(rt.alloc(), &mut log);
+    }
+    ExitCode::from(status)
 }

@@ -1,8 +1,8 @@
 -- What is done and returned for the words of the command line.
-use Rattle.std.specs.Prelude.{◌≡◌, ◌⊎◌, ⊤, ℕ, List, Option, None, ◌∷◌, [], All, Any, IfSome, codes}
+use Rattle.std.specs.Prelude.{◌≡◌, ◌⊎◌, ⊤, ℕ, List, Option, ◌∷◌, [], All, Any, IfSome, codes}
 use Rattle.std.specs.Str.{IsUtf8}
 use Rattle.recode.specs.Devices.{Ports}
-use Rattle.recode.specs.Program.{AnswersProgram, FailsToStart, IsLeftAlone}
+use Rattle.recode.specs.Program.{AnswersProgram, FailsToStart, FileTexts, IsLeftAlone}
 use Rattle.recode_system.specs.declared.command_line.Wordless.{Wordless}
 use Rattle.recode_system.specs.declared.command_line.Wordless.TheVariants.{NotUtf8, Memory}
 
@@ -29,17 +29,17 @@ pub record RefusesLine {R W L : Type 0} (told : Option (List (List ℕ))) (befor
   pub alone : IsLeftAlone before after
 
 -- Each word is UTF-8, and the program answers the words, those that are known, if they are, or
--- `recode` if there are none, with its status. Nothing is said of what the index files hold.
-pub record AnswersLine {R W L : Type 0} (told : Option (List (List ℕ))) (remaining : R → Option (List ℕ)) (contents : W → Option (List ℕ)) (logged : L → Option (List ℕ)) (before after : Ports R W L) (status : ℕ) : Type 0 where
+-- `recode` if there are none, with its status, and with index files of which the source says this.
+pub record AnswersLine {R W L : Type 0} (told : Option (List (List ℕ))) (holds : FileTexts) (remaining : R → Option (List ℕ)) (contents : W → Option (List ℕ)) (logged : L → Option (List ℕ)) (before after : Ports R W L) (status : ℕ) : Type 0 where
   pub words : List (List ℕ)
   pub given : IfSome told (λ all. words ≡ all)
   pub texts : All IsUtf8 words
-  pub answered : AnswersProgram (λ dir file. None) remaining contents logged before after (words_with_name words) status
+  pub answered : AnswersProgram holds remaining contents logged before after (words_with_name words) status
 
 -- What is done for a command line: one with a word that is not UTF-8 is refused, or the start
 -- fails, or the program answers its words. Each has its status.
-abbrev pub AnswersSystem : {R W L : Type 0} → Option (List (List ℕ)) → (R → Option (List ℕ)) → (W → Option (List ℕ)) → (L → Option (List ℕ)) → Ports R W L → Ports R W L → ℕ → Type 0
-AnswersSystem told remaining contents logged before after status =
+abbrev pub AnswersSystem : {R W L : Type 0} → Option (List (List ℕ)) → FileTexts → (R → Option (List ℕ)) → (W → Option (List ℕ)) → (L → Option (List ℕ)) → Ports R W L → Ports R W L → ℕ → Type 0
+AnswersSystem told holds remaining contents logged before after status =
     RefusesLine told before after status
     ⊎ (FailsToStart before after status
-    ⊎ AnswersLine told remaining contents logged before after status)
+    ⊎ AnswersLine told holds remaining contents logged before after status)

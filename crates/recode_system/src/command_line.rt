@@ -8,12 +8,10 @@ ghost use Rattle.recode.specs.Devices.{ports};
 ghost use Rattle.recode.specs.Program.{TellsSome};
 ghost use Rattle.recode_system.specs.CommandLine.{AnswersSystem, IsWhy, words_with_name};
 
-use crate::system_files::SystemFiles;
-use recode::{NOT_STARTED, REFUSED, program};
+use recode::{IndexSource, NOT_STARTED, REFUSED, program};
 use recode_log::counted::Counted;
 use recode_log::deliver::tell;
 use std::alloc::{AllocError, Global};
-use std::fs::Files;
 use std::io::{Read, Write};
 
 /// Why there are no words.
@@ -74,7 +72,7 @@ fn out_of_memory<L: Write>(log: &mut Counted<L>) -> u8
 }
 
 /// Does what the words of the command line ask for, as `recode::program` says, with the index files
-/// among `files`, and returns the exit status, which is at most 4. The words are those that the
+/// of `indexes`, and returns the exit status, which is at most 4. The words are those that the
 /// command line's contract says, if it says them. If there are none, not even a name, the program
 /// has its own.
 ///
@@ -82,17 +80,18 @@ fn out_of_memory<L: Write>(log: &mut Counted<L>) -> u8
 /// (`NOT_STARTED`) with `recode: out of memory` if memory for the words was refused. The
 /// condition, that at most 2^64 - 5 calls of each device have failed, is tested by
 /// `Counted::failures`.
-pub fn answer<C: CommandLine + AllocGlobal, F: Files, R: Read, W: Write, L: Write>(
+pub fn answer<C: CommandLine + AllocGlobal, S: IndexSource, R: Read, W: Write, L: Write>(
     line: &C,
-    files: &F,
+    indexes: &mut S,
     reader: &mut Counted<R>,
     writer: &mut Counted<W>,
     log: &mut Counted<L>,
 ) -> u8
     requires counts { HaveFailedAtMost (2 ^ 64 - 5)
         (devices_in reader.old writer.old log.old).failures }
-    ensures answered { AnswersSystem (C.told line.now) R.remaining W.contents L.contents
-        (ports reader.old writer.old log.old) (ports reader.new writer.new log.new) result }
+    ensures answered { AnswersSystem (C.told line.now) (S.holds indexes.old) R.remaining W.contents
+        L.contents (ports reader.old writer.old log.old) (ports reader.new writer.new log.new)
+        result }
     ensures status { result ≤ 4 }
 {
     let owned = match line.words(line.alloc()) {
@@ -104,6 +103,5 @@ pub fn answer<C: CommandLine + AllocGlobal, F: Files, R: Read, W: Write, L: Writ
         return out_of_memory(log);
     };
     let words = with_name(words.as_slice());
-    let mut indexes = SystemFiles::new(files);
-    program(line.alloc(), words, &mut indexes, reader, writer, log)
+    program(line.alloc(), words, indexes, reader, writer, log)
 }

@@ -2,14 +2,36 @@
 
 ghost use Rattle.std.specs.Prelude.{◌≡◌, ◌≤◌, ◌^◌, [], IfOk, IfSome, vec_len};
 
-use recode::SourceFault;
 use std::alloc::{AllocError, Global};
 use std::io;
 use std::io::{ErrorKind, Read};
+use thiserror::Error;
 
 // The most bytes that an index file may have: 2^24. The longest of the standard has about a
 // twentieth of them.
 const GREATEST_INDEX_FILE: usize = 16777216;
+
+// Why an index file is not read.
+#[derive(Debug, Drop, Error)]
+pub(crate) enum Unread {
+    // The system refused to open or to read it.
+    #[error("{0}")]
+    System(io::Error),
+    #[error("longer than {most} bytes", most = GREATEST_INDEX_FILE)]
+    TooLong,
+    #[error("out of memory")]
+    Memory,
+}
+
+impl From<io::Error> for Unread {
+    fn from(error: io::Error) -> Unread {
+        if error.kind() == ErrorKind::OutOfMemory {
+            Unread::Memory
+        } else {
+            Unread::System(error)
+        }
+    }
+}
 
 // The room that is asked for before an index file is read. The three longest files of the standard
 // have more: under these the vector grows, to twice and to four times as much. So the text of a
@@ -53,18 +75,14 @@ impl<R: Read> Read for ShortReads<R> {
     }
 }
 
-/// All bytes that the reader gives. The error is `Missing` if a read fails or there are more than
-/// `GREATEST_INDEX_FILE` bytes, of which one more at most is read, and `Memory` if memory was
-/// refused.
-pub(crate) fn read_index_file<R: Read + Drop>(
-    alloc: Global,
-    reader: R,
-) -> Result<Vec<u8>, SourceFault>
+/// All bytes that the reader gives. The error is `TooLong` if there are more than
+/// `GREATEST_INDEX_FILE`, of which one more at most is read.
+pub(crate) fn read_index_file<R: Read + Drop>(alloc: Global, reader: R) -> Result<Vec<u8>, Unread>
     ensures whole { IfOk result (λ bytes. IfSome (R.remaining reader) (λ all. bytes.items ≡ all)) }
     ensures size { IfOk result (λ bytes. vec_len bytes ≤ 2 ^ 24) }
 {
     let Ok(mut bytes) = empty_text(alloc) else {
-        return Err(SourceFault::Memory);
+        return Err(Unread::Memory);
     };
     let short = ShortReads { inner: reader };
     match short
@@ -72,7 +90,7 @@ pub(crate) fn read_index_file<R: Read + Drop>(
         .read_to_end(&mut bytes)
     {
         Ok(count) if count <= GREATEST_INDEX_FILE => Ok(bytes),
-        Err(error) if error.kind() == ErrorKind::OutOfMemory => Err(SourceFault::Memory),
-        _ => Err(SourceFault::Missing),
+        Ok(_) => Err(Unread::TooLong),
+        Err(error) => Err(Unread::from(error)),
     }
 }

@@ -3,10 +3,11 @@
 //!
 //! # Use
 //!
+//!     let mut indexes = SystemFiles::new(&rt);
 //!     let mut reader = Counted::new(rt.stdin());
 //!     let mut writer = Counted::new(rt.stdout());
 //!     let mut log = Counted::new(rt.stderr());
-//!     let status = answer(&rt, &rt, &mut reader, &mut writer, &mut log);
+//!     let status = answer(&rt, &mut indexes, &mut reader, &mut writer, &mut log);
 //!
 //! `status` is the exit status. `rt` is what `main` is given: it has the words, the files and the
 //! allocator.
@@ -19,4 +20,4 @@ mod system_files;
 mod system_words;
 
 pub use command_line::{CommandLine, Wordless, answer};
-pub use system_files::SystemFiles;
+pub use system_files::{MissingFile, SystemFiles};

@@ -1,7 +1,7 @@
 //! The examples of the engine (`recode`), and of the program as one call (`recode_system`).
 
 use recode::{Buffers, Counted, Encoding, GREATEST_LIMIT, Job, Mark, Pivot, Policy, Tables, run};
-use recode_system::answer;
+use recode_system::{SystemFiles, answer};
 use std::alloc::Global;
 
 pub(crate) fn converts_a_stream(alloc: Global) -> anyhow::Result<bool> {
@@ -41,10 +41,11 @@ pub(crate) fn converts_a_stream(alloc: Global) -> anyhow::Result<bool> {
 
 pub(crate) fn answers_words(rt: HostRuntime) -> anyhow::Result<u8> {
     // recode_system
+    let mut indexes = SystemFiles::new(&rt);
     let mut reader = Counted::new(rt.stdin());
     let mut writer = Counted::new(rt.stdout());
     let mut log = Counted::new(rt.stderr());
-    let status = answer(&rt, &rt, &mut reader, &mut writer, &mut log);
+    let status = answer(&rt, &mut indexes, &mut reader, &mut writer, &mut log);
     // end
     Ok(status)
 }
