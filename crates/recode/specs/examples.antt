@@ -11,3 +11,4 @@ pub mod Work
 pub mod Converter
 pub mod Turns
 pub mod Step
+pub mod Session

@@ -1,19 +1,23 @@
--- Worked rows of `specs/Converter.antt`.
-use Rattle.std.specs.Prelude.{◌≡◌, ℕ, List, [], ◌∷◌, codes, false, map, refl, true}
+-- Worked rows of `specs/Converter.antt`, and wrong outcomes that it refuses.
+use Rattle.std.specs.Prelude.{◌≡◌, ℕ, ◌+◌, ◌<◌, List, [], ◌∷◌, Bool, IsTrue, codes, false, map, refl, true}
 use Rattle.std.specs.Borrow.{Bor}
 use Rattle.std.specs.Fmt.{digits}
-use Rattle.std.proofs.Common.{arith}
-use Rattle.encoding_mem.specs.Items.{Byte, LostAt, MalformedAt}
-use Rattle.encoding_mem.specs.Piece.{malformed, text, well_formed}
+use Rattle.std.proofs.Common.{ap, arith, sym, ◌∙◌}
+use Rattle.encoding_mem.specs.Coding.{lost_count}
+use Rattle.encoding_mem.specs.Items.{Byte, Item, LostAt, MalformedAt}
+use Rattle.encoding_mem.specs.Piece.{malformed, malformed_count, text, well_formed}
+use Rattle.encoding_mem.specs.laws.Piece.{well_formed_count}
 use Rattle.encoding_mem.specs.declared.codec.reference.Reference.TheVariants.{Decimal, Hexadecimal}
 use Rattle.recode_log.specs.declared.line.LogLine.TheVariants.{Bad, Lost}
 use Rattle.encoding_tables.specs.IndexLists.{IndexLists}
-use Rattle.recode.specs.Converter.{ConverterEndsWith, ConverterView, found_items, is_all_converted, saved_job}
+use Rattle.recode.specs.Converter.{ConverterEndsWith, ConverterView, ConvertsPart, IsReportButCalls, found_items, is_all_converted, owes, saved_job}
+use Rattle.recode.specs.Job.{input_pieces, input_text, target_of}
 use Rattle.recode.specs.SavedConverters.{job_with}
 use Rattle.recode.specs.State.{State, characters_with, characters_after, text_after}
 use Rattle.recode.specs.declared.converter.ConverterResult.TheVariants.{Found, InputEmpty, OutputFull}
 use Rattle.recode.specs.declared.converter.saved_converter.SavedJob.{SavedJob}
 use Rattle.recode.specs.declared.job.Job.{Job}
+use Rattle.recode.specs.declared.job.Report.{Report}
 
 -- two bytes at offset 3 are malformed: nothing but their line is found
 malformed_is_found : found_items Decimal (Found (Bad 3 2)) ≡ MalformedAt 3 2 ∷ []
@@ -67,3 +71,67 @@ words_of_a_job w tables = refl
 
 job_of_words : (j : Job) → job_with (saved_job j) j.tables ≡ j
 job_of_words j = refl
+
+-- ---- wrong outcomes
+
+-- all that was handed in as the last is converted, and the conversion is not over
+last_is_not_over : (v : ConverterView) (free : ℕ) → ConverterEndsWith v [] true free InputEmpty → v.over ≡ false → ⊥
+last_is_not_over v free h open_ = let over : v.over ≡ true = h.over in cc
+
+-- more may be handed in, and the conversion is over
+over_before_the_last : (v : ConverterView) (free : ℕ) → ConverterEndsWith v [] false free InputEmpty → v.over ≡ true → ⊥
+over_before_the_last v free h over = let open_ : v.over ≡ false = h.over in cc
+
+-- all is said to be converted, and a byte is not read
+unread_byte : (v : ConverterView) (last : Bool) (free : ℕ) → ConverterEndsWith v (0x41 ∷ []) last free InputEmpty → ⊥
+unread_byte v last free h = let none : 0x41 ∷ [] ≡ [] = h.all in cc
+
+-- all is said to be converted, and a piece waits to be written
+waiting_piece : (v : ConverterView) (last : Bool) (free : ℕ) → ConverterEndsWith v [] last free InputEmpty → v.waiting ≡ malformed 2 ∷ [] → ⊥
+waiting_piece v last free h waits = let none : v.waiting ≡ [] = h.none in cc
+
+-- a malformed sequence without a byte is found
+empty_sequence : (v : ConverterView) (last : Bool) (free : ℕ) → ConverterEndsWith v [] last free (Found (Bad 3 0)) → ⊥
+empty_sequence v last free h = absurd (omega (arith, h.0.1))
+
+-- a line is counted twice
+counted_twice : (v v' : ConverterView) (last : Bool) (bytes rest : List ℕ) → ConvertsPart v v' last bytes rest (found_items Decimal (Found (Bad 3 2)))
+    → v'.state.counts.bad ≡ v.state.counts.bad + 2 → ⊥
+counted_twice v v' last bytes rest h twice = absurd (omega (arith, twice, h.lines.bad))
+
+-- a line is not counted
+not_counted : (v v' : ConverterView) (last : Bool) (bytes rest : List ℕ) → ConvertsPart v v' last bytes rest (found_items Decimal (Found (Lost 1 0xE8)))
+    → v'.state.counts.lost ≡ v.state.counts.lost → ⊥
+unfolding digits
+not_counted v v' last bytes rest h same = absurd (omega (arith, same, h.lines.lost))
+
+-- a byte is read and lost: it was to be written, and neither was nor will be
+byte_is_lost : (v v' : ConverterView) (last : Bool) → ConvertsPart v v' last (0x41 ∷ []) [] [] → owes v (0x41 ∷ []) ≡ Byte 0x41 ∷ [] → owes v' [] ≡ [] → ⊥
+byte_is_lost v v' last h owed none = let same : owes v (0x41 ∷ []) ≡ owes v' [] = h.owed [] (λ end. refl) in let one : Byte 0x41 ∷ [] ≡ [] = sym owed ∙ (same ∙ none) in cc
+
+-- a byte is written twice: by this call, and by those to come
+byte_is_written_twice : (v v' : ConverterView) (last : Bool) → ConvertsPart v v' last (0x41 ∷ []) [] (Byte 0x41 ∷ []) → owes v (0x41 ∷ []) ≡ Byte 0x41 ∷ []
+    → owes v' [] ≡ Byte 0x41 ∷ [] → ⊥
+byte_is_written_twice v v' last h owed again =
+    let same : owes v (0x41 ∷ []) ≡ Byte 0x41 ∷ owes v' [] = h.owed [] (λ end. refl) in
+    let one : Byte 0x41 ∷ [] ≡ Byte 0x41 ∷ (Byte 0x41 ∷ []) = sym owed ∙ (same ∙ ap (λ (l : List Item). Byte 0x41 ∷ l) again) in cc
+
+-- something was lost, and after the last call nothing was
+verdict_is_true_again : (v v' : ConverterView) (bytes : List ℕ) (items : List Item) (free : ℕ) → ConvertsPart v v' true bytes [] items → ConverterEndsWith v' [] true free InputEmpty
+    → v.state.verdict.faithful ≡ false → v'.state.verdict.faithful ≡ true → ⊥
+verdict_is_true_again v v' bytes items free h ends lost kept =
+    let was : v.state.verdict.faithful ≡ true = ((h.verdict [] (λ end. refl)).1 ((ends.whole refl).told.1 kept)).0 in cc
+
+-- the end is read, though more bytes are to come
+ended_before_the_last : (v v' : ConverterView) (bytes rest : List ℕ) (items : List Item) → ConvertsPart v v' false bytes rest items → v'.ended ≡ true → ⊥
+ended_before_the_last v v' bytes rest items h ended = let last : false ≡ true = (h.ended ended).0 in cc
+
+-- a report has a malformed sequence, and calls the conversion faithful
+malformed_but_faithful : (j : Job) (x : List ℕ) (p : Report) → IsReportButCalls j x p → 0 < p.bad → IsTrue p.faithful → ⊥
+malformed_but_faithful j x p h some said =
+    let none : malformed_count (input_pieces j x) ≡ 0 = well_formed_count (input_pieces j x) (h.faithful.0 said).source in
+    absurd (omega (arith, some, none, h.bad))
+
+-- a report has one lost character less than the text
+one_loss_less : (j : Job) (x : List ℕ) (p : Report) → IsReportButCalls j x p → p.lost + 1 ≡ lost_count (target_of j) (input_text j x) → ⊥
+one_loss_less j x p h less = absurd (omega (arith, less, h.lost))

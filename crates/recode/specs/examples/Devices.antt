@@ -1,7 +1,7 @@
 -- Worked rows of `specs/Devices.antt` and `specs/Fault.antt`.
-use Rattle.std.proofs.Common.{[], ◌∷◌, true, arith, refl}
+use Rattle.std.proofs.Common.{◌≡◌, ◌+◌, [], ◌∷◌, Ok, Err, true, arith, refl}
 use Rattle.recode_log.specs.Call.{Flush, Passed}
-use Rattle.recode.specs.Devices.{Gave, GaveThen, GaveToEnd, Grew, HaveFailedAtMost}
+use Rattle.recode.specs.Devices.{CountsFault, Devices, Gave, GaveThen, GaveToEnd, Grew, HaveFailedAtMost}
 use Rattle.recode.specs.Fault.{EndsAtFault}
 use Rattle.recode.specs.declared.job.Fault.TheVariants.{Write}
 
@@ -32,3 +32,11 @@ have_failed_at_most-four h = omega (arith, h.reader)
 -- a flush of the writer fails
 ends_at_fault-flush : EndsAtFault (Passed 1 (1 ∷ []) ∷ Flush true ∷ []) [] Write
 ends_at_fault-flush = record { earlier = Passed 1 (1 ∷ []) ∷ []; last = Flush true; ends = refl; failed = refl }
+
+-- a write failed, and no fault is returned
+failed_write_is_passed_over : (before after : Devices) → CountsFault {T = Unit {0}} before after (Ok tt) → after.failures.writer ≡ before.failures.writer + 1 → ⊥
+failed_write_is_passed_over before after h more = absurd (omega (arith, more, h.writer))
+
+-- a write fault is returned, and no write failed
+fault_without_a_failed_call : (before after : Devices) → CountsFault {T = Unit {0}} before after (Err Write) → after.failures.writer ≡ before.failures.writer → ⊥
+fault_without_a_failed_call before after h same = absurd (omega (arith, same, h.writer))

@@ -16,6 +16,7 @@ use Rattle.encoding_front.specs.Encodings.{coding_of}
 use Rattle.encoding_front.specs.declared.encoding.Encoding.{Encoding}
 use Rattle.recode_log.specs.declared.line.LogLine.TheVariants.{Bad, Lost}
 use Rattle.recode.specs.Conversion.{message_of}
+use Rattle.recode.specs.Session.{IsReport}
 use Rattle.recode.specs.Job.{log_lines, Faithful, input_pieces, log_of, output_of, source_in, trace, lines_up_to_loss}
 use Rattle.std.proofs.Common.{ap}
 use Rattle.encoding_mem.specs.Items.{Byte, MalformedAt, LostAt}
@@ -24,6 +25,7 @@ use Rattle.encoding_front.specs.declared.mark.Mark.TheVariants.{Sniff, Remove, K
 use Rattle.recode.specs.declared.job.Fault.TheVariants.{Unmappable}
 use Rattle.recode.specs.declared.job.Job.{Job}
 use Rattle.recode.specs.declared.job.Policy.{Policy}
+use Rattle.recode.specs.declared.job.Report.{Report}
 
 -- U+20AC at pointer 0, U+00E9 at 105
 two : List ℕ
@@ -289,6 +291,19 @@ begins_with_yen text = slice_index text 0 == 0xA5
 unfaithful_yen_sign : (j : Job) → ¬ (Faithful (job j no_tables Encoding.Utf8 Encoding.ShiftJis Sniff) (0xC2 ∷ 0xA5 ∷ []))
 unfolding pieces_in begins_with_yen
 unfaithful_yen_sign j faithful = let same : false ≡ true = ap begins_with_yen faithful.same in absurd (cc same)
+
+-- it is called faithful, since the log is empty
+yen_sign_is_called_faithful : (j : Job) (p : Report) → IsReport (job j no_tables Encoding.Utf8 Encoding.ShiftJis Sniff) (0xC2 ∷ 0xA5 ∷ []) p → p.faithful ≡ true → ⊥
+yen_sign_is_called_faithful j p h said = unfaithful_yen_sign j (h.faithful.0 said)
+
+-- a mark that is kept is text, in the output too
+faithful_mark : (j : Job) → Faithful (job j no_tables Encoding.Utf8 Encoding.Utf8 Keep) (0xEF ∷ 0xBB ∷ 0xBF ∷ 0x41 ∷ [])
+unfolding pieces_in encode_utf8
+faithful_mark j = record { source = (tt, (tt, tt)); target = (tt, (tt, tt)); same = refl }
+
+-- the output is read back without its mark, and called unfaithful
+mark_is_called_lost : (j : Job) (p : Report) → IsReport (job j no_tables Encoding.Utf8 Encoding.Utf8 Keep) (0xEF ∷ 0xBB ∷ 0xBF ∷ 0x41 ∷ []) p → p.faithful ≡ false → ⊥
+mark_is_called_lost j p h said = let kept : p.faithful ≡ true = h.faithful.1 (faithful_mark j) in cc
 
 -- a malformed sequence is not kept, although U+FFFD is
 unfaithful_input : (j : Job) → ¬ (Faithful (job j no_tables Encoding.Utf8 Encoding.Utf8 Sniff) (0x61 ∷ 0xFF ∷ []))

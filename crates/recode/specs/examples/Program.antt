@@ -1,4 +1,4 @@
--- Worked rows: indexes that stay as they are, and none from a folder without files.
+-- Worked rows: indexes that stay as they are and some that do not, and none from a folder without files.
 use Rattle.std.specs.Prelude.{◌≡◌, ◌∷◌, [], ℕ, List, Option, None, Some, refl}
 use Rattle.encoding_tables.specs.IndexLists.{IndexLists}
 use Rattle.encoding_tables.specs.declared.index_kind.IndexKind.TheVariants.{Gb18030Ranges, Ibm866}
@@ -21,6 +21,10 @@ other_list h = apart 233 [] (h Ibm866 refl)
   where
     apart : (scalar : ℕ) (rest : List ℕ) → Some (scalar ∷ rest) ≡ Some [] → ⊥
     apart scalar rest e = cc
+
+-- the index that was there is gone
+no_list : AreKept (tables_of (Some []) None) (tables_of None None) → ⊥
+no_list h = let same : None ≡ Some [] = h Ibm866 refl in cc
 
 -- from a folder without files no index is loaded
 nothing_is_loaded : AreOfFiles (λ dir file. Some None) [] (tables_of (Some []) None) → ⊥
