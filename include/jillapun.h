@@ -7,22 +7,23 @@
  * all else it tests, and tells by what it returns.
  *
  * Pointers and lengths. A pointer and the length after it, as `src` and `src_len`, are so many
- * elements of memory (elements, not bytes). A pointer is never NULL, even if the length is 0: hand
- * in the address of any object. Memory that a call may write to, by a pointer without `const`,
- * overlaps nothing else that is handed in. While the call runs, no other thread writes to what is
- * handed in, or reads what the call may write to. Units of UTF-16 stand at even addresses, and
- * structs are aligned as their type needs. Memory that a call writes to need not be initialised,
- * except a handle, a text (`_to_str`), and what a call changes in place (`jillapun_join_loss`,
- * `jillapun_join_reports`, `jillapun_mem_ensure_utf16_validity`). A `bool` is 0 or 1.
+ * elements of memory (elements, not bytes). The pointer may be NULL if the length is 0; no other
+ * pointer may. Memory that a call may write to, by a pointer without `const`, overlaps nothing else
+ * that is handed in. While the call runs, no other thread writes to what is handed in, or reads
+ * what the call may write to. Units of UTF-16 stand at even addresses, and structs are aligned as
+ * their type needs. Memory that a call writes to need not be initialised, except a handle, a text
+ * (`_to_str`), and what a call changes in place (`jillapun_join_loss`, `jillapun_join_reports`,
+ * `jillapun_mem_ensure_utf16_validity`). A `bool` is 0 or 1.
  *
  * Handles. A handle, a struct with members that begin with `private_`, begins as `{0}` (in C++, as
- * `{}`), and is filled by a function with `_new` in its name. Its members are left alone: nothing
- * but calls of this library writes to them. There is nothing to free. A handle may be moved, and
- * copied within the process: a copy of a decoder, an encoder or a converter is at the same place of
- * its stream, and independent of the original. Two threads may use two handles at once, but not the
- * same one, unless its type says that they may. A call that takes a handle by a pointer to `const`
- * writes nothing to it: any number of such calls may be made with one handle at once, while no
- * other call is, and nothing else writes to it.
+ * `{}`), and is filled by a function with `_new` in its name; if no decoder, encoder or converter
+ * could be made, its handle holds none. Its members are left alone: nothing but calls of this
+ * library writes to them. There is nothing to free. A handle may be moved, and copied within the
+ * process: a copy of a decoder, an encoder or a converter is at the same place of its stream, and
+ * independent of the original. Two threads may use two handles at once, but not the same one,
+ * unless its type says that they may. A call that takes a handle by a pointer to `const` writes
+ * nothing to it: any number of such calls may be made with one handle at once, while no other call
+ * is, and nothing else writes to it.
  *
  * Lengths. A function that writes and returns a length has written nothing if that is greater than
  * the room: so much is wanted. SIZE_MAX stands in place of a length if there is none; nothing was
@@ -55,6 +56,9 @@ typedef char16_t jillapun_char16;
 #else
 typedef uint16_t jillapun_char16;
 #endif
+
+/** What a call returns that tells how it went: `JILLAPUN_OK` or another of the numbers below. */
+typedef uint8_t jillapun_status;
 
 /* What a call returns: its status. */
 enum {
@@ -261,7 +265,7 @@ enum {
     JILLAPUN_X_USER_DEFINED = 39
 };
 
-/** So many bytes from an address on. It is not NULL. */
+/** So many bytes from an address on. It may be NULL if `len` is 0. */
 typedef struct {
     const uint8_t *at;
     size_t len;
@@ -644,7 +648,7 @@ size_t jillapun_needs(uint8_t encoding, size_t place, uint8_t *name, size_t name
  * `JILLAPUN_NOT_READY`, one is missing; `JILLAPUN_UNKNOWN`, no encoding has the number. UTF-8,
  * UTF-16BE, UTF-16LE, replacement and x-user-defined need none.
  */
-uint8_t jillapun_tables_is_ready(jillapun_tables tables, uint8_t encoding);
+jillapun_status jillapun_tables_is_ready(jillapun_tables tables, uint8_t encoding);
 
 /* The exports that load tables. */
 
@@ -663,7 +667,7 @@ uint8_t jillapun_tables_is_ready(jillapun_tables tables, uint8_t encoding);
  * index that is wanted later is loaded into a handle of its own: a decoder or an encoder needs
  * none but those of its encoding, and a conversion those of both encodings, in one handle.
  */
-uint8_t jillapun_tables_new(const jillapun_index_file *files, size_t files_len,
+jillapun_status jillapun_tables_new(const jillapun_index_file *files, size_t files_len,
     jillapun_tables *out, jillapun_index_fault *fault);
 
 /* The exports that decode streams. */
@@ -673,12 +677,12 @@ uint8_t jillapun_tables_new(const jillapun_index_file *files, size_t files_len,
  * becomes of a byte order mark at its start. `tables` may be `{0}` if the encoding needs no
  * index. What `out` held is overwritten, whether or not its stream has ended.
  *
- * Returns `JILLAPUN_OK`, and `out` holds the decoder. Else nothing is made, and `out` stays as
- * it is: `JILLAPUN_UNKNOWN`, no encoding or no handling of marks has the number;
+ * Returns `JILLAPUN_OK`, and `out` holds the decoder. Else nothing is made, and `out` holds
+ * none, as `{0}`: `JILLAPUN_UNKNOWN`, no encoding or no handling of marks has the number;
  * `JILLAPUN_NOT_READY`, the tables lack an index of the encoding, or there are none and it
  * needs one.
  */
-uint8_t jillapun_decoder_new(jillapun_tables tables, uint8_t encoding, uint8_t mark,
+jillapun_status jillapun_decoder_new(jillapun_tables tables, uint8_t encoding, uint8_t mark,
     jillapun_decoder *out);
 
 /* What a decoder reports of itself. */
@@ -698,7 +702,8 @@ uint8_t jillapun_decoder_encoding(const jillapun_decoder *decoder);
  * Returns `JILLAPUN_OK`. Else `length` is 0: `JILLAPUN_CLOSED`, the handle holds no decoder;
  * `JILLAPUN_FINISHED`, the stream has ended.
  */
-uint8_t jillapun_decoder_max_utf8_length(const jillapun_decoder *decoder, size_t n, size_t *length);
+jillapun_status jillapun_decoder_max_utf8_length(const jillapun_decoder *decoder, size_t n,
+    size_t *length);
 
 /**
  * Reports in `length` how many bytes of UTF-8 are room enough for the text of `n` more bytes up
@@ -706,15 +711,15 @@ uint8_t jillapun_decoder_max_utf8_length(const jillapun_decoder *decoder, size_t
  * `size_t`. What is pending counts too. What is returned is as of
  * `jillapun_decoder_max_utf8_length`.
  */
-uint8_t jillapun_decoder_max_utf8_length_without_replacement(const jillapun_decoder *decoder,
-    size_t n, size_t *length);
+jillapun_status jillapun_decoder_max_utf8_length_without_replacement(
+    const jillapun_decoder *decoder, size_t n, size_t *length);
 
 /**
  * Reports in `length` how many units of UTF-16 are room enough for the text of `n` more bytes,
  * with U+FFFD for each malformed sequence; `SIZE_MAX` if the number passes a `size_t`. What is
  * pending counts too. What is returned is as of `jillapun_decoder_max_utf8_length`.
  */
-uint8_t jillapun_decoder_max_utf16_length(const jillapun_decoder *decoder, size_t n,
+jillapun_status jillapun_decoder_max_utf16_length(const jillapun_decoder *decoder, size_t n,
     size_t *length);
 
 /**
@@ -729,7 +734,7 @@ uint8_t jillapun_decoder_max_utf16_length(const jillapun_decoder *decoder, size_
  * Returns `JILLAPUN_OK`. Else `length` is 0: `JILLAPUN_CLOSED`, the handle holds no decoder;
  * `JILLAPUN_FINISHED`, the stream has ended.
  */
-uint8_t jillapun_decoder_latin1_byte_compatible_up_to(const jillapun_decoder *decoder,
+jillapun_status jillapun_decoder_latin1_byte_compatible_up_to(const jillapun_decoder *decoder,
     const uint8_t *bytes, size_t bytes_len, size_t *length);
 
 /* The exports that decode to UTF-8 over a text. */
@@ -742,7 +747,7 @@ uint8_t jillapun_decoder_latin1_byte_compatible_up_to(const jillapun_decoder *de
  * looks at three, and it changes those at their start that go on with a character (80 to BF),
  * whether or not `dst` was UTF-8.
  */
-uint8_t jillapun_decoder_decode_to_str(jillapun_decoder *decoder, const uint8_t *src,
+jillapun_status jillapun_decoder_decode_to_str(jillapun_decoder *decoder, const uint8_t *src,
     size_t src_len, uint8_t *dst, size_t dst_len, bool last, jillapun_progress *progress);
 
 /**
@@ -751,7 +756,7 @@ uint8_t jillapun_decoder_decode_to_str(jillapun_decoder *decoder, const uint8_t 
  * `jillapun_decoder_decode_to_utf8_without_replacement`, but that what was UTF-8 stays UTF-8,
  * as with `jillapun_decoder_decode_to_str`.
  */
-uint8_t jillapun_decoder_decode_to_str_without_replacement(jillapun_decoder *decoder,
+jillapun_status jillapun_decoder_decode_to_str_without_replacement(jillapun_decoder *decoder,
     const uint8_t *src, size_t src_len, uint8_t *dst, size_t dst_len, bool last,
     jillapun_progress *progress);
 
@@ -771,7 +776,7 @@ uint8_t jillapun_decoder_decode_to_str_without_replacement(jillapun_decoder *dec
  * Else nothing is done, and all of `progress` is 0: `JILLAPUN_CLOSED`, the handle holds no
  * decoder; `JILLAPUN_FINISHED`, the stream has ended.
  */
-uint8_t jillapun_decoder_decode_to_utf16(jillapun_decoder *decoder, const uint8_t *src,
+jillapun_status jillapun_decoder_decode_to_utf16(jillapun_decoder *decoder, const uint8_t *src,
     size_t src_len, jillapun_char16 *dst, size_t dst_len, bool last, jillapun_progress *progress);
 
 /**
@@ -792,7 +797,7 @@ uint8_t jillapun_decoder_decode_to_utf16(jillapun_decoder *decoder, const uint8_
  * Else nothing is done, and all of `progress` is 0: `JILLAPUN_CLOSED`, the handle holds no
  * decoder; `JILLAPUN_FINISHED`, the stream has ended.
  */
-uint8_t jillapun_decoder_decode_to_utf16_without_replacement(jillapun_decoder *decoder,
+jillapun_status jillapun_decoder_decode_to_utf16_without_replacement(jillapun_decoder *decoder,
     const uint8_t *src, size_t src_len, jillapun_char16 *dst, size_t dst_len, bool last,
     jillapun_progress *progress);
 
@@ -812,7 +817,7 @@ uint8_t jillapun_decoder_decode_to_utf16_without_replacement(jillapun_decoder *d
  * Else nothing is done, and all of `progress` is 0: `JILLAPUN_CLOSED`, the handle holds no
  * decoder; `JILLAPUN_FINISHED`, the stream has ended.
  */
-uint8_t jillapun_decoder_decode_to_utf8(jillapun_decoder *decoder, const uint8_t *src,
+jillapun_status jillapun_decoder_decode_to_utf8(jillapun_decoder *decoder, const uint8_t *src,
     size_t src_len, uint8_t *dst, size_t dst_len, bool last, jillapun_progress *progress);
 
 /**
@@ -833,7 +838,7 @@ uint8_t jillapun_decoder_decode_to_utf8(jillapun_decoder *decoder, const uint8_t
  * Else nothing is done, and all of `progress` is 0: `JILLAPUN_CLOSED`, the handle holds no
  * decoder; `JILLAPUN_FINISHED`, the stream has ended.
  */
-uint8_t jillapun_decoder_decode_to_utf8_without_replacement(jillapun_decoder *decoder,
+jillapun_status jillapun_decoder_decode_to_utf8_without_replacement(jillapun_decoder *decoder,
     const uint8_t *src, size_t src_len, uint8_t *dst, size_t dst_len, bool last,
     jillapun_progress *progress);
 
@@ -844,11 +849,12 @@ uint8_t jillapun_decoder_decode_to_utf8_without_replacement(jillapun_decoder *de
  * Encoding Standard, section 4.3). `tables` may be `{0}` if the output encoding needs no index.
  * What `out` held is overwritten.
  *
- * Returns `JILLAPUN_OK`, and `out` holds the encoder. Else nothing is made, and `out` stays as
- * it is: `JILLAPUN_UNKNOWN`, no encoding has the number; `JILLAPUN_NOT_READY`, the tables lack
- * an index of the output encoding, or there are none and it needs one.
+ * Returns `JILLAPUN_OK`, and `out` holds the encoder. Else nothing is made, and `out` holds
+ * none, as `{0}`: `JILLAPUN_UNKNOWN`, no encoding has the number; `JILLAPUN_NOT_READY`, the
+ * tables lack an index of the output encoding, or there are none and it needs one.
  */
-uint8_t jillapun_encoder_new(jillapun_tables tables, uint8_t encoding, jillapun_encoder *out);
+jillapun_status jillapun_encoder_new(jillapun_tables tables, uint8_t encoding,
+    jillapun_encoder *out);
 
 /* What an encoder reports of itself. */
 
@@ -870,32 +876,32 @@ bool jillapun_encoder_has_pending_state(const jillapun_encoder *encoder);
  *
  * Returns `JILLAPUN_OK`; or `JILLAPUN_CLOSED`, and `length` is 0: the handle holds no encoder.
  */
-uint8_t jillapun_encoder_max_length_from_utf8_if_no_unmappables(const jillapun_encoder *encoder,
-    size_t n, size_t *length);
+jillapun_status jillapun_encoder_max_length_from_utf8_if_no_unmappables(
+    const jillapun_encoder *encoder, size_t n, size_t *length);
 
 /**
  * Reports in `length` how many bytes are room enough for what `n` bytes of UTF-8 are encoded to
  * without replacement, and for the last escape; `SIZE_MAX` if the number passes a `size_t`.
  * What is returned is as of `jillapun_encoder_max_length_from_utf8_if_no_unmappables`.
  */
-uint8_t jillapun_encoder_max_length_from_utf8_without_replacement(const jillapun_encoder *encoder,
-    size_t n, size_t *length);
+jillapun_status jillapun_encoder_max_length_from_utf8_without_replacement(
+    const jillapun_encoder *encoder, size_t n, size_t *length);
 
 /**
  * Reports in `length` how many bytes are room enough for what `n` units of UTF-16 are encoded
  * to with references, if each character has bytes; `SIZE_MAX` if the number passes a `size_t`.
  * What is returned is as of `jillapun_encoder_max_length_from_utf8_if_no_unmappables`.
  */
-uint8_t jillapun_encoder_max_length_from_utf16_if_no_unmappables(const jillapun_encoder *encoder,
-    size_t n, size_t *length);
+jillapun_status jillapun_encoder_max_length_from_utf16_if_no_unmappables(
+    const jillapun_encoder *encoder, size_t n, size_t *length);
 
 /**
  * Reports in `length` how many bytes are room enough for what `n` units of UTF-16 are encoded
  * to without replacement, and for the last escape; `SIZE_MAX` if the number passes a `size_t`.
  * What is returned is as of `jillapun_encoder_max_length_from_utf8_if_no_unmappables`.
  */
-uint8_t jillapun_encoder_max_length_from_utf16_without_replacement(const jillapun_encoder *encoder,
-    size_t n, size_t *length);
+jillapun_status jillapun_encoder_max_length_from_utf16_without_replacement(
+    const jillapun_encoder *encoder, size_t n, size_t *length);
 
 /* The exports that encode UTF-16. */
 
@@ -913,8 +919,9 @@ uint8_t jillapun_encoder_max_length_from_utf16_without_replacement(const jillapu
  * Else nothing is done, and all of `progress` is 0: `JILLAPUN_CLOSED`, the handle holds no
  * encoder.
  */
-uint8_t jillapun_encoder_encode_from_utf16(jillapun_encoder *encoder, const jillapun_char16 *text,
-    size_t text_len, uint8_t *dst, size_t dst_len, bool last, jillapun_encoder_progress *progress);
+jillapun_status jillapun_encoder_encode_from_utf16(jillapun_encoder *encoder,
+    const jillapun_char16 *text, size_t text_len, uint8_t *dst, size_t dst_len, bool last,
+    jillapun_encoder_progress *progress);
 
 /**
  * Encodes the next part of a text in UTF-16, up to the first character that has no bytes.
@@ -933,7 +940,7 @@ uint8_t jillapun_encoder_encode_from_utf16(jillapun_encoder *encoder, const jill
  * Else nothing is done, and all of `progress` is 0: `JILLAPUN_CLOSED`, the handle holds no
  * encoder.
  */
-uint8_t jillapun_encoder_encode_from_utf16_without_replacement(jillapun_encoder *encoder,
+jillapun_status jillapun_encoder_encode_from_utf16_without_replacement(jillapun_encoder *encoder,
     const jillapun_char16 *text, size_t text_len, uint8_t *dst, size_t dst_len, bool last,
     jillapun_encoder_progress *progress);
 
@@ -961,7 +968,7 @@ uint8_t jillapun_encoder_encode_from_utf16_without_replacement(jillapun_encoder 
  * malformed sequence, or with a character of which the end is not there; if it does not,
  * `JILLAPUN_CLOSED`, the handle holds no encoder.
  */
-uint8_t jillapun_encoder_encode_from_utf8(jillapun_encoder *encoder, const uint8_t *text,
+jillapun_status jillapun_encoder_encode_from_utf8(jillapun_encoder *encoder, const uint8_t *text,
     size_t text_len, uint8_t *dst, size_t dst_len, bool last, jillapun_encoder_progress *progress);
 
 /**
@@ -985,7 +992,7 @@ uint8_t jillapun_encoder_encode_from_utf8(jillapun_encoder *encoder, const uint8
  * malformed sequence, or with a character of which the end is not there; if it does not,
  * `JILLAPUN_CLOSED`, the handle holds no encoder.
  */
-uint8_t jillapun_encoder_encode_from_utf8_without_replacement(jillapun_encoder *encoder,
+jillapun_status jillapun_encoder_encode_from_utf8_without_replacement(jillapun_encoder *encoder,
     const uint8_t *text, size_t text_len, uint8_t *dst, size_t dst_len, bool last,
     jillapun_encoder_progress *progress);
 
@@ -1006,8 +1013,8 @@ uint8_t jillapun_encoder_encode_from_utf8_without_replacement(jillapun_encoder *
  *
  * No memory is taken. What does not fit into `dst` is decoded all the same, for its length.
  */
-uint8_t jillapun_decode(jillapun_tables tables, uint8_t encoding, uint8_t mark, const uint8_t *src,
-    size_t src_len, uint8_t *dst, size_t dst_len, jillapun_decoded *decoded);
+jillapun_status jillapun_decode(jillapun_tables tables, uint8_t encoding, uint8_t mark,
+    const uint8_t *src, size_t src_len, uint8_t *dst, size_t dst_len, jillapun_decoded *decoded);
 
 /**
  * Decodes a whole input to UTF-8 at the start of a text, with U+FFFD for each malformed
@@ -1015,7 +1022,7 @@ uint8_t jillapun_decode(jillapun_tables tables, uint8_t encoding, uint8_t mark, 
  * of `dst` is overwritten in part, its other bytes become 00, so what was UTF-8 is UTF-8 after
  * the call, as with `jillapun_decoder_decode_to_str`.
  */
-uint8_t jillapun_decode_to_str(jillapun_tables tables, uint8_t encoding, uint8_t mark,
+jillapun_status jillapun_decode_to_str(jillapun_tables tables, uint8_t encoding, uint8_t mark,
     const uint8_t *src, size_t src_len, uint8_t *dst, size_t dst_len, jillapun_decoded *decoded);
 
 /**
@@ -1027,8 +1034,9 @@ uint8_t jillapun_decode_to_str(jillapun_tables tables, uint8_t encoding, uint8_t
  * that nothing was decoded, and `dst` may have been written to. What else is returned, and what
  * is done then, is as with `jillapun_decode`.
  */
-uint8_t jillapun_decode_without_replacement(jillapun_tables tables, uint8_t encoding, uint8_t mark,
-    const uint8_t *src, size_t src_len, uint8_t *dst, size_t dst_len, jillapun_decoded *decoded);
+jillapun_status jillapun_decode_without_replacement(jillapun_tables tables, uint8_t encoding,
+    uint8_t mark, const uint8_t *src, size_t src_len, uint8_t *dst, size_t dst_len,
+    jillapun_decoded *decoded);
 
 /**
  * Encodes a whole text, which is UTF-8, into the output encoding of the one with this number
@@ -1045,7 +1053,7 @@ uint8_t jillapun_decode_without_replacement(jillapun_tables tables, uint8_t enco
  *
  * No memory is taken. What does not fit into `dst` is encoded all the same, for its length.
  */
-uint8_t jillapun_encode(jillapun_tables tables, uint8_t encoding, const uint8_t *text,
+jillapun_status jillapun_encode(jillapun_tables tables, uint8_t encoding, const uint8_t *text,
     size_t text_len, uint8_t *dst, size_t dst_len, size_t *written);
 
 /* Conversions from memory to memory. */
@@ -1080,7 +1088,7 @@ uint8_t jillapun_encode(jillapun_tables tables, uint8_t encoding, const uint8_t 
  * No memory is taken. What does not fit into `dst` and `losses` is converted all the same, for
  * its length.
  */
-uint8_t jillapun_convert(jillapun_tables tables, uint8_t from, uint8_t to, uint8_t mark,
+jillapun_status jillapun_convert(jillapun_tables tables, uint8_t from, uint8_t to, uint8_t mark,
     uint8_t policy, uint64_t limit, const uint8_t *src, size_t src_len, uint8_t *dst,
     size_t dst_len, jillapun_loss *losses, size_t losses_len, jillapun_report *report);
 
@@ -1091,12 +1099,12 @@ uint8_t jillapun_convert(jillapun_tables tables, uint8_t from, uint8_t to, uint8
  * encoding of that with the number `to`. `tables`, `mark`, `policy` and `limit` are as for
  * `jillapun_convert`. What `out` held is overwritten, whether or not its end was reported.
  *
- * Returns `JILLAPUN_OK`, and `out` holds the converter. Else nothing is made, and `out` stays
- * as it is: `JILLAPUN_UNKNOWN`, a number stands for nothing; `JILLAPUN_NOT_READY`, an index
- * that one of the encodings needs is not in the tables.
+ * Returns `JILLAPUN_OK`, and `out` holds the converter. Else nothing is made, and `out` holds
+ * none, as `{0}`: `JILLAPUN_UNKNOWN`, a number stands for nothing; `JILLAPUN_NOT_READY`, an
+ * index that one of the encodings needs is not in the tables.
  */
-uint8_t jillapun_converter_new(jillapun_tables tables, uint8_t from, uint8_t to, uint8_t mark,
-    uint8_t policy, uint64_t limit, jillapun_converter *out);
+jillapun_status jillapun_converter_new(jillapun_tables tables, uint8_t from, uint8_t to,
+    uint8_t mark, uint8_t policy, uint64_t limit, jillapun_converter *out);
 
 /* The export that makes a step of a conversion. */
 
@@ -1132,9 +1140,9 @@ uint8_t jillapun_converter_new(jillapun_tables tables, uint8_t from, uint8_t to,
  *
  * No memory is taken.
  */
-uint8_t jillapun_converter_step(jillapun_converter *converter, const uint8_t *src, size_t src_len,
-    bool last, uint8_t *dst, size_t dst_len, jillapun_loss *losses, size_t losses_len,
-    jillapun_converter_progress *progress, jillapun_report *report);
+jillapun_status jillapun_converter_step(jillapun_converter *converter, const uint8_t *src,
+    size_t src_len, bool last, uint8_t *dst, size_t dst_len, jillapun_loss *losses,
+    size_t losses_len, jillapun_converter_progress *progress, jillapun_report *report);
 
 /* The exports on an input that is converted part by part. */
 

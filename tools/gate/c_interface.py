@@ -28,6 +28,7 @@ sys.dont_write_bytecode = True
 from steps import TOP, main
 
 import c_archives
+import c_handles
 import c_library
 import c_loaded
 import c_mem
@@ -41,7 +42,7 @@ EXAMPLES = os.path.join(TOP, "docs", "examples", "c")
 INCLUDE = os.path.join(TOP, "include")
 
 # The calls of each part of the library, and what they say is wrong.
-CHECKS = [c_mem.faults, c_streams.faults, c_python.faults]
+CHECKS = [c_mem.faults, c_streams.faults, c_handles.faults, c_python.faults]
 
 # What the global names of each archive begin with. `rattle_` has the kit's heap functions.
 NAMES = {

@@ -8,7 +8,7 @@ import c_header
 NUMBERS = {
     "u8": ctypes.c_uint8, "u16": ctypes.c_uint16, "u32": ctypes.c_uint32, "u64": ctypes.c_uint64, "usize": ctypes.c_size_t,
     "i8": ctypes.c_int8, "i16": ctypes.c_int16, "i32": ctypes.c_int32, "i64": ctypes.c_int64, "isize": ctypes.c_ssize_t,
-    "bool": ctypes.c_bool, "*mut u8": ctypes.c_void_p, "*const u8": ctypes.c_void_p,
+    "bool": ctypes.c_bool, "Status": ctypes.c_uint8, "*mut u8": ctypes.c_void_p, "*const u8": ctypes.c_void_p,
 }  # fmt: skip
 
 

@@ -32,10 +32,10 @@ SECTIONS = ["encoding", "tables", "decoder", "encoder", "whole", "convert", "con
 NUMBERS = {
     "u8": "uint8_t", "u16": PREFIX + "_char16", "u32": "uint32_t", "u64": "uint64_t", "usize": "size_t", "i8": "int8_t",
     "i16": "int16_t", "i32": "int32_t", "i64": "int64_t", "isize": "ptrdiff_t", "bool": "bool", "*mut u8": "void *",
-    "*const u8": "const void *",
+    "*const u8": "const void *", "Status": PREFIX + "_status",
 }  # fmt: skip
 # How many bytes numbers take: at as many they are aligned.
-SIZES = {"u8": 1, "u16": 2, "u32": 4, "i8": 1, "i16": 2, "i32": 4, "bool": 1}
+SIZES = {"u8": 1, "Status": 1, "u16": 2, "u32": 4, "i8": 1, "i16": 2, "i32": 4, "bool": 1}
 POINTER = 8
 # A slice in a struct is a pointer and a length, as a type of its own.
 SLICES = {"u8": PREFIX + "_bytes", "u16": PREFIX + "_units"}
@@ -63,22 +63,23 @@ HEAD = """/*
  * all else it tests, and tells by what it returns.
  *
  * Pointers and lengths. A pointer and the length after it, as `src` and `src_len`, are so many
- * elements of memory (elements, not bytes). A pointer is never NULL, even if the length is 0: hand
- * in the address of any object. Memory that a call may write to, by a pointer without `const`,
- * overlaps nothing else that is handed in. While the call runs, no other thread writes to what is
- * handed in, or reads what the call may write to. Units of UTF-16 stand at even addresses, and
- * structs are aligned as their type needs. Memory that a call writes to need not be initialised,
- * except a handle, a text (`_to_str`), and what a call changes in place (`jillapun_join_loss`,
- * `jillapun_join_reports`, `jillapun_mem_ensure_utf16_validity`). A `bool` is 0 or 1.
+ * elements of memory (elements, not bytes). The pointer may be NULL if the length is 0; no other
+ * pointer may. Memory that a call may write to, by a pointer without `const`, overlaps nothing else
+ * that is handed in. While the call runs, no other thread writes to what is handed in, or reads
+ * what the call may write to. Units of UTF-16 stand at even addresses, and structs are aligned as
+ * their type needs. Memory that a call writes to need not be initialised, except a handle, a text
+ * (`_to_str`), and what a call changes in place (`jillapun_join_loss`, `jillapun_join_reports`,
+ * `jillapun_mem_ensure_utf16_validity`). A `bool` is 0 or 1.
  *
  * Handles. A handle, a struct with members that begin with `private_`, begins as `{0}` (in C++, as
- * `{}`), and is filled by a function with `_new` in its name. Its members are left alone: nothing
- * but calls of this library writes to them. There is nothing to free. A handle may be moved, and
- * copied within the process: a copy of a decoder, an encoder or a converter is at the same place of
- * its stream, and independent of the original. Two threads may use two handles at once, but not the
- * same one, unless its type says that they may. A call that takes a handle by a pointer to `const`
- * writes nothing to it: any number of such calls may be made with one handle at once, while no
- * other call is, and nothing else writes to it.
+ * `{}`), and is filled by a function with `_new` in its name; if no decoder, encoder or converter
+ * could be made, its handle holds none. Its members are left alone: nothing but calls of this
+ * library writes to them. There is nothing to free. A handle may be moved, and copied within the
+ * process: a copy of a decoder, an encoder or a converter is at the same place of its stream, and
+ * independent of the original. Two threads may use two handles at once, but not the same one,
+ * unless its type says that they may. A call that takes a handle by a pointer to `const` writes
+ * nothing to it: any number of such calls may be made with one handle at once, while no other call
+ * is, and nothing else writes to it.
  *
  * Lengths. A function that writes and returns a length has written nothing if that is greater than
  * the room: so much is wanted. SIZE_MAX stands in place of a length if there is none; nothing was
@@ -101,7 +102,10 @@ extern "C" {
 typedef char16_t jillapun_char16;
 #else
 typedef uint16_t jillapun_char16;
-#endif"""
+#endif
+
+/** What a call returns that tells how it went: `JILLAPUN_OK` or another of the numbers below. */
+typedef uint8_t jillapun_status;"""
 
 FILES = """/**
  * All index files of the Encoding Standard, as `jillapun_tables_new` takes them, and how many they
@@ -372,7 +376,7 @@ def first_paragraph(lines):
 
 def slice_type(it):
     kind, what = NUMBERS[it], {"u8": "bytes", "u16": "units"}[it]
-    return [*comment(["So many %s from an address on. It is not NULL." % what]), "typedef struct {", "    const %s *at;" % kind,
+    return [*comment(["So many %s from an address on. It may be NULL if `len` is 0." % what]), "typedef struct {", "    const %s *at;" % kind,
             "    size_t len;", "} %s;" % SLICES[it]]  # fmt: skip
 
 

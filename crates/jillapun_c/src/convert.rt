@@ -8,6 +8,7 @@ use crate::in_memory::convert_job;
 use crate::losses::Loss;
 use crate::report::Report;
 use crate::request::Request;
+use crate::status::Status;
 use crate::tables_handle::TablesHandle;
 use encoding_tables::Tables;
 use std::alloc::Global;
@@ -51,7 +52,7 @@ pub extern "C" fn jillapun_convert(
     dst: &mut [u8],
     losses: &mut [Loss],
     report: &mut Report,
-) -> u8
+) -> Status
     ensures { ConvertsAsked (held_lists tables.tables)
         (record { from = from; to = to; mark = mark; policy = policy; limit = limit })
         src.now dst.old dst.new losses.old losses.new report.new result }

@@ -3,7 +3,7 @@
 ghost use Rattle.std.specs.Prelude.{◌≡◌, ◌≢◌, [], false, None};
 ghost use Rattle.recode.specs.Job.{IsValidJob};
 ghost use Rattle.recode.specs.SavedConverters.{CanGoOnFrom};
-ghost use Rattle.jillapun_c.specs.ConverterCalls.{OpensConverter};
+ghost use Rattle.jillapun_c.specs.ConverterCalls.{HoldsNoStep, OpensConverter};
 ghost use Rattle.jillapun_c.specs.ConverterRuns.{HasConverted};
 ghost use Rattle.jillapun_c.specs.ConverterWords.{SavesStep};
 ghost use Rattle.jillapun_c.specs.Converters.{IsNewConverter, step_view};
@@ -23,7 +23,7 @@ use crate::converter::held::Held;
 use crate::converter::words::SavedStep;
 use crate::losses::Loss;
 use crate::request::Request;
-use crate::status::OK;
+use crate::status::{OK, Status};
 use crate::tables_handle::TablesHandle;
 use encoding_tables::Tables;
 use recode::Job;
@@ -111,9 +111,9 @@ impl<'t> Converter<'t> {
 /// encoding of that with the number `to`. `tables`, `mark`, `policy` and `limit` are as for
 /// `jillapun_convert`. What `out` held is overwritten, whether or not its end was reported.
 ///
-/// Returns `OK`, and `out` holds the converter. Else nothing is made, and `out` stays as it is:
-/// `UNKNOWN`, a number stands for nothing; `NOT_READY`, an index that one of the encodings needs is
-/// not in the tables.
+/// Returns `OK`, and `out` holds the converter. Else nothing is made, and `out` holds none, as
+/// `{0}`: `UNKNOWN`, a number stands for nothing; `NOT_READY`, an index that one of the encodings
+/// needs is not in the tables.
 #[unsafe(no_mangle)]
 pub extern "C" fn jillapun_converter_new(
     alloc: Global,
@@ -124,11 +124,11 @@ pub extern "C" fn jillapun_converter_new(
     policy: u8,
     limit: u64,
     out: &mut ConverterHandle,
-) -> u8
+) -> Status
     ensures opens { OpensConverter tables.tables
         (record { from = from; to = to; mark = mark; policy = policy; limit = limit })
         out.new result }
-    ensures unchanged { result ≢ OK → out.new ≡ out.old }
+    ensures refused { result ≢ OK → HoldsNoStep out.new }
 {
     let request = Request {
         from,
@@ -147,10 +147,13 @@ pub extern "C" fn jillapun_converter_new(
 fn open_over(lent: &Tables, tables: TablesHandle, request: Request, out: &mut ConverterHandle) -> u8
     requires { lent.now ≡ held_lists tables.tables }
     ensures opens { OpensConverter tables.tables request out.new result }
-    ensures unchanged { result ≢ OK → out.new ≡ out.old }
+    ensures refused { result ≢ OK → HoldsNoStep out.new }
 {
     match request.job(lent) {
-        Err(status) => status,
+        Err(status) => {
+            *out = ConverterHandle::none();
+            status
+        }
         Ok(job) => {
             out.keep(tables, &Converter::new(job));
             OK
@@ -168,7 +171,7 @@ fn open_without(
 ) -> u8
     requires { tables.tables ≡ None }
     ensures opens { OpensConverter tables.tables request out.new result }
-    ensures unchanged { result ≢ OK → out.new ≡ out.old }
+    ensures refused { result ≢ OK → HoldsNoStep out.new }
 {
     let lent = Tables::new(alloc);
     open_over(&lent, tables, request, out)

@@ -1,6 +1,6 @@
 //! The exports that decode streams.
 
-ghost use Rattle.std.specs.Prelude.{◌≡◌, ◌≢◌, MatchResult};
+ghost use Rattle.std.specs.Prelude.{◌≡◌, ◌≢◌, None, MatchResult};
 ghost use Rattle.encoding_mem.specs.declared.codec.room.OutputUnit.{OutputUnit};
 ghost use Rattle.encoding_tables.specs.IndexLists.{AreAcceptedTables};
 ghost use Rattle.encoding_front.specs.Encodings.{IsReady};
@@ -8,6 +8,7 @@ ghost use Rattle.encoding_front.specs.calls.DecoderViews.{decoder_view};
 ghost use Rattle.encoding_front.specs.calls.Stream.{IsMadeFrom};
 ghost use Rattle.jillapun_c.specs.DecoderCalls.{AsksRoom, GoesOnFrom, HoldsNewDecoder};
 ghost use Rattle.jillapun_c.specs.DecoderCalls.{HoldsOne, MakesDecoder, TellsWhyNot};
+ghost use Rattle.jillapun_c.specs.HeldDecoders.{saved_in};
 ghost use Rattle.jillapun_c.specs.HeldTables.{held_lists};
 ghost use Rattle.jillapun_c.specs.declared.status.TheConstants.{OK};
 
@@ -20,7 +21,7 @@ pub(crate) mod words;
 
 use crate::decoder::words::DecoderWords;
 use crate::encoding_number::{encoding_of, mark_of};
-use crate::status::{CLOSED, FINISHED, NOT_READY, OK, REFUSED, UNKNOWN};
+use crate::status::{CLOSED, FINISHED, NOT_READY, OK, REFUSED, Status, UNKNOWN};
 use crate::tables_handle::TablesHandle;
 use encoding_front::{Decoder, Encoding, Mark, SavedDecoder};
 use encoding_mem::room::OutputUnit;
@@ -88,7 +89,7 @@ impl DecoderHandle {
 /// of a byte order mark at its start. `tables` may be `{0}` if the encoding needs no index. What
 /// `out` held is overwritten, whether or not its stream has ended.
 ///
-/// Returns `OK`, and `out` holds the decoder. Else nothing is made, and `out` stays as it is:
+/// Returns `OK`, and `out` holds the decoder. Else nothing is made, and `out` holds none, as `{0}`:
 /// `UNKNOWN`, no encoding or no handling of marks has the number; `NOT_READY`, the tables lack an
 /// index of the encoding, or there are none and it needs one.
 #[unsafe(no_mangle)]
@@ -97,10 +98,11 @@ pub extern "C" fn jillapun_decoder_new(
     encoding: u8,
     mark: u8,
     out: &mut DecoderHandle,
-) -> u8
+) -> Status
     ensures makes { MakesDecoder tables.tables encoding mark out.new result }
-    ensures unchanged { result ≢ OK → out.new ≡ out.old }
+    ensures refused { result ≢ OK → saved_in out.new.words ≡ None }
 {
+    *out = DecoderHandle::none();
     let Some(encoding) = encoding_of(encoding) else {
         return UNKNOWN;
     };

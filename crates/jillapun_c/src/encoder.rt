@@ -1,6 +1,6 @@
 //! The exports that encode streams.
 
-ghost use Rattle.std.specs.Prelude.{◌≡◌, ◌≢◌};
+ghost use Rattle.std.specs.Prelude.{◌≡◌, ◌≢◌, None};
 ghost use Rattle.jillapun_c.specs.Coders.{encoder_in};
 ghost use Rattle.jillapun_c.specs.EncoderCalls.{MakesEncoder};
 ghost use Rattle.jillapun_c.specs.declared.status.TheConstants.{OK};
@@ -14,14 +14,14 @@ pub(crate) mod words;
 
 use crate::encoder::handle::EncoderHandle;
 use crate::encoding_number::encoding_of;
-use crate::status::{NOT_READY, OK, UNKNOWN};
+use crate::status::{NOT_READY, OK, Status, UNKNOWN};
 use crate::tables_handle::TablesHandle;
 
 /// Makes an encoder of a new stream into the output encoding of the one with this number (the
 /// Encoding Standard, section 4.3). `tables` may be `{0}` if the output encoding needs no index.
 /// What `out` held is overwritten.
 ///
-/// Returns `OK`, and `out` holds the encoder. Else nothing is made, and `out` stays as it is:
+/// Returns `OK`, and `out` holds the encoder. Else nothing is made, and `out` holds none, as `{0}`:
 /// `UNKNOWN`, no encoding has the number; `NOT_READY`, the tables lack an index of the output
 /// encoding, or there are none and it needs one.
 #[unsafe(no_mangle)]
@@ -29,10 +29,11 @@ pub extern "C" fn jillapun_encoder_new(
     tables: TablesHandle,
     encoding: u8,
     out: &mut EncoderHandle,
-) -> u8
+) -> Status
     ensures makes { MakesEncoder tables.tables encoding (encoder_in out.new) result }
-    ensures unchanged { result ≢ OK → out.new ≡ out.old }
+    ensures refused { result ≢ OK → encoder_in out.new ≡ None }
 {
+    *out = EncoderHandle::none();
     let Some(encoding) = encoding_of(encoding) else {
         return UNKNOWN;
     };

@@ -14,7 +14,7 @@ ghost use Rattle.jillapun_c.specs.EncodingNumbers.{encoding_at, needed_file};
 ghost use Rattle.jillapun_c.specs.declared.status.TheConstants.{NO_ENCODING};
 
 use crate::encoding_number::{encoding_of, number_of};
-use crate::status::{NO_ENCODING, NOT_READY, OK, REFUSED, UNKNOWN};
+use crate::status::{NO_ENCODING, NOT_READY, OK, REFUSED, Status, UNKNOWN};
 use crate::tables_handle::TablesHandle;
 use encoding_front::Encoding;
 
@@ -162,7 +162,7 @@ pub extern "C" fn jillapun_needs(encoding: u8, place: usize, name: &mut [u8]) ->
 /// missing; `UNKNOWN`, no encoding has the number. UTF-8, UTF-16BE, UTF-16LE, replacement and
 /// x-user-defined need none.
 #[unsafe(no_mangle)]
-pub extern "C" fn jillapun_tables_is_ready(tables: TablesHandle, encoding: u8) -> u8
+pub extern "C" fn jillapun_tables_is_ready(tables: TablesHandle, encoding: u8) -> Status
     ensures { IsReadyStatus (held_lists tables.tables) encoding result }
 {
     match encoding_of(encoding) {

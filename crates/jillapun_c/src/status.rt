@@ -1,6 +1,9 @@
 //! The numbers that cross: statuses, and the words of calls. The header has them as constants, with
 //! `JILLAPUN_` before each name.
 
+/// What a call returns: one of the numbers that follow.
+pub type Status = u8;
+
 // What a call returns: its status.
 
 /// All was done. Of a conversion: nothing was lost.

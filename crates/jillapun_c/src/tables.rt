@@ -5,7 +5,7 @@ ghost use Rattle.jillapun_c.specs.IndexFiles.{HoldFiles, IsFaultTold, IsToldAt};
 ghost use Rattle.jillapun_c.specs.declared.status.TheConstants.{IN_USE, OK};
 
 use crate::index_files::{FileFault, IndexFile, load_files};
-use crate::status::{BAD_INDEX, IN_USE, NO_MEMORY, OK, UNKNOWN};
+use crate::status::{BAD_INDEX, IN_USE, NO_MEMORY, OK, Status, UNKNOWN};
 use crate::tables_handle::TablesHandle;
 use encoding_tables::Tables;
 use std::alloc::Global;
@@ -38,7 +38,7 @@ pub extern "C" fn jillapun_tables_new(
     files: &[IndexFile<'_>],
     out: &mut TablesHandle,
     fault: &mut IndexFault,
-) -> u8
+) -> Status
     ensures loaded { result ≡ OK → IsSomeAnd out.new.tables (HoldFiles files.now) }
     ensures in_use { IsSome out.old.tables → result ≡ IN_USE }
     ensures refused { out.old.tables ≡ None → result ≢ OK

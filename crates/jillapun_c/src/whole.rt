@@ -18,7 +18,7 @@ use crate::decoded::{Decoded, source_of};
 use crate::encoding_number::{encoding_of, mark_of, number_of};
 use crate::mem::text_room::clear_rest;
 use crate::mem::utf8::is_text;
-use crate::status::{NOT_READY, NOT_UTF8, NOT_WELL_FORMED, UNKNOWN};
+use crate::status::{NOT_READY, NOT_UTF8, NOT_WELL_FORMED, Status, UNKNOWN};
 use crate::tables_handle::TablesHandle;
 use crate::whole::decoding::{Whole, decode_whole};
 use crate::whole::encoding::encode_whole;
@@ -45,7 +45,7 @@ pub extern "C" fn jillapun_decode(
     src: &[u8],
     dst: &mut [u8],
     decoded: &mut Decoded,
-) -> u8
+) -> Status
     ensures decodes { DecodesIfReady IsPut (held_lists tables.tables) encoding mark src.now dst.old
         dst.new decoded.new result }
     ensures text { IsVerdict result → BeginsWithText dst.new decoded.new.written }
@@ -70,7 +70,7 @@ pub extern "C" fn jillapun_decode_to_str(
     src: &[u8],
     dst: &mut [u8],
     decoded: &mut Decoded,
-) -> u8
+) -> Status
     ensures decodes { DecodesIfReady TextIsPut (held_lists tables.tables) encoding mark src.now
         dst.old dst.new decoded.new result }
     ensures kept { result ≢ OK → result ≢ LOSSY → result ≢ ROOM → dst.new ≡ dst.old }
@@ -100,7 +100,7 @@ pub extern "C" fn jillapun_decode_without_replacement(
     src: &[u8],
     dst: &mut [u8],
     decoded: &mut Decoded,
-) -> u8
+) -> Status
     ensures decodes { IfCanDecode (held_lists tables.tables) encoding mark
         (DecodesWellFormed (held_lists tables.tables) src.now dst.old dst.new decoded.new result)
         result }
@@ -176,7 +176,7 @@ pub extern "C" fn jillapun_encode(
     text: &[u8],
     dst: &mut [u8],
     written: &mut usize,
-) -> u8
+) -> Status
     ensures text { (¬ (IsUtf8 text.now)) → result ≡ NOT_UTF8 }
     ensures encodes { IsUtf8 text.now → EncodesIfReady (held_lists tables.tables) encoding text.now
         dst.old dst.new written.new result }

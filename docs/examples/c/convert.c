@@ -5,7 +5,7 @@
 #include <string.h>
 
 /* Loads index texts, each from a file of its own name. */
-static uint8_t load(int count, char **paths, jillapun_tables *tables) {
+static jillapun_status load(int count, char **paths, jillapun_tables *tables) {
     static uint8_t texts[2][1 << 20];
     jillapun_index_file files[2];
     jillapun_index_fault fault;
@@ -33,7 +33,7 @@ int main(int argc, char **argv) {
     size_t len = fread(input, 1, sizeof input, stdin);
     if (len == sizeof input) /* perhaps there is more: pipe.c converts any input */
         return 1;
-    uint8_t status = jillapun_convert(tables, from, to, JILLAPUN_SNIFF, JILLAPUN_DECIMAL, UINT64_MAX,
+    jillapun_status status = jillapun_convert(tables, from, to, JILLAPUN_SNIFF, JILLAPUN_DECIMAL, UINT64_MAX,
         input, len, output, sizeof output, losses, 1 << 16, &told);
     if (status != JILLAPUN_OK && status != JILLAPUN_LOSSY)
         return 1;

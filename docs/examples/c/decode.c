@@ -5,7 +5,7 @@
 #include <string.h>
 
 /* Loads index texts, each from a file of its own name. */
-static uint8_t load(int count, char **paths, jillapun_tables *tables) {
+static jillapun_status load(int count, char **paths, jillapun_tables *tables) {
     static uint8_t texts[2][1 << 20];
     jillapun_index_file files[2];
     jillapun_index_fault fault;

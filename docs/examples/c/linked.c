@@ -11,7 +11,7 @@ int main(void) {
     jillapun_decoded decoded;
     static jillapun_tables tables; /* {0}, as all that is static; tables stay for as long as the program runs */
     jillapun_index_fault fault;
-    uint8_t status = jillapun_tables_new(jillapun_index_files, jillapun_index_files_len, &tables, &fault);
+    jillapun_status status = jillapun_tables_new(jillapun_index_files, jillapun_index_files_len, &tables, &fault);
     if (status == JILLAPUN_OK)
         status = jillapun_decode(tables, JILLAPUN_SHIFT_JIS, JILLAPUN_KEEP, bytes, sizeof bytes, text,
             sizeof text, &decoded);

@@ -8,7 +8,7 @@
 #include <unistd.h>
 
 /* Loads index texts, each from a file of its own name. */
-static uint8_t load(int count, char **paths, jillapun_tables *tables) {
+static jillapun_status load(int count, char **paths, jillapun_tables *tables) {
     static uint8_t texts[4][1 << 20];
     jillapun_index_file files[4];
     jillapun_index_fault fault;
@@ -36,12 +36,12 @@ static bool put(const uint8_t *bytes, size_t len) {
 }
 
 /* Converts the input to its end. Returns the last status, JILLAPUN_GOES_ON if a read or a write failed. */
-static uint8_t convert(jillapun_converter *converter) {
+static jillapun_status convert(jillapun_converter *converter) {
     static uint8_t chunk[1 << 14], output[1 << 16];
     static jillapun_loss losses[256];
     jillapun_converter_progress told = {0};
     jillapun_report report;
-    uint8_t status;
+    jillapun_status status;
     bool last = false;
     size_t len = 0, at = 0;
     do {
@@ -72,6 +72,6 @@ int main(int argc, char **argv) {
     uint8_t to = jillapun_for_label((const uint8_t *)argv[2], strlen(argv[2]));
     if (jillapun_converter_new(tables, from, to, JILLAPUN_SNIFF, JILLAPUN_DECIMAL, UINT64_MAX, &converter))
         return 2;
-    uint8_t status = convert(&converter);
+    jillapun_status status = convert(&converter);
     return status == JILLAPUN_OK ? 0 : status == JILLAPUN_LOSSY ? 1 : 2;
 }

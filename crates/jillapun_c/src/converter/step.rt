@@ -17,7 +17,7 @@ use crate::converter::words::SavedStep;
 use crate::converter::{Converter, Stage};
 use crate::losses::Loss;
 use crate::report::{Report, told_report, told_stop};
-use crate::status::{GOES_ON, TOO_LONG};
+use crate::status::{GOES_ON, Status, TOO_LONG};
 use encoding_tables::Tables;
 use recode::laws::stops_at_first_loss;
 use std::alloc::Global;
@@ -92,7 +92,7 @@ pub extern "C" fn jillapun_converter_step(
     losses: &mut [Loss],
     progress: &mut ConverterProgress,
     report: &mut Report,
-) -> u8
+) -> Status
     ensures closed { HoldsNoStep converter.old → result ≡ CLOSED }
     ensures finished { (v : StepView) → HoldsStep converter.old v → v.is_finished ≡ true
         → result ≡ FINISHED }
@@ -138,7 +138,8 @@ fn go_on(
     ensures { (v : StepView) → HoldsStep converter.old v → MakesStep v converter.new src.now last
         dst.old dst.new losses.old losses.new progress.new report.new result }
 {
-    let text = &converter.text[..converter.text_len];
+    // A proved handle has no greater length: this bounds one that was never filled.
+    let text = &converter.text[..converter.text_len.min(1024)];
     let mut held = Converter::resumed(saved, text, tables);
     let status = convert_step(&mut held, src, last, dst, losses, progress, report);
     let handle = converter.tables.copied();

@@ -11,7 +11,7 @@ ghost use Rattle.jillapun_c.specs.declared.status.TheConstants.{NO_ENCODING, OK}
 
 use crate::decoder::DecoderHandle;
 use crate::encoding_number::number_of;
-use crate::status::{NO_ENCODING, OK, REFUSED};
+use crate::status::{NO_ENCODING, OK, REFUSED, Status};
 use encoding_mem::room::OutputUnit;
 
 /// The number of the encoding in force: the one that the decoder was made for, or that of the byte
@@ -39,7 +39,7 @@ pub extern "C" fn jillapun_decoder_max_utf8_length(
     decoder: &DecoderHandle,
     n: usize,
     length: &mut usize,
-) -> u8
+) -> Status
     ensures tells { AsksRoom Replaced decoder.now n length.new result }
     ensures nothing { result ≢ OK → length.new ≡ 0 }
 {
@@ -55,7 +55,7 @@ pub extern "C" fn jillapun_decoder_max_utf8_length_without_replacement(
     decoder: &DecoderHandle,
     n: usize,
     length: &mut usize,
-) -> u8
+) -> Status
     ensures tells { AsksRoom Bytes decoder.now n length.new result }
     ensures nothing { result ≢ OK → length.new ≡ 0 }
 {
@@ -70,7 +70,7 @@ pub extern "C" fn jillapun_decoder_max_utf16_length(
     decoder: &DecoderHandle,
     n: usize,
     length: &mut usize,
-) -> u8
+) -> Status
     ensures tells { AsksRoom Units decoder.now n length.new result }
     ensures nothing { result ≢ OK → length.new ≡ 0 }
 {
@@ -91,7 +91,7 @@ pub extern "C" fn jillapun_decoder_latin1_byte_compatible_up_to(
     decoder: &DecoderHandle,
     bytes: &[u8],
     length: &mut usize,
-) -> u8
+) -> Status
     ensures tells { AnswersDecoder decoder.now result
         (λ v. TellsIfKnown v bytes.now length.new) }
     ensures nothing { result ≢ OK → length.new ≡ 0 }

@@ -13,7 +13,7 @@ use crate::decoder::utf8::{
 };
 use crate::mem::text_room::clear_rest;
 use crate::progress::Progress;
-use crate::status::OK;
+use crate::status::{OK, Status};
 
 /// Decodes the next bytes of a stream to UTF-8 at the start of a text, with U+FFFD for each
 /// malformed sequence. What it does and returns is as of `jillapun_decoder_decode_to_utf8`, but for
@@ -28,7 +28,7 @@ pub extern "C" fn jillapun_decoder_decode_to_str(
     dst: &mut [u8],
     last: bool,
     progress: &mut Progress,
-) -> u8
+) -> Status
     ensures decodes { DecodesInto Replaced StandsOverText free_bytes decoder.old decoder.new src.now
         last dst.old dst.new progress.new result }
     ensures unchanged { result ≢ OK → (dst.new ≡ dst.old) × (decoder.new ≡ decoder.old) }
@@ -54,7 +54,7 @@ pub extern "C" fn jillapun_decoder_decode_to_str_without_replacement(
     dst: &mut [u8],
     last: bool,
     progress: &mut Progress,
-) -> u8
+) -> Status
     ensures decodes { DecodesIntoUpToFault Bytes StandsOverText free_bytes decoder.old decoder.new
         src.now last dst.old dst.new progress.new result }
     ensures unchanged { result ≢ OK → (dst.new ≡ dst.old) × (decoder.new ≡ decoder.old) }

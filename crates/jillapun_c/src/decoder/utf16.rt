@@ -9,7 +9,7 @@ ghost use Rattle.jillapun_c.specs.declared.status.TheConstants.{OK};
 
 use crate::decoder::DecoderHandle;
 use crate::progress::{Progress, outcome_of, part_outcome_of};
-use crate::status::OK;
+use crate::status::{OK, Status};
 
 /// Decodes the next bytes of a stream to UTF-16, with U+FFFD for each malformed sequence. `last`
 /// says that the stream ends with them.
@@ -29,7 +29,7 @@ pub extern "C" fn jillapun_decoder_decode_to_utf16(
     dst: &mut [u16],
     last: bool,
     progress: &mut Progress,
-) -> u8
+) -> Status
     ensures decodes { DecodesInto Units StandsAsUtf16 free_units decoder.old decoder.new src.now
         last dst.old dst.new progress.new result }
     ensures unchanged { result ≢ OK → (dst.new ≡ dst.old) × (decoder.new ≡ decoder.old) }
@@ -75,7 +75,7 @@ pub extern "C" fn jillapun_decoder_decode_to_utf16_without_replacement(
     dst: &mut [u16],
     last: bool,
     progress: &mut Progress,
-) -> u8
+) -> Status
     ensures decodes { DecodesIntoUpToFault Units StandsAsUtf16 free_units decoder.old decoder.new
         src.now last dst.old dst.new progress.new result }
     ensures unchanged { result ≢ OK → (dst.new ≡ dst.old) × (decoder.new ≡ decoder.old) }

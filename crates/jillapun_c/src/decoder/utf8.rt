@@ -9,7 +9,7 @@ ghost use Rattle.jillapun_c.specs.declared.status.TheConstants.{OK};
 
 use crate::decoder::DecoderHandle;
 use crate::progress::{Progress, outcome_of, part_outcome_of};
-use crate::status::OK;
+use crate::status::{OK, Status};
 
 /// Decodes the next bytes of a stream to UTF-8, with U+FFFD for each malformed sequence. `last`
 /// says that the stream ends with them.
@@ -29,7 +29,7 @@ pub extern "C" fn jillapun_decoder_decode_to_utf8(
     dst: &mut [u8],
     last: bool,
     progress: &mut Progress,
-) -> u8
+) -> Status
     ensures decodes { DecodesInto Replaced StandsAsUtf8 free_bytes decoder.old decoder.new src.now
         last dst.old dst.new progress.new result }
     ensures unchanged { result ≢ OK → (dst.new ≡ dst.old) × (decoder.new ≡ decoder.old) }
@@ -75,7 +75,7 @@ pub extern "C" fn jillapun_decoder_decode_to_utf8_without_replacement(
     dst: &mut [u8],
     last: bool,
     progress: &mut Progress,
-) -> u8
+) -> Status
     ensures decodes { DecodesIntoUpToFault Bytes StandsAsUtf8 free_bytes decoder.old decoder.new
         src.now last dst.old dst.new progress.new result }
     ensures unchanged { result ≢ OK → (dst.new ≡ dst.old) × (decoder.new ≡ decoder.old) }

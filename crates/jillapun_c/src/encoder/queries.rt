@@ -10,7 +10,7 @@ ghost use Rattle.jillapun_c.specs.declared.status.TheConstants.{NO_ENCODING, OK}
 
 use crate::encoder::handle::EncoderHandle;
 use crate::encoding_number::number_of;
-use crate::status::{CLOSED, NO_ENCODING, OK, REFUSED};
+use crate::status::{CLOSED, NO_ENCODING, OK, REFUSED, Status};
 use encoding_mem::form::EscapeState;
 
 /// The number of the output encoding, in which the encoder writes; `NO_ENCODING` if the handle
@@ -48,7 +48,7 @@ pub extern "C" fn jillapun_encoder_max_length_from_utf8_if_no_unmappables(
     encoder: &EncoderHandle,
     n: usize,
     length: &mut usize,
-) -> u8
+) -> Status
     ensures tells { TellsNumber (encoder_in encoder.now)
         (λ e. queried_with_kept e.encoding false n) length.new result }
     ensures nothing { result ≢ OK → length.new ≡ 0 }
@@ -72,7 +72,7 @@ pub extern "C" fn jillapun_encoder_max_length_from_utf8_without_replacement(
     encoder: &EncoderHandle,
     n: usize,
     length: &mut usize,
-) -> u8
+) -> Status
     ensures tells { TellsNumber (encoder_in encoder.now)
         (λ e. queried_room e.encoding false n) length.new result }
     ensures nothing { result ≢ OK → length.new ≡ 0 }
@@ -96,7 +96,7 @@ pub extern "C" fn jillapun_encoder_max_length_from_utf16_if_no_unmappables(
     encoder: &EncoderHandle,
     n: usize,
     length: &mut usize,
-) -> u8
+) -> Status
     ensures tells { TellsNumber (encoder_in encoder.now)
         (λ e. queried_with_kept e.encoding true n) length.new result }
     ensures nothing { result ≢ OK → length.new ≡ 0 }
@@ -120,7 +120,7 @@ pub extern "C" fn jillapun_encoder_max_length_from_utf16_without_replacement(
     encoder: &EncoderHandle,
     n: usize,
     length: &mut usize,
-) -> u8
+) -> Status
     ensures tells { TellsNumber (encoder_in encoder.now)
         (λ e. queried_room e.encoding true n) length.new result }
     ensures nothing { result ≢ OK → length.new ≡ 0 }

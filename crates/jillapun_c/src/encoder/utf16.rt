@@ -10,7 +10,7 @@ ghost use Rattle.jillapun_c.specs.declared.status.TheConstants.{OK};
 use crate::encoder::handle::EncoderHandle;
 use crate::encoder_progress::{EncoderProgress, encoder_outcome_of};
 use crate::progress::outcome_of;
-use crate::status::{CLOSED, OK};
+use crate::status::{CLOSED, OK, Status};
 
 /// Encodes the next part of a text in UTF-16, with the decimal reference (`&#8364;`) of each
 /// character that has no bytes. `last` says that the text ends with it: then the last escape is
@@ -29,7 +29,7 @@ pub extern "C" fn jillapun_encoder_encode_from_utf16(
     dst: &mut [u8],
     last: bool,
     progress: &mut EncoderProgress,
-) -> u8
+) -> Status
     ensures encodes { EncodesFrom true utf16_lossy_chars encoder.old encoder.new text.now last
         dst.old dst.new progress.new result }
     ensures read { result ≡ OK → (progress.new.read ≤ length text.now)
@@ -73,7 +73,7 @@ pub extern "C" fn jillapun_encoder_encode_from_utf16_without_replacement(
     dst: &mut [u8],
     last: bool,
     progress: &mut EncoderProgress,
-) -> u8
+) -> Status
     ensures encodes { EncodesFromUpToLost true utf16_lossy_chars encoder.old encoder.new text.now
         last dst.old dst.new progress.new result }
     ensures read { result ≡ OK → (progress.new.read ≤ length text.now)

@@ -14,7 +14,7 @@ use crate::encoder::handle::EncoderHandle;
 use crate::encoder::part::{first_part, most_read};
 use crate::encoder_progress::{EncoderProgress, encoder_outcome_of, told_outcome};
 use crate::progress::outcome_of;
-use crate::status::{CLOSED, NOT_UTF8, OK};
+use crate::status::{CLOSED, NOT_UTF8, OK, Status};
 
 /// Encodes the next part of a text in UTF-8, with the decimal reference (`&#8364;`) of each
 /// character that has no bytes. `last` says that the text ends with it: then the last escape is
@@ -41,7 +41,7 @@ pub extern "C" fn jillapun_encoder_encode_from_utf8(
     dst: &mut [u8],
     last: bool,
     progress: &mut EncoderProgress,
-) -> u8
+) -> Status
     ensures malformed { BeginsMalformed text.now → result ≡ NOT_UTF8 }
     ensures encodes { IsUtf8 text.now → EncodesFrom false chars encoder.old encoder.new text.now
         last dst.old dst.new progress.new result }
@@ -97,7 +97,7 @@ pub extern "C" fn jillapun_encoder_encode_from_utf8_without_replacement(
     dst: &mut [u8],
     last: bool,
     progress: &mut EncoderProgress,
-) -> u8
+) -> Status
     ensures malformed { BeginsMalformed text.now → result ≡ NOT_UTF8 }
     ensures encodes { IsUtf8 text.now → EncodesFromUpToLost false chars encoder.old encoder.new
         text.now last dst.old dst.new progress.new result }

@@ -269,7 +269,6 @@ fn copies_go_on_alone(rt: HostRuntime) {
 #[test]
 fn others_are_not_opened(rt: HostRuntime) {
     let alloc = rt.alloc();
-    let mut held = opened(alloc, UTF_8, DECIMAL);
     let cases = [
         (euro(alloc), UTF_8, 3, UNKNOWN),
         (euro(alloc), 40, DECIMAL, UNKNOWN),
@@ -277,6 +276,7 @@ fn others_are_not_opened(rt: HostRuntime) {
         (TablesHandle::none(), UTF_8, DECIMAL, NOT_READY),
     ];
     for (tables, from, policy, wanted) in cases {
+        let mut held = opened(alloc, UTF_8, DECIMAL);
         let status = jillapun_converter_new(
             alloc,
             tables,
@@ -288,25 +288,18 @@ fn others_are_not_opened(rt: HostRuntime) {
             &mut held,
         );
         assert_eq!(rt; status, wanted);
+        assert_eq!(rt; ended(alloc, &mut held), (CLOSED, 0, 0x2E));
     }
-    // What it held it holds still, and what is opened takes its place.
-    let mut dst = *b"....";
-    let mut progress = ConverterProgress::NONE;
-    let mut report = Report::NONE;
-    let status = jillapun_converter_step(
-        alloc,
-        &mut held,
-        b"a",
-        true,
-        &mut dst,
-        &mut [],
-        &mut progress,
-        &mut report,
-    );
-    assert_eq!(rt; (status, dst), (OK, *b"a..."));
+}
+
+#[test]
+fn what_is_opened_takes_the_place(rt: HostRuntime) {
+    let alloc = rt.alloc();
+    let mut held = opened(alloc, UTF_8, DECIMAL);
     let tables = euro(alloc);
     let status = jillapun_converter_new(alloc, tables, UTF_8, UTF_8, KEEP, DECIMAL, 12, &mut held);
     assert_eq!(rt; status, OK);
+    let mut dst = *b"....";
     let status = jillapun_converter_step(
         alloc,
         &mut held,
@@ -314,8 +307,8 @@ fn others_are_not_opened(rt: HostRuntime) {
         true,
         &mut dst,
         &mut [],
-        &mut progress,
-        &mut report,
+        &mut ConverterProgress::NONE,
+        &mut Report::NONE,
     );
     assert_eq!(rt; (status, dst), (OK, *b"b..."));
 }

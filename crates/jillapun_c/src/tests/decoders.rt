@@ -5,7 +5,7 @@ use crate::decoder::utf8::jillapun_decoder_decode_to_utf8;
 use crate::decoder::utf16::jillapun_decoder_decode_to_utf16;
 use crate::decoder::{DecoderHandle, jillapun_decoder_new};
 use crate::progress::Progress;
-use crate::status::{FINISHED, INPUT_EMPTY, KEEP, NOT_READY, OK, SNIFF};
+use crate::status::{FINISHED, INPUT_EMPTY, KEEP, NO_ENCODING, NOT_READY, OK, SNIFF};
 use crate::tables_handle::TablesHandle;
 use crate::tests::euro;
 
@@ -71,7 +71,7 @@ fn an_index_is_needed(rt: HostRuntime) {
         new(TablesHandle::none(), WINDOWS_1252, &mut handle),
         NOT_READY
     );
-    assert!(rt; writes(&mut handle, b"\x80", false, "\u{20AC}"));
+    assert_eq!(rt; jillapun_decoder_encoding(&handle), NO_ENCODING);
 }
 
 #[test]

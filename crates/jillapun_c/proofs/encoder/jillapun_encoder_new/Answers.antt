@@ -8,7 +8,7 @@ of_new-requires c = rw (← c.output_encoding.ensures) (c.are_ready.ensures.read
 
 pub returns-then-not-are_ready-clause-makes : goal.returns-then-not-are_ready-clause-makes
 returns-then-not-are_ready-clause-makes c = let e = c.in-Some.encoding in
-    not_made c.args.tables.tables c.args.encoding e (encoder_in c.args.out.now) (sym c.in-Some.ensures)
+    not_made c.args.tables.tables c.args.encoding e (encoder_in c.none.result) (sym c.in-Some.ensures)
     (λ ready. let no = c.if-not-are_ready.true in let yes = c.are_ready.ensures.ready.1 (rw c.output_encoding.ensures ready) in absurd (cc))
 
 pub returns-clause-makes : goal.returns-clause-makes
