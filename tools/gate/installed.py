@@ -21,6 +21,7 @@ sys.dont_write_bytecode = True
 
 from steps import TOP, main
 
+import fresh
 import install
 
 # No command takes longer, in seconds, and none that compiles.
@@ -250,9 +251,33 @@ def sources_faults():
             yield "packed from a clone or without one alone: %s" % sorted(found)
 
 
+def fresh_faults():
+    """Whether a run of `rt` is left out if, and only if, nothing has changed."""
+    with tempfile.TemporaryDirectory() as folder:
+        fresh.KEPT = os.path.join(folder, "kept")
+        source, output = os.path.join(folder, "source"), os.path.join(folder, "output")
+
+        def found(text=None):
+            if text:
+                install.written(text, source)
+            return fresh.Made("recode_cli", [output], [source])
+
+        install.written("one", output)
+        said = [found("a").is_fresh()]
+        found().keep()
+        said += [found().is_fresh(), found("b").is_fresh(), found("a").is_fresh()]
+        install.written("two", output)
+        said.append(found().is_fresh())
+        os.remove(output)
+        said.append(found().is_fresh())
+    if said != [False, True, False, True, False, False]:
+        yield "tools/release/fresh.py: %s" % said
+
+
 def faults():
     """What is wrong with what is installed."""
     yield from sources_faults()
+    yield from fresh_faults()
     sources = [os.path.join(TOP, source) for source, _ in [*install.PROGRAMS, *install.FILES]]
     if not all(map(os.path.isfile, sources)):
         print("left out: the installed commands, since not all is built (make build, make c)")

@@ -35,8 +35,9 @@ OLDEST = (1, 70)
 PATIENCE = 1200
 # Cargo takes other crates from Debian's packages, and not from the network.
 DEBIAN = ['source.crates-io.replace-with="debian"', 'source.debian.directory="%s"' % os.path.dirname(SERDE)]
+OFFLINE = ["--offline", *(word for setting in DEBIAN for word in ("--config", setting))]
 # Words for cargo. The example has them, too, since the crate is built anew for others.
-FLAGS = ["--offline", *(word for setting in DEBIAN for word in ("--config", setting)), "--features", "serde"]
+FLAGS = [*OFFLINE, "--features", "serde"]
 EXAMPLE = ["cargo", "run", "--quiet", *FLAGS, "--example", "losses", "shift_jis"]
 # What the example reads, and what it writes to standard output and to standard error.
 READ = b"A\x83\x6e\xff\n\x83"
@@ -44,7 +45,7 @@ WRITTEN = "A\u30cf\ufffd\n\ufffd", "malformed: 1 from offset 3 on\nmalformed: 1 
 
 
 # A target that the library is no code for, and what the build script says of it.
-OTHER = ["cargo", "check", "--offline", "--target", "aarch64-unknown-linux-gnu"]
+OTHER = ["cargo", "check", *OFFLINE, "--target", "aarch64-unknown-linux-gnu"]
 REFUSED = "libjillapun.a is code for x86_64 Linux"
 
 # The types of the header, as Rust writes them.
