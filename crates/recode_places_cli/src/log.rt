@@ -44,10 +44,15 @@ impl<L: Read> Log<L> {
         if self.len - self.at >= count {
             return Ok(());
         }
+        let kept = self.len - self.at;
         self.bytes.copy_within(self.at..self.len, 0);
-        self.len -= self.at;
         self.at = 0;
-        while self.len < count.min(4096) {
+        self.len = kept;
+        // Each read but the last gives a byte.
+        for _ in 0..count {
+            if self.len >= count {
+                return Ok(());
+            }
             let read = self.reader.read(&mut self.bytes[self.len..])?;
             if read == 0 {
                 return Ok(());
