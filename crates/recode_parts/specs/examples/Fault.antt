@@ -1,5 +1,5 @@
 -- Worked rows of `specs/Fault.antt`.
-use Rattle.std.proofs.Common.{◌≡◌, ◌∙◌, ◌+◌, List, [], ◌∷◌, ℕ, Err, Ok, ap, append-nil, codes, length, refl, sym, arith}
+use Rattle.std.proofs.Common.{◌≡◌, ◌∙◌, ◌+◌, [], ◌∷◌, ℕ, Err, Ok, ap, append-nil, codes, length, refl, sym, arith}
 use Rattle.std.specs.List.{concat, flat_map}
 use Rattle.std.proofs.lemmas.List.{same_from_push}
 use Rattle.recode_log.specs.Call.{Call, Failed, Passed}
@@ -9,7 +9,6 @@ use Rattle.recode_log.specs.declared.counted.Counted.{Counted}
 use Rattle.recode_parts.specs.Fault.{EndsInFailedRead, IsJoinFaultOf, IsOfNoLog, failures_of_part, failures_of_whole}
 use Rattle.recode_parts.specs.Joins.{MadeReads}
 use Rattle.recode_parts.specs.examples.Joins.{device_of_calls, no_line, one-line}
-use Rattle.recode_parts.specs.declared.join.JoinFault.{JoinFault}
 use Rattle.recode_parts.specs.declared.join.JoinFault.TheVariants.{NotALog, Read, Write}
 
 part-read : failures_of_part {T = ℕ} (Err Read) ≡ 1
