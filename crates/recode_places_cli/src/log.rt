@@ -2,9 +2,8 @@
 
 ghost use Rattle.std.specs.Prelude.{◌≤◌};
 
-use std::io;
 use std::io::Read;
-use std::str;
+use std::{io, str};
 
 // How a message begins, at the start of a line: one of `recode`, and the refusal of its words.
 const MESSAGES: [&[u8]; 2] = [b"recode: ", b"error:"];
