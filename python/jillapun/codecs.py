@@ -34,6 +34,9 @@ __all__ = ["search"]
 # Room for the output of one call, in bytes.
 _ROOM = 1 << 16
 
+# No decoder leaves more bytes undecided; it is the limit of Python's own, too.
+_UNDECIDED = 8
+
 # An input or a text so short is tried by one call first.
 _SHORT = 1 << 10
 
@@ -381,8 +384,10 @@ class _IncrementalDecoder(codecs.IncrementalDecoder):
         """Takes what `getstate` returned."""
         if not isinstance(state, tuple) or len(state) != 2:
             raise TypeError("a state of %s is bytes and a number" % self.coding.name)
-        number = _state_of(self.coding, state[1], len(self.coding.begins))
-        self._undecided, self._state = c.bytes_of(state[0]), number
+        number, data = _state_of(self.coding, state[1], len(self.coding.begins)), c.bytes_of(state[0])
+        if len(data) > _UNDECIDED:
+            raise UnicodeError("no decoder of %s leaves %d bytes undecided" % (self.coding.name, len(data)))
+        self._undecided, self._state = data, number
 
 
 class _IncrementalEncoder(codecs.IncrementalEncoder):

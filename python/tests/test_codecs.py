@@ -224,7 +224,7 @@ class Decoders(unittest.TestCase):
             begun, other = decoder.getstate(), encoder.getstate()
             for state in (None, 5, b"", (b"",), (b"", 0, 0), ("", 0), (b"", None), (b"", 0.0), [b"", 0]):
                 self.assertRaises(TypeError, decoder.setstate, state)
-            for state in ((b"", -1), (b"", 4), (b"", 1 << 70)):
+            for state in ((b"", -1), (b"", 4), (b"", 1 << 70), (b"123456789", 0)):
                 self.assertRaises(UnicodeError, decoder.setstate, state)
             for state in (None, "", 0.0, (b"", 0)):
                 self.assertRaises(TypeError, encoder.setstate, state)
