@@ -79,7 +79,7 @@ passed_over before after limit s s' h reads owed none same =
     let chunk : h.chunk ≡ 0x41 ∷ [] = gave_all before.reads after.reads ((0x41 ∷ []) ∷ []) h.chunk reads h.given in
     let split : to_write s (h.chunk ++ []) ≡ h.pays.written_items ++ to_write s' [] = h.pays.equals [] (λ last. refl) in
     let all : to_write s (0x41 ∷ []) ≡ h.pays.written_items ++ [] =
-        subst (λ (l : List Item). to_write s (0x41 ∷ []) ≡ h.pays.written_items ++ l) none (subst (λ (c : List ℕ). to_write s (c ++ []) ≡ h.pays.written_items ++ to_write s' []) chunk split) in
+    subst (λ (l : List Item). to_write s (0x41 ∷ []) ≡ h.pays.written_items ++ l) none (subst (λ (c : List ℕ). to_write s (c ++ []) ≡ h.pays.written_items ++ to_write s' []) chunk split) in
     no_byte_more before.written after.written h.pays.written_items (sym (append-nil h.pays.written_items) ∙ (sym all ∙ owed)) same h.pays.wrote
 
 -- the first piece is that of `A`, whatever comes after it, and neither waits in the decoder nor is written
@@ -87,13 +87,13 @@ kept_piece : (ref : Reference) (e : Coding) (set : EscapeState) (d : DecoderStat
     → ((r : List ℕ) → well_formed 1 (0x41 ∷ []) ∷ rest r ≡ taken ++ d.pieces r) → IsNearlyDecided d → open_from ref e set (text taken) ≡ [] → ⊥
 kept_piece ref e set d [] rest form is (inl none) empty = let some : well_formed 1 (0x41 ∷ []) ∷ rest [] ≡ [] = is [] ∙ none.1 in cc
 kept_piece ref e set d [] rest form is (inr waits) empty =
-    waits.undecided.differs (ap head_piece (sym (is []) ) ∙ ap head_piece (is waits.undecided.more))
+    waits.undecided.differs (ap head_piece (sym (is [])) ∙ ap head_piece (is waits.undecided.more))
 kept_piece ref e set d (p ∷ taken) rest form is settled empty =
     let same : p ≡ well_formed 1 (0x41 ∷ []) = let all : well_formed 1 (0x41 ∷ []) ∷ rest [] ≡ p ∷ (taken ++ d.pieces []) = is [] in cc in
     let written : e.escape set (e.set set 0x41) ++ (spelled ref (e.form 0x41) ++ open_from ref e (e.set set 0x41) (text taken)) ≡ [] =
-        subst (λ (q : Piece). open_from ref e set (piece_text q ++ text taken) ≡ []) same empty in
+    subst (λ (q : Piece). open_from ref e set (piece_text q ++ text taken) ≡ []) same empty in
     let known : e.escape set (e.set set 0x41) ++ ((0x41 ∷ []) ++ open_from ref e (e.set set 0x41) (text taken)) ≡ [] =
-        subst (λ (f : Form). e.escape set (e.set set 0x41) ++ (spelled ref f ++ open_from ref e (e.set set 0x41) (text taken)) ≡ []) form written in
+    subst (λ (f : Form). e.escape set (e.set set 0x41) ++ (spelled ref f ++ open_from ref e (e.set set 0x41) (text taken)) ≡ []) form written in
     absurd (omega (arith, ap length known, length-append (e.escape set (e.set set 0x41)) (0x41 ∷ open_from ref e (e.set set 0x41) (text taken))))
 
 -- `A` was read, which is a piece however the input goes on, and is kept to be written later
@@ -103,7 +103,7 @@ kept_for_later : (before after : Devices) (limit : ℕ) (s s' : State) (rest : L
 kept_for_later before after limit s s' rest h reads pieces form same =
     let chunk : h.chunk ≡ 0x41 ∷ [] = gave_all before.reads after.reads ((0x41 ∷ []) ∷ []) h.chunk reads h.given in
     let split : (r : List ℕ) → s.decoder.pieces (0x41 ∷ r) ≡ h.advances.taken ++ s'.decoder.pieces r =
-        λ r. subst (λ (c : List ℕ). s.decoder.pieces (c ++ r) ≡ h.advances.taken ++ s'.decoder.pieces r) chunk (h.advances.rest r) in
+    λ r. subst (λ (c : List ℕ). s.decoder.pieces (c ++ r) ≡ h.advances.taken ++ s'.decoder.pieces r) chunk (h.advances.rest r) in
     let written : List ℕ = open_from (reference_form s.policy) s.coding s.set (text h.advances.taken) in
     let nothing : written ≡ [] = append_cancel_left before.written.output written [] (sym h.output ∙ (same ∙ sym (append-nil before.written.output))) in
     kept_piece (reference_form s.policy) s.coding s.set s'.decoder h.advances.taken rest form (λ r. sym (pieces r) ∙ split r) h.settled nothing
