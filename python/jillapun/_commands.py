@@ -6,19 +6,21 @@ from typing import Callable, Dict, Hashable, Iterable, List, Optional
 
 from ._indexes import Indexes, default_folder, name, name_of
 from ._labels import LABELS
-from ._likely import told
 from ._names import shown
 from ._places import places_in
 from ._results import IndexesMissing, JillapunError, UnknownLabel
 from ._terminal import Terminal, Unsaid, complain, is_heard, unheard
-from ._which import Reading, Which, which
+from ._which import NAMES, Reading, Which, which
 from ._words import labels_parser, places_parser, which_parser
 
 # How many columns of a line are shown.
 _WIDTH = 64
 
-# How many lines are shown, and of how many encodings, unless the command line says so. A guess looks at more.
-_LINES, _MOST, _GUESSED_LINES = 3, 24, 100
+# How many lines are shown, and of how many encodings, unless the command line says so.
+_LINES, _MOST = 3, 24
+
+# Text in another encoding is hardly ever valid in one of these.
+_MULTI_BYTE = ["ISO-2022-JP", "Shift_JIS", "EUC-JP", "EUC-KR", "GBK", "Big5"]
 
 
 def refused_label(words: argparse.Namespace) -> Optional[str]:
@@ -89,18 +91,41 @@ def _by_readings(found: Which, most: int, lines: int) -> Iterable[str]:
             yield from ("  %s  %s" % (label.ljust(width), _cut(line)) for label, line in rows)
 
 
+def _summary(found: Which) -> str:
+    """What a file is, as far as its bytes say."""
+    bad = {name: one.bad for one in found.readings for name in one.encodings}
+    utf_8 = next(one for one in found.readings if "UTF-8" in one.encodings)
+    if not found.read:
+        return "empty"
+    if found.mark:
+        count = bad[found.mark]
+        return found.mark + " (byte order mark)" + (" (malformed sequences: %d)" % count if count else "")
+    if any("\0" in line for line in utf_8.lines):
+        return "has NUL bytes: UTF-16 without a byte order mark, or no text"
+    if "windows-1252" in utf_8.encodings:
+        return "ASCII" if "ISO-2022-JP" in utf_8.encodings or bad["ISO-2022-JP"] else "ISO-2022-JP, or ASCII with escapes"
+    if not utf_8.bad:
+        return "UTF-8"
+    valid = [name for name in NAMES if not bad[name] and name not in ("replacement", "x-user-defined")]
+    first = [name for name in _MULTI_BYTE if name in valid] or valid[:1]
+    if "windows-1252" in valid and first == valid[:1]:
+        first = ["windows-1252"]
+    others = len(valid) - len(first)
+    return "not UTF-8; valid in %s" % ", ".join(first) + (" and %d other encodings" % others if others else "")
+
+
 def tell_which(arguments: List[str]) -> int:
-    """The encoding of each file, as far as it can be told, or how each encoding reads it."""
+    """What each file is, or how each encoding reads it."""
     words = which_parser().parse_args(arguments)
     is_long = words.all or words.lines is not None or words.most is not None
-    lines = _GUESSED_LINES if not is_long else _LINES if words.lines is None else words.lines
+    lines = _LINES if words.lines is None else words.lines
     most = _MOST if words.most is None else words.most
 
     def tell(path: str, terminal: Terminal, indexes: Optional[Indexes]) -> int:
         size = os.path.getsize(path) or 1
         progress = lambda read: terminal.show(path, min(read / size, 1))  # noqa: E731
         found = which(path, lines=lines, indexes=indexes, progress=progress)
-        head = "%s: %s" % (shown(path), "%d bytes" % found.read if is_long else told(found))
+        head = "%s: %s" % (shown(path), "%d bytes" % found.read if is_long else _summary(found))
         rows = _by_readings(found, most, lines) if is_long else ()
         terminal.tell("".join(line + "\n" for line in [head, *rows]))
         return 0

@@ -51,12 +51,11 @@ Exit status, the greatest of all files:
 """
 
 _WHICH = """\
-Prints a line for each file, NAME: ENCODING. It says if the file begins with a byte order mark, if
-it is all ASCII, or if it is well-formed UTF-8, which text in another encoding hardly ever is.
-Otherwise the line is a guess: it names the likely ones of the encodings that read the file without
-a malformed sequence, or one that is far more likely and has few. A guess goes by how characters
-stand beside one another, in the first lines that are not all ASCII. Encodings that read the file
-alike are named by one of them. Compare what --all prints before you rely on a guess.
+Prints a line for each file. It says if the file begins with a byte order mark, if it is all ASCII,
+or if it is well-formed UTF-8, which text in another encoding hardly ever is. Otherwise it names the
+multi-byte encodings in which the file has no malformed sequence, which is rare for other text, too,
+or else windows-1252, and how many encodings read it as well. It does not guess: compare what --all
+prints.
 
 With --all, for each of the 40 encodings the number of malformed sequences that a file has in it.
 Encodings that read the file alike stand in one line. Below it are the first lines of the file that

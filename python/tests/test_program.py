@@ -546,7 +546,7 @@ class Documents(Folder):
         text = Path(cases.TOP, "docs/PYTHON.md").read_text(encoding="utf-8")
         lines = text.split("## Files in unknown encodings")[1].split("\n## ")[0].splitlines()
         shown = [line[4:] for line in lines if line.startswith("    ")]
-        prices = "name;price\nGröße;3 €\n"
+        prices = "name;price\nCafé;3 €\n"
         self.put("april.csv", b"\xff\xfe" + prices.encode("utf-16-le")), self.put("march.csv", b"name;price\nTea;3\n")
         self.put("february.csv", prices.encode("cp1252")), self.put("january.csv", prices.encode())
         self.put("may.csv", "品名;価格\nりんご;3".encode("cp932") + b"\xff\n" + "みかん;4\nぶどう;5\n".encode("cp932"))

@@ -4,6 +4,7 @@ import doctest
 import io
 import os
 import random
+import re
 import shutil
 import subprocess
 import sys
@@ -15,7 +16,7 @@ from unittest import mock
 import cases
 import jillapun
 from jillapun import _commands as commands
-from jillapun import _likely, _places, _which
+from jillapun import _places, _which
 from jillapun._labels import LABELS
 from test_codecs import EDGES, inputs, seen_by
 from test_files import Folder
@@ -138,65 +139,6 @@ class Facts(Folder):
         self.assertEqual((ran.failed, ran.attempted), (0, 3))
 
 
-# Texts with the codec of Python's in which they are written, and the encoding that is the most likely.
-GUESSED = [
-    ("Größe;Straße;3 €\nfür Äpfel, Öl\n", "cp1252", "windows-1252"),
-    ("Größe;3 €\n", "cp1252", "windows-1252"),
-    ("café noir\n", "cp1252", "windows-1252"),
-    ("it’s “quoted” — naïve\n", "cp1252", "windows-1252"),
-    ("Zażółć gęślą jaźń\n", "cp1250", "windows-1250"),
-    ("Příliš žluťoučký kůň\n", "cp1250", "windows-1250"),
-    ("café\n", "mac_roman", "macintosh"),
-    ("Привет, как дела? Хорошо, я рад за тебя\n", "cp1251", "windows-1251"),
-    ("Привет, как дела? Хорошо, я рад за тебя\n", "koi8-r", "KOI8-R"),
-    ("Привет, как дела? Хорошо, я рад за тебя\n", "cp866", "IBM866"),
-    ("Καλημέρα, τι κάνετε; Όλα καλά, ευχαριστώ\n", "cp1253", "windows-1253"),
-    ("مرحبا كيف حالك\n", "cp1256", "windows-1256"),
-    ("日本語のテキストです。これはテストです\n", "cp932", "Shift_JIS"),
-    ("日本語のテキストです。これはテストです\n", "euc-jp", "EUC-JP"),
-    ("日本語のテキストです。これはテストです\n", "iso2022_jp", "ISO-2022-JP"),
-    ("안녕하세요. 반갑습니다. 오늘은 날씨가 좋습니다\n", "euc-kr", "EUC-KR"),
-    ("这是一个中文文本，我们在测试。\n", "gbk", "GBK"),
-    ("這是一個中文文本，我們在測試。\n", "big5", "Big5"),
-    ("name;price\nTea;3\n", "utf-16-le", "UTF-16LE"),
-    ("name;price\nTea;3\n", "utf-16-be", "UTF-16BE"),
-    ("Привет мир\n", "utf-16-le", "UTF-16LE"),
-]
-
-
-class Likely(unittest.TestCase):
-    def told(self, data: bytes) -> str:
-        return _likely.told(jillapun.which(data, lines=100))
-
-    def test_facts(self) -> None:
-        rows = {
-            b"": "empty",
-            b"abc\n": "ASCII",
-            "é\n".encode(): "UTF-8",
-            b"\xef\xbb\xbfabc": "UTF-8 (byte order mark)",
-            b"\xef\xbb\xbf\xff\xff": "UTF-8 (byte order mark) (malformed sequences: 2)",
-            b"\xff\xfea\0": "UTF-16LE (byte order mark)",
-            b"\xfe\xff\0a": "UTF-16BE (byte order mark)",
-            "Größe für alle, café\n".encode() * 9 + b"caf\xe9\n": "UTF-8 (malformed sequences: 1)",
-        }
-        self.assertEqual({data: self.told(data) for data in rows}, rows)
-
-    def test_guesses(self) -> None:
-        for text, codec, name in GUESSED:
-            told = self.told(text.encode(codec))
-            self.assertIn(told.split(" (")[0].split(",")[0], ["likely " + name], (text, codec, told))
-
-    def test_guesses_with_losses(self) -> None:
-        """A damaged file is not taken for another encoding, in which its bytes happen to be text."""
-        data = "日本語のテキストです。これはテストです\n".encode("cp932") * 9 + b"\xff\n"
-        self.assertEqual(self.told(data), "likely Shift_JIS (malformed sequences: 1)")
-
-    def test_no_guess(self) -> None:
-        """Where no letter tells one reading from another."""
-        for data in (b"5 \x80\n", "GRÖSSE\n".encode("cp1252")):
-            self.assertRegex(self.told(data), r"^unclear: \d+ readings fit, --all shows them$")
-
-
 class Places(Folder):
     def heads(self, data: bytes, job: Job) -> List[str]:
         words = job.source, job.target
@@ -255,12 +197,21 @@ class Commands(Programs):
 
     def test_which_in_a_line(self) -> None:
         """One for each file, whatever its name."""
-        files = {"a\x1b\n": b"abc", "b": "é".encode(), "c": b"\xff\xfea\0", "d": "Größe".encode("cp1252")}
-        status, out, error = self.ran("which", *(self.put(name, data) for name, data in files.items()))
+        rows = {
+            "a\x1b\n": (b"abc", "ASCII"),
+            "b": ("é\n".encode(), "UTF-8"),
+            "c": (b"\xff\xfea\0", "UTF-16LE (byte order mark)"),
+            "d": (b"\xef\xbb\xbf\xff", "UTF-8 (byte order mark) (malformed sequences: 1)"),
+            "e": ("café\n".encode("cp1252"), "not UTF-8; valid in windows-1252 and N other encodings"),
+            "f": ("日本語です。\n".encode("cp932"), "not UTF-8; valid in Shift_JIS, GBK and N other encodings"),
+            "g": ("日本".encode("iso2022_jp"), "ISO-2022-JP, or ASCII with escapes"),
+            "h": ("name;3\n".encode("utf-16-le"), "has NUL bytes: UTF-16 without a byte order mark, or no text"),
+            "i": (b"", "empty"),
+        }
+        status, out, error = self.ran("which", *(self.put(name, data) for name, (data, _) in rows.items()))
         self.assertEqual((status, error), (0, ""))
-        lines = out.splitlines()
-        told = ["a<U+001B><U+000A>: ASCII", "b: UTF-8", "c: UTF-16LE (byte order mark)", "d: likely windows-1252"]
-        self.assertEqual([line.split(" (1")[0] for line in lines], [self.at(line) for line in told])
+        told = ["%s: %s" % (name.replace("\x1b\n", "<U+001B><U+000A>"), line) for name, (_, line) in rows.items()]
+        self.assertEqual(re.sub(r"\d+ other", "N other", out).splitlines(), [self.at(line) for line in told])
         self.assertIn("begins with a byte order mark of UTF-16LE\n", self.ran("which", "--all", self.at("c"))[1])
 
     def test_shown(self) -> None:
