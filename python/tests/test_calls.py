@@ -164,7 +164,8 @@ class Files(unittest.TestCase):
 
     def test_convert_file(self) -> None:
         Path(self.path).write_bytes(TEXT.encode("cp932") + b"\xff")
-        done = jillapun.convert_file(self.path, self.path, "shift_jis", "utf-8", lossy=True, keep_losses=9)
+        words = {"in_place": True, "lossy": True, "keep_losses": 9}
+        done = jillapun.convert_file(self.path, self.path, "shift_jis", "utf-8", **words)
         self.assertEqual(Path(self.path).read_text(encoding="utf-8"), TEXT + "\ufffd")
         size = len(TEXT.encode("cp932"))
         self.assertEqual(done, (size + 1, 1, 0, False, [(size, 1)], len(TEXT) + 1))
@@ -174,7 +175,7 @@ class Files(unittest.TestCase):
         data, told, losses = "é日".encode() * 70000, [], []
         Path(self.path).write_bytes(data)
         words = {"progress": told.append, "on_loss": losses.append, "keep_losses": 20000, "lossy": True}
-        done = jillapun.convert_file(self.path, self.path, "utf-8", "windows-1252", **words)
+        done = jillapun.convert_file(self.path, self.path, "utf-8", "windows-1252", in_place=True, **words)
         wanted = jillapun.convert(data, "utf-8", "windows-1252")
         self.assertEqual(Path(self.path).read_bytes(), wanted.output)
         self.assertEqual(losses, wanted.losses)
@@ -183,10 +184,10 @@ class Files(unittest.TestCase):
 
     def test_limit_of_file(self) -> None:
         Path(self.path).write_bytes(b"abcd")
-        done = jillapun.convert_file(self.path, self.path, "utf-8", "utf-8", limit=4)
+        done = jillapun.convert_file(self.path, self.path, "utf-8", "utf-8", in_place=True, limit=4)
         self.assertEqual(done, (4, 0, 0, True, [], 4))
         with self.assertRaises(jillapun.TooLong):
-            jillapun.convert_file(self.path, self.path, "utf-8", "utf-8", limit=3)
+            jillapun.convert_file(self.path, self.path, "utf-8", "utf-8", in_place=True, limit=3)
         self.assertEqual(os.listdir(self.folder.name), ["a.txt"])
 
     def test_stop_in_a_file(self) -> None:
