@@ -446,7 +446,7 @@ The program is `crates/hello/src/main.rt`. `cd crates/hello && rt run` proves it
 def pages():
     """The name and the text of each page."""
     index = ["# Reference", "", "What each library offers, from its sources, by `make generate` (`tools/pages/reference.py`)."]
-    index += ["A contract says what a call requires and ensures; each word of it links the definition. Terms of the prose are in [TERMS.md](../TERMS.md).", ""]
+    index += ["A contract says what a call requires and ensures; each word of it links the definition. The [glossary](../GLOSSARY.md) explains the terms.", ""]
     for crate in LIBRARIES:
         page, found, foreign = library(crate)
         lines = ["# %s" % crate, "", "<!-- Written by tools/pages/reference.py from the sources; do not edit. -->", ""]
