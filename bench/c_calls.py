@@ -1,12 +1,12 @@
 #!/usr/bin/env python3
-"""Measures calls of the library for C that take a little of what is handed in, beside encoding_rs: see docs/PERFORMANCE.md.
+"""Measures calls of the library for C that take a little of what is handed in, beside encoding_rs: see bench/README.md.
 
     python3 bench/c_calls.py [--rounds N] [--write]
 
 It wants the library built (`make c`), cargo, and the crate encoding_rs of Debian (librust-encoding-rs-dev). What counts is
 processor time of the thread. Rounds of the sides take turns, and a ratio is the median of the ratios of one turn, with its
 quartiles. encoding_rs is handed a `&str`, and tests nothing; in a second column its caller has bytes, as the library's has, and
-calls `std::str::from_utf8` on them once. With --write the tables go into docs/PERFORMANCE.md.
+calls `std::str::from_utf8` on them once. With --write the results go to bench/results.
 """
 
 import argparse
@@ -22,11 +22,10 @@ sys.path.insert(0, HERE)
 import programs
 
 TOP = os.path.abspath(os.path.join(HERE, ".."))
-PAGE = os.path.join(TOP, "docs", "PERFORMANCE.md")
-# The kinds of rows: the marks of the table, and its head.
+# The kinds of rows: the name of the result, and its columns. The program divides times: below 1 ours is faster.
 TABLES = {
-    "call": ("c calls", ["A call", "ns", "encoding_rs, ns", "ours to theirs"]),
-    "whole": ("c texts", ["1 MiB", "ms", "encoding_rs, ms", "ours to theirs", "from bytes, ms", "ours to theirs"]),
+    "call": ("c_calls", ["A call", "ns", "encoding_rs, ns", "time to encoding_rs"]),
+    "whole": ("c_texts", ["1 MiB", "ms", "encoding_rs, ms", "time to encoding_rs", "from bytes, ms", "time to that from bytes"]),
 }
 
 
@@ -52,9 +51,9 @@ def main():
         rows[kind].append(cells + [""] * (len(TABLES[kind][1]) - len(cells)))
         print(" | ".join(cells))
     if given.write:
-        for number, (kind, (name, head)) in enumerate(TABLES.items()):
-            table = programs.table(head, rows[kind])
-            programs.write(PAGE, name, table if number else about + "\n\n" + table)
+        what = "Calls of the library for C that take a part of their input, beside %s; times, below 1 ours is faster."
+        for kind, (name, head) in TABLES.items():
+            programs.record(name, what % programs.versions("encoding_rs") + " " + about, head, rows[kind])
 
 
 if __name__ == "__main__":

@@ -1,5 +1,5 @@
 #!/usr/bin/env python3
-"""Measures the library for C: see docs/PERFORMANCE.md.
+"""Measures the library for C: see bench/README.md.
 
     python3 bench/c_interface.py [--rounds N] [--megabytes N] [--short] [--write] [WORD..]
 
@@ -12,7 +12,7 @@ workloads that have one of them in their names; with --short the texts of 20 byt
 What counts is processor time: of the calling thread for a call, of a whole run for a program, which reads its input and
 its indexes and writes to /dev/null. Rounds of two sides take turns, and a ratio is the median of the ratios of neighbours,
 with its quartiles; one whose quartiles are more than a tenth apart has a `~`. Of texts of 20 bytes the least time of many
-short rounds counts. With --write the tables go into docs/PERFORMANCE.md.
+short rounds counts. With --write the results go to bench/results.
 """
 
 import argparse
@@ -32,8 +32,6 @@ import programs
 from jillapun import _bare as bare
 from jillapun import _library as library
 from jillapun._indexes import handle_of, number_of
-
-PAGE = os.path.join(HERE, "..", "docs", "PERFORMANCE.md")
 
 # Texts of 20 bytes: what they are, the text, the label and Python's codec.
 SHORT = [
@@ -203,14 +201,15 @@ def main():
             head = ["Workload", "`jillapun_convert`", "by steps"]
             for name in ("recode", "encoding_rs"):
                 head += [name, "to " + name, "by steps, to " + name]
-            programs.write(PAGE, "c interface", about + "\n\n" + programs.table(head[: len(whole[0])], whole))
+            what = "The library for C from memory to memory, in one call and by steps: " + programs.SPEED_UNIT.replace("recode", "ours")
+            programs.record("c_interface", what + ". " + about, head[: len(whole[0])], whole)
     short = list(shown(short_rows(given)))
     if given.write:
         about = "%s; Python %s, the least of %d rounds of %d calls." % (
             about.rpartition("; ")[0], sys.version.split()[0], TIMES * given.rounds, CALLS)  # fmt: skip
-        head = ["20 bytes", "`jillapun.decode`", "Python", "`jillapun.encode`", "Python", "`jillapun.convert`"]
-        text = programs.table([*head, "`jillapun_convert` alone"], short)
-        programs.write(PAGE, "short texts", about + "\n\n" + text)
+        head = ["20 bytes", "jillapun.decode", "bytes.decode", "jillapun.encode", "str.encode", "jillapun.convert"]
+        what = "Texts of 20 bytes in Python: microseconds of processor time a call. "
+        programs.record("python_short", what + about, [*head, "jillapun_convert alone"], short)
 
 
 if __name__ == "__main__":

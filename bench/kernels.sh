@@ -2,10 +2,13 @@
 # Measures functions of encoding_mem beside those of the crate encoding_rs: see bench/functions.md.
 #
 #   bench/kernels.sh [WORD]     all functions, or those with the word in their names
+#   bench/kernels.sh --write    all functions; the results also go to bench/results/kernels.tsv
 #
 # Wants cargo, rt and Debian's package librust-encoding-rs-dev. Works in a folder outside the repository, since
 # the merge gate reads each crate in it; what is proved there stays for the next run.
 set -euo pipefail
+write=
+[ "${1-}" != --write ] || { write=yes; shift; }
 here=$(cd "$(dirname "$0")" && pwd)
 work=${KERNELS_WORK:-${TMPDIR:-/tmp}/jillapun-kernels-$(id -u)}
 
@@ -32,7 +35,18 @@ printf 'encoding_mem: simdutf8\nmem_exports staticlib: encoding_mem\n' > "$work/
 cp -a "$here/kernels/." "$work/driver/"
 (cd "$work/driver" && cargo build --release --offline --quiet)
 
-echo "$(rustc --version); $(rt version | head -1); encoding_rs $(basename /usr/share/cargo/registry/encoding_rs-* | cut -d- -f2)"
-echo "$(sed -n 's/^model name[^:]*: //p' /proc/cpuinfo | head -1), $(nproc) processors, load $(cut -d' ' -f1 /proc/loadavg); $(date -u +%F)"
-echo "MB/s of input, medians; ratio: ours to theirs"
-"$work/target/release/kernels" "$@"
+tools="$(rustc --version); $(rt version | head -1); encoding_rs $(basename /usr/share/cargo/registry/encoding_rs-* | cut -d- -f2)"
+machine="$(sed -n 's/^model name[^:]*: //p' /proc/cpuinfo | head -1), $(nproc) processors, load $(cut -d' ' -f1 /proc/loadavg); $(date -u +%F)"
+unit='MB/s of input, medians; ratio: ours to theirs'
+printf '%s\n' "$tools" "$machine" "$unit"
+"$work/target/release/kernels" "$@" | tee "$work/kernels.out"
+
+# The rows of the table as bench/results has them.
+if [ "$write" ]; then
+    {
+        echo "# Functions of encoding_mem: $unit. $tools; $machine"
+        printf 'function\ttext\tours, 1 MB\tencoding_rs, 1 MB\tto encoding_rs, 1 MB\t'
+        printf 'ours, 64 bytes\tencoding_rs, 64 bytes\tto encoding_rs, 64 bytes\n'
+        sed -n '/^| `/ { s/`//g; s/^| //; s/ |$//; s/ | /\t/g; p }' "$work/kernels.out"
+    } > "$here/results/kernels.tsv"
+fi

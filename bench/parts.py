@@ -1,5 +1,5 @@
 #!/usr/bin/env python3
-"""Measures one conversion in parts beside one `recode`, and beside `iconv` under GNU parallel: see docs/PERFORMANCE.md.
+"""Measures one conversion in parts beside one `recode`, and beside `iconv` under GNU parallel: see bench/README.md.
 
     python3 bench/parts.py [--megabytes N] [--parts N,N,..] [--folder PATH] [--write]
 
@@ -7,7 +7,7 @@ It wants the program and the library built (`make build`, `make c`), and room fo
 input is lines in Shift_JIS, of which one in fifty has a malformed byte. Each conversion reads a file and writes an output and a
 log into files, which are compared with those of one `recode`, byte by byte. Wall time and processor time are those of whole
 processes, with all that they start. `iconv` drops what is malformed and tells nothing of it, so its output is not compared.
-With --write the table goes into docs/PERFORMANCE.md.
+With --write the results go to bench/results.
 """
 
 import argparse
@@ -27,7 +27,6 @@ sys.path.insert(0, HERE)
 import programs
 
 TOP = os.path.abspath(os.path.join(HERE, ".."))
-PAGE = os.path.join(TOP, "docs", "PERFORMANCE.md")
 RECODE = os.path.join(TOP, "crates", "recode_cli", "out", "recode_cli")
 INDEXES = os.path.join(TOP, "indexes")
 HEAD = ["Conversion", "parts", "wall, s", "processor, s", "of it joining, s", "wall to one `recode`", "processor to one `recode`"]
@@ -142,9 +141,10 @@ def main():
     about = programs.machine(given)
     print(about, flush=True)
     with tempfile.TemporaryDirectory(dir=given.folder) as folder:
-        table = programs.table(HEAD, list(rows(given, folder)))
+        found = list(rows(given, folder))
     if given.write:
-        programs.write(PAGE, "parts", about + "\n\n" + table)
+        what = 'Shift_JIS to UTF-8 with a malformed byte in one line of fifty, each conversion once. "to one `recode`"'
+        programs.record("parts", what + " divides times: below 1 is faster. " + about, HEAD, found)
 
 
 if __name__ == "__main__":

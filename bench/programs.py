@@ -11,14 +11,16 @@ machine that is slow for a moment is slow for both. A ratio is the median of all
 are more than a tenth apart, as many rounds are run again, up to five times in all; one that stays so has a `~`, and
 is no figure to quote. Each output of `recode` is compared with that of the program over encoding_rs. With --linear it
 measures something else: whether ten times the input takes ten times the processor time and no more memory. With
---damaged it measures inputs with many faults, to /dev/null and to files, beside the program over encoding_rs, which
-hands its log on in blocks, and `iconv -c`, which writes none. With --write the table goes into docs/PERFORMANCE.md,
-and docs/programs.svg shows that of the workloads.
+--damaged it measures inputs with many losses, to /dev/null and to files, beside the program over encoding_rs, which
+writes its log in blocks, and `iconv -c`, which writes none. With --write the results go to bench/results; those of the
+workloads also to the table of docs/PERFORMANCE.md and to docs/programs.svg.
 """
 
 import argparse
+import glob
 import os
 import random
+import re
 import shutil
 import statistics
 import subprocess
@@ -29,6 +31,10 @@ import time
 HERE = os.path.dirname(os.path.abspath(__file__))
 INDEXES = os.path.join(HERE, "..", "indexes")
 RECODE = os.path.join(HERE, "..", "crates", "recode_cli", "out", "recode_cli")
+RESULTS = os.path.join(HERE, "results")
+
+# A ratio as it is printed: the median, and the quartiles.
+RATIO = re.compile(r"~?([\d.]+) \(([\d.]+) to ([\d.]+)\)")
 
 # The files of the code that is measured.
 SOURCES = [":(top,glob)crates/*/src/**", ":(top,glob)rust/*/src/**"]
@@ -195,9 +201,11 @@ class Ratio:
     def is_steady(self):
         return self.high - self.low <= self.median / 10
 
+    def shown_median(self):
+        return "%s%.2f" % ("" if self.is_steady() else "~", self.median)
+
     def __str__(self):
-        unsteady = "" if self.is_steady() else "~"
-        return "%s%.2f (%.2f to %.2f)" % (unsteady, self.median, self.low, self.high)
+        return "%s (%.2f to %.2f)" % (self.shown_median(), self.low, self.high)
 
 
 def compared(ours, theirs, path, rounds, targets=(os.devnull, os.devnull)):
@@ -270,6 +278,10 @@ def start_rows(program, tools, work, rounds):
 # The sizes of input, in MB, that show how the cost of a run grows.
 SIZES = (10, 100)
 
+# What the numbers of a result are.
+SPEED_UNIT = 'MB of input a second of processor time; "to" says how many times as fast recode is, with quartiles'
+GROWTH_UNIT = "milliseconds of processor time for each MB"
+
 # How many times the rounds are run, at most, until a ratio is steady.
 MOST_ROUNDS = 5
 
@@ -307,7 +319,7 @@ def damaged_inputs():
 
 
 def measure_damaged(given, work):
-    """The table of inputs with many faults: speeds of ours, beside its peers, to /dev/null and to files."""
+    """The head and rows of inputs with many losses: speeds of ours, beside its peers, to /dev/null and to files."""
     tools = {name: command for name, command in peers(work).items() if name == "encoding_rs"}
     tools["iconv -c"] = lambda source, target: [
         "iconv", "-c", "-f", ICONV.get(source, source), "-t", ICONV.get(target, target)]
@@ -327,8 +339,8 @@ def measure_damaged(given, work):
         print(" | ".join(cells), flush=True)
     head = ["Damaged input"]
     for where in ("to /dev/null", "to files"):
-        head += ["recode " + where] + ["to " + name for name in tools]
-    return table(head, rows)
+        head += ["recode " + where] + ["to %s, %s" % (name, where) for name in tools]
+    return head, rows
 
 
 def table(head, rows):
@@ -385,6 +397,37 @@ def machine(given):
         time.strftime("%Y-%m-%d", time.gmtime()), code(), model, os.cpu_count(), os.getloadavg()[0], kit, given.rounds, size)
 
 
+def versions(*names):
+    """The versions of peers, in words."""
+    said = []
+    for name in names:
+        if name == "encoding_rs":
+            found = sorted(glob.glob("/usr/share/cargo/registry/encoding_rs-[0-9]*"))
+            said += [os.path.basename(path).replace("-", " ") for path in found[:1]]
+        elif shutil.which(name):
+            lines = subprocess.run([name, "--version"], capture_output=True, text=True).stdout.split("\n")
+            said.append(lines[0] if lines[0].startswith(name) else "%s %s" % (name, lines[0]))
+    return ", ".join(said)
+
+
+def record(name, about, head, rows):
+    """Writes bench/results/NAME.tsv: a line that says what was measured, where and when, a line with the names of the
+    columns, and a line for each row. A ratio with its quartiles has three columns."""
+    columns = []
+    for title, cells in zip(head, zip(*rows)):
+        ratios = [RATIO.fullmatch(cell) for cell in cells]
+        if not any(ratios):
+            columns.append([title, *cells])
+            continue
+        for number, part in enumerate((title, title + " low", title + " high"), start=1):
+            columns.append([part] + [ratio.group(number) if ratio else "" for ratio in ratios])
+    os.makedirs(RESULTS, exist_ok=True)
+    with open(os.path.join(RESULTS, name + ".tsv"), "w", encoding="utf-8") as file:
+        file.write("# %s\n" % about)
+        for line in zip(*columns):
+            file.write("\t".join(cell.replace("`", "") for cell in line) + "\n")
+
+
 def write(path, name, text):
     """Puts a text between the marks with its name in a document."""
     with open(path, encoding="utf-8") as document:
@@ -404,7 +447,7 @@ def chosen(words):
 
 
 def measure_growth(given, work):
-    """The table of how the cost of each workload grows with its input."""
+    """The head and rows of how the cost of each workload grows with its input."""
     made = dict(texts())
     rows = []
     for title, text, source, target in chosen(given.words):
@@ -412,7 +455,7 @@ def measure_growth(given, work):
         rows.append([title] + growth(given.program, (source, target), block, work, given.rounds))
         print(" | ".join(rows[-1]), flush=True)
     head = ["Workload", *("ms a MB, of %d MB" % size for size in SIZES), "second to first"]
-    return table(head + ["resident of %d MB, in MB" % size for size in SIZES], rows)
+    return head + ["resident of %d MB, in MB" % size for size in SIZES], rows
 
 
 def main():
@@ -428,16 +471,17 @@ def main():
     document = os.path.join(HERE, "..", "docs", "PERFORMANCE.md")
     with tempfile.TemporaryDirectory(dir="/dev/shm" if os.path.isdir("/dev/shm") else None) as work:
         if given.linear:
-            about, grown = machine(given), measure_growth(given, work)
+            about, (head, rows) = machine(given), measure_growth(given, work)
             print(about)
             if given.write:
-                write(document, "growth", about + "\n\n" + grown)
+                record("growth", "How the cost of a run of recode grows: %s. %s" % (GROWTH_UNIT, about), head, rows)
             return
         if given.damaged:
-            about, faults = machine(given), measure_damaged(given, work)
+            about, (head, rows) = machine(given), measure_damaged(given, work)
             print(about)
             if given.write:
-                write(document, "damaged", about + "\n\n" + faults)
+                what = "Inputs with many losses, beside %s: %s." % (versions("encoding_rs", "iconv"), SPEED_UNIT)
+                record("damaged", what + " " + about, head, rows)
             return
         tools = peers(work)
         head = ["Workload", "recode", *tools, *("to " + name for name in tools), "pivot of UTF-16 to that of UTF-8", "resident, MB"]
@@ -455,8 +499,13 @@ def main():
         start_head = ["100 bytes", "recode", *tools]
         print(table(start_head, starts))
     if given.write:
-        write(document, "programs", about + "\n\n" + table(head, rows))
-        write(document, "starts", table(start_head, starts))
+        peer_versions = versions("encoding_rs", "iconv", "uconv")
+        record("programs", "Whole runs, beside %s: %s. %s" % (peer_versions, SPEED_UNIT, about), head, rows)
+        what = "Whole runs of 100 bytes, beside %s: milliseconds of processor time." % peer_versions
+        record("starts", what + " " + about, start_head, starts)
+        shown = [[title] + [measured[name].shown_median() if name in measured else "-" for name in tools] for title, measured in ratios]
+        start = "; ".join(about.split("; ")[:2])
+        write(document, "programs", start + ".\n\n" + table(["Workload", *tools], shown))
         with open(os.path.join(HERE, "..", "docs", "programs.svg"), "w", encoding="utf-8") as picture:
             picture.write(plot(ratios))
 

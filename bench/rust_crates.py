@@ -1,12 +1,12 @@
 #!/usr/bin/env python3
-"""Measures the crate for Rust beside Debian's encoding_rs: see docs/PERFORMANCE.md.
+"""Measures the crate for Rust beside Debian's encoding_rs: see bench/README.md.
 
     python3 bench/rust_crates.py [--rounds N] [--write]
     python3 bench/rust_crates.py --compare
 
 It wants the library built (`make c`), cargo, and the crate encoding_rs of Debian (librust-encoding-rs-dev), which is built
 twice: as it is by default, and with the feature `fast-legacy-encode`. Each work is done by both crates of a program in
-turns. With --write the tables go into docs/PERFORMANCE.md. With --compare nothing is timed: what both give of many inputs and
+turns. With --write the results go to bench/results. With --compare nothing is timed: what both give of many inputs and
 texts must be equal, but for what bench/README.md lists; half a minute, and the status is 1 if something else differs.
 """
 
@@ -23,13 +23,12 @@ sys.path.insert(0, HERE)
 import programs
 
 TOP = os.path.abspath(os.path.join(HERE, ".."))
-PAGE = os.path.join(TOP, "docs", "PERFORMANCE.md")
 FOLDER = os.path.join(HERE, "crates")
 BUILDS = {"encoding_rs": [], "encoding_rs, fast": ["--features", "fast"]}
-# The rows of a kind: the marks of its table, and its head.
+# The rows of a kind: the name of the result, and what its numbers are.
 TABLES = {
-    "long": ("rust long", "16 MB, MB/s"),
-    "short": ("rust short", "20 bytes, ns a call"),
+    "long": ("rust_long", "inputs of 16 MB: MB of source a second of processor time"),
+    "short": ("rust_short", "texts of 20 bytes: nanoseconds of processor time a call"),
 }
 
 
@@ -75,16 +74,16 @@ def main():
     for name, build in BUILDS.items():
         with tempfile.TemporaryDirectory() as work:
             found[name] = dict(rows(build, given.rounds, copy(work)))
-    for number, (kind, (mark, title)) in enumerate(TABLES.items()):
-        head = [title, "work", "ours"] + [cell for name in BUILDS for cell in (name, "ours to it")]
+    for kind, (name, unit) in TABLES.items():
+        head = ["encoding", "work", "ours"] + [cell for build in BUILDS for cell in (build, "to " + build)]
         cells = []
         for key, (ours, _, _) in found["encoding_rs"].items():
             if key[0] == kind:
-                cells.append([key[1], key[2], ours] + [cell for name in BUILDS for cell in found[name][key][1:]])
-        table = programs.table(head, cells)
-        print(table, flush=True)
+                cells.append([key[1], key[2], ours] + [cell for build in BUILDS for cell in found[build][key][1:]])
+        print(programs.table(head, cells), flush=True)
         if given.write:
-            programs.write(PAGE, mark, table if number else about + "\n\n" + table)
+            what = 'The crate for Rust beside %s, %s; "to" says how many times as fast ours is, with quartiles. '
+            programs.record(name, what % (programs.versions("encoding_rs"), unit) + about, head, cells)
 
 
 if __name__ == "__main__":
