@@ -1,5 +1,5 @@
 """Losses and reports of the parts of an input, joined to those of the whole. The library adds, and its sums are proved;
-by the law of parts they are of the whole (docs/PROOFS.md, *Parts are the whole*)."""
+by the law of parts they are of the whole (docs/CONTRACTS.md, *Parts*)."""
 
 import ctypes
 from typing import Iterable, List

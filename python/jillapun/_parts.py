@@ -1,7 +1,7 @@
 """A file that is converted in parts, each by a thread. Together they give what one conversion of the file gives.
 
 It may be cut behind any byte below 30, hexadecimal, if its encoding and the output encoding are compatible with ASCII:
-this law is proved (docs/PROOFS.md, *Parts are the whole*). The cutting and the joining here are only tested.
+this law is proved (docs/CONTRACTS.md, *Parts*). The cutting and the joining here are only tested.
 """
 
 import io

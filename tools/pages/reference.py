@@ -476,7 +476,7 @@ def pages():
         lines += list(lemmas(crate))
         yield crate + ".md", re.sub(r"\n{3,}", "\n\n", "\n".join(lines)).rstrip("\n") + "\n"
         index.append("- [`%s`](%s.md): %s" % (crate, crate, " ".join(page).split(". ")[0].rstrip(".") + "."))
-    index.append("- [Three codecs, one law](../CODECS.md): decoder, encoder and converter on one page.")
+    index.append("- [What you can rely on](../TRUST.md), and [the contract of each promise](../CONTRACTS.md).")
     index += ["", HELLO.strip("\n")]
     yield "README.md", "\n".join(index) + "\n"
 
