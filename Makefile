@@ -46,7 +46,7 @@ install: build c
 uninstall:
 	@python3 tools/release/install.py --remove --prefix "$(PREFIX)" --destdir "$(DESTDIR)"
 
-## Takes away all that was built and proved: the next build proves all again
+## Removes what was built and proved in this clone
 clean:
 	@rm -rf out crates/*/out
 
