@@ -32,11 +32,13 @@ def verbatim(lines):
 
 
 def said(lines):
-    """A doc comment: its paragraphs, and the items of its lists."""
+    """A doc comment: its paragraphs, the items of its lists, and its examples, which are indented."""
     text, had_item = [], False
     for paragraph in c_header.paragraphs(lines):
         words, is_item = " ".join(line.strip() for line in paragraph), paragraph[0].startswith("- ")
-        if is_item:
+        if paragraph[0].startswith("    "):
+            text += verbatim(paragraph)
+        elif is_item:
             text += [".RS"] * (not had_item) + ['.IP "\\(bu" 2', roff(words[2:])]
         else:
             text += [".RE", ".IP"] * had_item + ([roff(words)] if words else [".sp"] * (not had_item))
@@ -66,7 +68,7 @@ def constant_groups():
 def constants():
     lines = [line for group in constant_groups() for line in group]
     first, last = c_header.encoding_rows()[0][0], c_header.encoding_rows()[-1][0]
-    lines += [".SS Encodings", "Each encoding is its number, and each number has a name:"]
+    lines += [".SS Encodings", "Each encoding has a number, and a constant for it:"]
     return lines + [".BR JILLAPUN_%s \" (0) to \" JILLAPUN_%s ." % (first, last)]
 
 
