@@ -78,122 +78,116 @@ typedef uint8_t jillapun_status;
 
 /* What a call returns: its status. */
 enum {
-    /** All was done. Of a conversion: nothing was lost. */
+    /** Success. For a conversion: nothing was lost. */
     JILLAPUN_OK = 0,
     /**
-     * All was done, and something was lost: U+FFFD stands for a malformed sequence, or a reference
-     * for a character without bytes; or, of a conversion, the output, read again, is another text.
+     * Success, with losses: a malformed sequence or an unmappable character was replaced or, for a
+     * conversion, the output decodes to a different text.
      */
     JILLAPUN_LOSSY = 1,
-    /**
-     * A number stands for no encoding, handling of marks or policy, or a name for no index file.
-     * Nothing was done.
-     */
+    /** No encoding, BOM handling or policy has the number, or no index file has the name. */
     JILLAPUN_UNKNOWN = 2,
-    /** An index that the encoding needs is not in the tables: load its file. Nothing was done. */
+    /** The tables lack an index that the encoding needs: load its file. */
     JILLAPUN_NOT_READY = 3,
     /**
-     * The text of an index has a fault, or that index was loaded already; the fault says in which
-     * line, or 0 if in none alone. Nothing was kept.
+     * The text of an index file is invalid, or its index was loaded before. The fault has the line.
      */
     JILLAPUN_BAD_INDEX = 4,
-    /** Memory was refused. Nothing was kept, and the call can be made again. */
+    /** Memory allocation failed. Nothing was loaded, and the call can be repeated. */
     JILLAPUN_NO_MEMORY = 5,
-    /** The handle is `{0}`: no stream or conversion was begun in it. Nothing was done. */
+    /** The handle is empty (`{0}`): no stream or conversion was begun with it. */
     JILLAPUN_CLOSED = 6,
-    /** The handle that is to be filled holds something already. Nothing was done. */
+    /** The handle to be filled is not empty. */
     JILLAPUN_IN_USE = 7,
-    /** The stream has ended: an earlier call was the last. Nothing was read or written. */
+    /** The stream has ended: an earlier call returned its end. */
     JILLAPUN_FINISHED = 8,
     /**
-     * The text is not UTF-8, or what is left of it begins with a malformed sequence. Nothing was
-     * read or written.
+     * The text is not UTF-8 or, for an encoder, the rest of the text begins with a malformed
+     * sequence.
      */
     JILLAPUN_NOT_UTF8 = 9,
     /**
-     * The room is too small, and begins with the first part of what was made. The report, or
-     * `written`, says how much is wanted.
+     * A buffer is too small and holds only the beginning of the output. The report, or `written`,
+     * gives the length needed: everything was converted to find it.
      */
     JILLAPUN_ROOM = 10,
     /**
-     * The conversion goes on: call again, with the bytes that follow, or with room for what is
-     * left.
+     * The conversion is not finished: call again, with the bytes that follow or with free space.
      */
     JILLAPUN_GOES_ON = 11,
     /**
-     * The policy is `JILLAPUN_STOP`, and a character has no bytes in the output encoding: the
-     * report names it. All that stands before it was converted.
+     * The policy is `JILLAPUN_STOP`, and the report gives the unmappable character. Everything
+     * before it was converted.
      */
     JILLAPUN_STOPPED = 12,
-    /** The input has more bytes than the limit. */
+    /** The input is longer than the limit. */
     JILLAPUN_TOO_LONG = 13,
-    /** A sequence of the input is malformed, and the call replaces none. */
+    /** The input has a malformed sequence, and the call does not replace it. */
     JILLAPUN_NOT_WELL_FORMED = 14
 };
 
 /* The outcome of a call of a decoder or an encoder. */
 enum {
-    /** All that was handed in is read. */
+    /** All input was read. */
     JILLAPUN_INPUT_EMPTY = 0,
     /**
-     * There is no room for what comes next, or a text that is encoded is not UTF-8 there: hand in
-     * the rest again with more room.
+     * The free space of the buffer is too small, or the text to encode is not UTF-8 at this point.
+     * Pass the unread input again with free space.
      */
     JILLAPUN_OUTPUT_FULL = 1,
     /** A malformed sequence was read, and nothing was written for it. */
     JILLAPUN_MALFORMED = 2,
-    /** A character was read that the encoding has no bytes for, and nothing was written for it. */
+    /** An unmappable character was read, and nothing was written for it. */
     JILLAPUN_UNMAPPABLE = 3
 };
 
 /* What becomes of a byte order mark at the start of an input. */
 enum {
-    /** The mark of UTF-8, UTF-16BE or UTF-16LE decides the encoding, and is left out. */
+    /** The BOM of UTF-8, UTF-16BE or UTF-16LE selects the encoding and is removed. */
     JILLAPUN_SNIFF = 0,
-    /** The mark of the encoding itself is left out. */
+    /** The BOM of the encoding itself is removed. */
     JILLAPUN_REMOVE = 1,
-    /** No mark is looked for, and one is text. */
+    /** No BOM is looked for; one is decoded as text. */
     JILLAPUN_KEEP = 2
 };
 
 /* What is written for a character that the output encoding has no bytes for. */
 enum {
-    /** A decimal reference, as `&#26085;`. */
+    /** A decimal numeric character reference: `&#26085;`. */
     JILLAPUN_DECIMAL = 0,
-    /** A hexadecimal reference, as `&#x65E5;`. */
+    /** A hexadecimal numeric character reference: `&#x65E5;`. */
     JILLAPUN_HEXADECIMAL = 1,
-    /** Nothing: the conversion stops there. */
+    /** Nothing: the conversion stops. */
     JILLAPUN_STOP = 2
 };
 
 /* What an entry of the list of losses is of. */
 enum {
-    /** A malformed sequence of the input: its offset in bytes, and its length in bytes. */
+    /** A malformed sequence of the input: its offset and its length in bytes. */
     JILLAPUN_BAD = 0,
-    /** A lost character of the text: how many characters stand before it, and its code point. */
+    /** An unmappable character: its index in the text, in characters, and its code point. */
     JILLAPUN_LOST = 1
 };
 
 /* What a text is, for layout. */
 enum {
-    /** Each character is at most U+00FF. */
+    /** No character is above U+00FF. */
     JILLAPUN_LATIN1 = 0,
-    /** Some character is above U+00FF, and none is written from right to left. */
+    /** Some character is above U+00FF, and none is right-to-left. */
     JILLAPUN_LEFT_TO_RIGHT = 1,
-    /** Some character may be written from right to left, or the bytes are not UTF-8. */
+    /** Some character may be right-to-left, or the bytes are not UTF-8. */
     JILLAPUN_BIDI = 2
 };
 
 /* What stands in place of a number if there is none. */
 enum {
-    /** No encoding. Each encoding is its number, from 0 on, in the order of the names. */
+    /** No encoding. Encodings are numbered from 0 in the order of their names. */
     JILLAPUN_NO_ENCODING = 255
 };
 
 /**
- * In place of a length: there is none, since nothing has the number, the bytes are not what the
- * call is for, or the length passes a `size_t`. Nothing was written, unless the call says
- * otherwise.
+ * In place of a length: no encoding has the number, the input is not valid for the function, or
+ * the length does not fit into a `size_t`.
  */
 #define JILLAPUN_REFUSED SIZE_MAX
 
@@ -288,11 +282,8 @@ typedef struct {
 } jillapun_bytes;
 
 /**
- * Tables of indexes, loaded by `jillapun_tables_new`. Begin with `{0}`, which holds none, and
- * does wherever tables are handed in for encodings that need no index.
- *
- * The tables live as long as the process, and are never changed. So a copy of this is as good
- * as this, and any number of threads may use the same tables at once.
+ * The tables of loaded indexes. Pass `{0}`, which has none, for encodings that need no index.
+ * Tables are never changed or freed, so any number of threads may share them.
  *
  *     static jillapun_tables tables;
  *     jillapun_index_fault fault;
@@ -306,21 +297,22 @@ typedef struct {
     bool private_is_open;
 } jillapun_tables;
 
-/** The text of an index, with the name of its file. */
+/** An index file. */
 typedef struct {
-    /** The name, in ASCII, as `index-jis0208.txt`, without a folder. */
+    /** The name in ASCII, without a folder: `index-jis0208.txt`. */
     jillapun_bytes name;
-    /** The bytes of the file. */
+    /** The content. */
     jillapun_bytes text;
 } jillapun_index_file;
 
-/** Why an index file was not loaded. */
+/** The index file that was not loaded. */
 typedef struct {
     /**
-     * Which of the files, counted from 0; or how many they are, if memory was refused after all.
+     * Its position in `files`, from 0; `files_len` if only the last allocation failed, after all
+     * files.
      */
     size_t file;
-    /** The line of its text, counted from 1; 0 if the fault is in no line alone. */
+    /** The line of the fault, from 1; 0 if no single line is at fault. */
     size_t line;
 } jillapun_index_fault;
 
@@ -635,99 +627,90 @@ _Static_assert(sizeof(jillapun_converter) == 1240, "the size of jillapun_convert
 extern const jillapun_index_file jillapun_index_files[];
 extern const size_t jillapun_index_files_len;
 
-/* The exports on encodings: found by a label or a mark, and what is reported of each. An encoding
-   crosses as its number, from 0 to 39, in the order of the names. */
+/* Encodings: found by a label or a byte order mark (BOM), and their properties. */
 
 /**
- * The number of the encoding that has this label, or `JILLAPUN_NO_ENCODING` if no encoding has
- * it ("get an encoding" of the Encoding Standard, section 4.2). White space at both ends (the
- * bytes 09, 0A, 0C, 0D and 20) and the case of ASCII letters do not matter.
+ * Returns the encoding that has this label, or `JILLAPUN_NO_ENCODING` if none has ("get an
+ * encoding", section 4.2). ASCII whitespace at both ends (0x09, 0x0A, 0x0C, 0x0D, 0x20) and
+ * ASCII case are ignored.
  */
 uint8_t jillapun_for_label(const uint8_t *label, size_t label_len);
 
 /**
- * The number of the encoding that has this label, or `JILLAPUN_NO_ENCODING` if no encoding but
- * replacement has it: for a caller to whom a label of replacement is an error, as an unknown
- * one is. White space at both ends (the bytes 09, 0A, 0C, 0D and 20) and the case of ASCII
- * letters do not matter.
+ * Like `jillapun_for_label`, but returns `JILLAPUN_NO_ENCODING` for labels of replacement too.
+ * Use it if these are errors, as unknown labels are.
  */
 uint8_t jillapun_for_label_no_replacement(const uint8_t *label, size_t label_len);
 
 /**
- * The number of the encoding whose byte order mark stands at the start of `bytes`, and in
- * `length` the length of the mark in bytes; `JILLAPUN_NO_ENCODING` and 0 if there is none ("BOM
- * sniff" of the Encoding Standard, section 6). The marks are EF BB BF of UTF-8, FE FF of
- * UTF-16BE and FF FE of UTF-16LE.
+ * Returns the encoding whose BOM is at the start of `bytes`, and stores the length of the BOM
+ * in bytes in `length`; `JILLAPUN_NO_ENCODING` and 0 if there is none ("BOM sniff", section 6).
+ * The BOMs are EF BB BF (UTF-8), FE FF (UTF-16BE) and FF FE (UTF-16LE).
  */
 uint8_t jillapun_for_bom(const uint8_t *bytes, size_t bytes_len, size_t *length);
 
 /**
- * Writes the name of an encoding at the start of `name`, as the Encoding Standard writes it
- * (section 4.2): `Shift_JIS`. Returns its length in bytes; at most 14. If `name` is shorter
- * than that, nothing is written. If no encoding has the number, `SIZE_MAX` is returned.
+ * Writes the name of an encoding as the Encoding Standard spells it (`Shift_JIS`), without a
+ * terminating NUL, and returns its length in bytes, at most 14.
  */
 size_t jillapun_name(uint8_t encoding, uint8_t *name, size_t name_len);
 
 /**
- * The number of the encoding in which text is written that is asked for in this one ("get an
- * output encoding" of the Encoding Standard, section 4.3): UTF-8 for UTF-16BE, UTF-16LE and
- * replacement, and the encoding itself for all others. `JILLAPUN_NO_ENCODING` if no encoding
- * has the number.
+ * Returns the output encoding of an encoding ("get an output encoding", section 4.3): UTF-8 for
+ * UTF-16BE, UTF-16LE and replacement, else the encoding itself.
  */
 uint8_t jillapun_output_encoding(uint8_t encoding);
 
 /**
- * Whether each character is one byte: so in the 28 single-byte encodings (the Encoding
- * Standard, section 9), in which a byte that the index lacks is malformed, and in
- * x-user-defined (section 14.5). False if no encoding has the number.
+ * Returns whether every character is one byte: true for the single-byte encodings of section 9,
+ * in which a byte without an index entry is malformed, and for x-user-defined (section 14.5).
  */
 bool jillapun_is_single_byte(uint8_t encoding);
 
 /**
- * Whether each byte below 80 (hexadecimal) stands for the character of its number if a
- * character begins there, and such a character is written as that byte: so in all encodings but
- * UTF-16BE, UTF-16LE, replacement and ISO-2022-JP. False if no encoding has the number.
+ * Returns whether ASCII characters are encoded as themselves, and bytes below 0x80 decoded as
+ * themselves where a character begins: true for all encodings but UTF-16BE, UTF-16LE,
+ * replacement and ISO-2022-JP.
  */
 bool jillapun_is_ascii_compatible(uint8_t encoding);
 
 /**
- * Whether every character has bytes in the output encoding: so if that is UTF-8. The output of
- * gb18030 lacks some characters (the Encoding Standard, section 10.2.2). False if no encoding
- * has the number.
+ * Returns whether the output encoding is UTF-8, which can encode every character (gb18030
+ * cannot: section 10.2.2).
  */
 bool jillapun_can_encode_everything(uint8_t encoding);
 
 /**
- * Writes the name of the file of the index with this place, from 0 on, among those that an
- * encoding needs, as `index-jis0208.txt`, at the start of `name`. Returns its length in bytes;
- * at most 30. If `name` is shorter than that, nothing is written. If the encoding needs no
- * further index, 0 is returned; if no encoding has the number, `SIZE_MAX`.
+ * Writes the file name of an index that the encoding needs, such as `index-jis0208.txt`,
+ * without a terminating NUL, and returns its length in bytes, at most 30. `place` counts the
+ * indexes that the encoding needs from 0; the result is 0 if there is no further one.
  */
 size_t jillapun_needs(uint8_t encoding, size_t place, uint8_t *name, size_t name_len);
 
 /**
- * Whether tables hold all indexes that an encoding needs: returns `JILLAPUN_OK`;
- * `JILLAPUN_NOT_READY`, one is missing; `JILLAPUN_UNKNOWN`, no encoding has the number. UTF-8,
- * UTF-16BE, UTF-16LE, replacement and x-user-defined need none.
+ * Checks whether `tables` has all indexes that an encoding needs. UTF-8, UTF-16BE, UTF-16LE,
+ * replacement and x-user-defined need none. Returns `JILLAPUN_OK`, `JILLAPUN_NOT_READY` or
+ * `JILLAPUN_UNKNOWN`.
  */
 jillapun_status jillapun_tables_is_ready(jillapun_tables tables, uint8_t encoding);
 
-/* The exports that load tables. */
+/* Tables: loading index files. */
 
 /**
- * Loads index files, each as the index of its name, in any order: those of the encodings that
- * will be used, or all that the Encoding Standard publishes. The texts are not needed after the
- * call.
+ * Loads index files in any order, each as the index that its name says: all, or those of the
+ * encodings that you use. The files are not needed after the call.
  *
- * Returns `JILLAPUN_OK`, and `out` holds the tables; or `JILLAPUN_IN_USE`, it holds some
- * already. On an error `out` is as it was, and `fault`, which else stays as it was, says which
- * file is the first that was not loaded: `JILLAPUN_UNKNOWN`, no index has a file of that name;
- * `JILLAPUN_BAD_INDEX`, the text has a fault, or a file before it is of the same index;
- * `JILLAPUN_NO_MEMORY`, memory was refused, and the call can be made again.
+ * Load tables once, since they are never freed. Load an index that is needed later into another
+ * handle. A decoder or an encoder needs only the indexes of its encoding; a conversion needs
+ * those of both encodings in one handle.
  *
- * The tables are never freed, so that they can be shared by all threads: load them once. An
- * index that is wanted later is loaded into a handle of its own: a decoder or an encoder needs
- * none but those of its encoding, and a conversion those of both encodings, in one handle.
+ * After an error `out` is unchanged, and `fault` gives the first file that was not loaded.
+ * Otherwise `fault` is unchanged. Errors:
+ *
+ * - `JILLAPUN_IN_USE`: `out` is not empty. `fault` is unchanged.
+ * - `JILLAPUN_UNKNOWN`: no index has a file of this name.
+ * - `JILLAPUN_BAD_INDEX`: the text is invalid, or an earlier file is of the same index.
+ * - `JILLAPUN_NO_MEMORY`: memory allocation failed.
  */
 jillapun_status jillapun_tables_new(const jillapun_index_file *files, size_t files_len,
     jillapun_tables *out, jillapun_index_fault *fault);

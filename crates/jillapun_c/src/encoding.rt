@@ -1,5 +1,4 @@
-//! The exports on encodings: found by a label or a mark, and what is reported of each. An encoding
-//! crosses as its number, from 0 to 39, in the order of the names.
+//! Encodings: found by a label or a byte order mark (BOM), and their properties.
 
 ghost use Rattle.std.specs.Prelude.{◌≡◌, ◌↔◌, false, IsTrue, MatchOption};
 ghost use Rattle.std.specs.Option.{option_map};
@@ -18,9 +17,9 @@ use crate::status::{NO_ENCODING, NOT_READY, OK, REFUSED, Status, UNKNOWN};
 use crate::tables_handle::TablesHandle;
 use encoding_front::Encoding;
 
-/// The number of the encoding that has this label, or `NO_ENCODING` if no encoding has it ("get
-/// an encoding" of the Encoding Standard, section 4.2). White space at both ends (the bytes 09, 0A,
-/// 0C, 0D and 20) and the case of ASCII letters do not matter.
+/// Returns the encoding that has this label, or `NO_ENCODING` if none has ("get an encoding",
+/// section 4.2). ASCII whitespace at both ends (0x09, 0x0A, 0x0C, 0x0D, 0x20) and ASCII case are
+/// ignored.
 #[unsafe(no_mangle)]
 pub extern "C" fn jillapun_for_label(label: &[u8]) -> u8
     ensures found { (e : Encoding) → HasLabel e label.now → result ≡ number_of e }
@@ -32,10 +31,8 @@ pub extern "C" fn jillapun_for_label(label: &[u8]) -> u8
     }
 }
 
-/// The number of the encoding that has this label, or `NO_ENCODING` if no encoding but
-/// replacement has it: for a caller to whom a label of replacement is an error, as an unknown one
-/// is. White space at both ends (the bytes 09, 0A, 0C, 0D and 20) and the case of ASCII letters do
-/// not matter.
+/// Like `jillapun_for_label`, but returns `NO_ENCODING` for labels of replacement too. Use it if
+/// these are errors, as unknown labels are.
 #[unsafe(no_mangle)]
 pub extern "C" fn jillapun_for_label_no_replacement(label: &[u8]) -> u8
     ensures found { (e : Encoding) → HasLabel e label.now → ¬ (e ≡ Encoding.Replacement)
@@ -49,10 +46,9 @@ pub extern "C" fn jillapun_for_label_no_replacement(label: &[u8]) -> u8
     }
 }
 
-/// The number of the encoding whose byte order mark stands at the start of `bytes`, and in `length`
-/// the length of the mark in bytes; `NO_ENCODING` and 0 if there is none ("BOM sniff" of the
-/// Encoding Standard, section 6). The marks are EF BB BF of UTF-8, FE FF of UTF-16BE and FF FE of
-/// UTF-16LE.
+/// Returns the encoding whose BOM is at the start of `bytes`, and stores the length of the BOM in
+/// bytes in `length`; `NO_ENCODING` and 0 if there is none ("BOM sniff", section 6). The BOMs are
+/// EF BB BF (UTF-8), FE FF (UTF-16BE) and FF FE (UTF-16LE).
 #[unsafe(no_mangle)]
 pub extern "C" fn jillapun_for_bom(bytes: &[u8], length: &mut usize) -> u8
     ensures { MatchOption (mark_at_start bytes.now) ((result ≡ NO_ENCODING) × (length.new ≡ 0))
@@ -70,9 +66,8 @@ pub extern "C" fn jillapun_for_bom(bytes: &[u8], length: &mut usize) -> u8
     }
 }
 
-/// Writes the name of an encoding at the start of `name`, as the Encoding Standard writes it
-/// (section 4.2): `Shift_JIS`. Returns its length in bytes; at most 14. If `name` is shorter than
-/// that, nothing is written. If no encoding has the number, `SIZE_MAX` is returned.
+/// Writes the name of an encoding as the Encoding Standard spells it (`Shift_JIS`), without a
+/// terminating NUL, and returns its length in bytes, at most 14.
 #[unsafe(no_mangle)]
 pub extern "C" fn jillapun_name(encoding: u8, name: &mut [u8]) -> usize
     ensures { WritesIfAny (option_map encoding_name (encoding_at encoding)) name.old name.new
@@ -84,10 +79,8 @@ pub extern "C" fn jillapun_name(encoding: u8, name: &mut [u8]) -> usize
     }
 }
 
-/// The number of the encoding in which text is written that is asked for in this one ("get an
-/// output encoding" of the Encoding Standard, section 4.3): UTF-8 for UTF-16BE, UTF-16LE and
-/// replacement, and the encoding itself for all others. `NO_ENCODING` if no encoding has the
-/// number.
+/// Returns the output encoding of an encoding ("get an output encoding", section 4.3): UTF-8 for
+/// UTF-16BE, UTF-16LE and replacement, else the encoding itself.
 #[unsafe(no_mangle)]
 pub extern "C" fn jillapun_output_encoding(encoding: u8) -> u8
     ensures { MatchOption (encoding_at encoding) (result ≡ NO_ENCODING)
@@ -99,9 +92,8 @@ pub extern "C" fn jillapun_output_encoding(encoding: u8) -> u8
     }
 }
 
-/// Whether each character is one byte: so in the 28 single-byte encodings (the Encoding Standard,
-/// section 9), in which a byte that the index lacks is malformed, and in x-user-defined (section
-/// 14.5). False if no encoding has the number.
+/// Returns whether every character is one byte: true for the single-byte encodings of section 9, in
+/// which a byte without an index entry is malformed, and for x-user-defined (section 14.5).
 #[unsafe(no_mangle)]
 pub extern "C" fn jillapun_is_single_byte(encoding: u8) -> bool
     ensures { MatchOption (encoding_at encoding) (result ≡ false)
@@ -113,9 +105,9 @@ pub extern "C" fn jillapun_is_single_byte(encoding: u8) -> bool
     }
 }
 
-/// Whether each byte below 80 (hexadecimal) stands for the character of its number if a character
-/// begins there, and such a character is written as that byte: so in all encodings but UTF-16BE,
-/// UTF-16LE, replacement and ISO-2022-JP. False if no encoding has the number.
+/// Returns whether ASCII characters are encoded as themselves, and bytes below 0x80 decoded as
+/// themselves where a character begins: true for all encodings but UTF-16BE, UTF-16LE, replacement
+/// and ISO-2022-JP.
 #[unsafe(no_mangle)]
 pub extern "C" fn jillapun_is_ascii_compatible(encoding: u8) -> bool
     ensures { MatchOption (encoding_at encoding) (result ≡ false)
@@ -127,9 +119,8 @@ pub extern "C" fn jillapun_is_ascii_compatible(encoding: u8) -> bool
     }
 }
 
-/// Whether every character has bytes in the output encoding: so if that is UTF-8. The output of
-/// gb18030 lacks some characters (the Encoding Standard, section 10.2.2). False if no encoding
-/// has the number.
+/// Returns whether the output encoding is UTF-8, which can encode every character (gb18030 cannot:
+/// section 10.2.2).
 #[unsafe(no_mangle)]
 pub extern "C" fn jillapun_can_encode_everything(encoding: u8) -> bool
     ensures { MatchOption (encoding_at encoding) (result ≡ false)
@@ -141,10 +132,9 @@ pub extern "C" fn jillapun_can_encode_everything(encoding: u8) -> bool
     }
 }
 
-/// Writes the name of the file of the index with this place, from 0 on, among those that an
-/// encoding needs, as `index-jis0208.txt`, at the start of `name`. Returns its length in bytes; at
-/// most 30. If `name` is shorter than that, nothing is written. If the encoding needs no further
-/// index, 0 is returned; if no encoding has the number, `SIZE_MAX`.
+/// Writes the file name of an index that the encoding needs, such as `index-jis0208.txt`, without a
+/// terminating NUL, and returns its length in bytes, at most 30. `place` counts the indexes that
+/// the encoding needs from 0; the result is 0 if there is no further one.
 #[unsafe(no_mangle)]
 pub extern "C" fn jillapun_needs(encoding: u8, place: usize, name: &mut [u8]) -> usize
     ensures { WritesIfAny (needed_file encoding place) name.old name.new result }
@@ -158,9 +148,8 @@ pub extern "C" fn jillapun_needs(encoding: u8, place: usize, name: &mut [u8]) ->
     }
 }
 
-/// Whether tables hold all indexes that an encoding needs: returns `OK`; `NOT_READY`, one is
-/// missing; `UNKNOWN`, no encoding has the number. UTF-8, UTF-16BE, UTF-16LE, replacement and
-/// x-user-defined need none.
+/// Checks whether `tables` has all indexes that an encoding needs. UTF-8, UTF-16BE, UTF-16LE,
+/// replacement and x-user-defined need none. Returns `OK`, `NOT_READY` or `UNKNOWN`.
 #[unsafe(no_mangle)]
 pub extern "C" fn jillapun_tables_is_ready(tables: TablesHandle, encoding: u8) -> Status
     ensures { IsReadyStatus (held_lists tables.tables) encoding result }

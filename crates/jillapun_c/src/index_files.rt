@@ -11,13 +11,13 @@ use encoding_tables::laws::file_names;
 use encoding_tables::{IndexKind, TableFault, Tables};
 use std::alloc::Global;
 
-/// The text of an index, with the name of its file.
+/// An index file.
 #[repr(C)]
 #[derive(Clone, Copy)]
 pub struct IndexFile<'a> {
-    /// The name, in ASCII, as `index-jis0208.txt`, without a folder.
+    /// The name in ASCII, without a folder: `index-jis0208.txt`.
     pub name: &'a [u8],
-    /// The bytes of the file.
+    /// The content.
     pub text: &'a [u8],
 }
 

@@ -1,4 +1,4 @@
-//! The exports that load tables.
+//! Tables: loading index files.
 
 ghost use Rattle.std.specs.Prelude.{◌≡◌, ◌≢◌, ◌⊎◌, None, IsSome, IsSomeAnd};
 ghost use Rattle.jillapun_c.specs.IndexFiles.{HoldFiles, IsFaultTold, IsToldAt};
@@ -10,28 +10,31 @@ use crate::tables_handle::TablesHandle;
 use encoding_tables::Tables;
 use std::alloc::Global;
 
-/// Why an index file was not loaded.
+/// The index file that was not loaded.
 #[repr(C)]
 #[derive(Clone, Copy)]
 pub struct IndexFault {
-    /// Which of the files, counted from 0; or how many they are, if memory was refused after all.
+    /// Its position in `files`, from 0; `files_len` if only the last allocation failed, after all
+    /// files.
     pub file: usize,
-    /// The line of its text, counted from 1; 0 if the fault is in no line alone.
+    /// The line of the fault, from 1; 0 if no single line is at fault.
     pub line: usize,
 }
 
-/// Loads index files, each as the index of its name, in any order: those of the encodings that will
-/// be used, or all that the Encoding Standard publishes. The texts are not needed after the call.
+/// Loads index files in any order, each as the index that its name says: all, or those of the
+/// encodings that you use. The files are not needed after the call.
 ///
-/// Returns `OK`, and `out` holds the tables; or `IN_USE`, it holds some already. On an error `out`
-/// is as it was, and `fault`, which else stays as it was, says which file is the first that was not
-/// loaded: `UNKNOWN`, no index has a file of that name; `BAD_INDEX`, the text has a fault, or a
-/// file before it is of the same index; `NO_MEMORY`, memory was refused, and the call can be made
-/// again.
+/// Load tables once, since they are never freed. Load an index that is needed later into another
+/// handle. A decoder or an encoder needs only the indexes of its encoding; a conversion needs those
+/// of both encodings in one handle.
 ///
-/// The tables are never freed, so that they can be shared by all threads: load them once. An index
-/// that is wanted later is loaded into a handle of its own: a decoder or an encoder needs none but
-/// those of its encoding, and a conversion those of both encodings, in one handle.
+/// After an error `out` is unchanged, and `fault` gives the first file that was not loaded.
+/// Otherwise `fault` is unchanged. Errors:
+///
+/// - `IN_USE`: `out` is not empty. `fault` is unchanged.
+/// - `UNKNOWN`: no index has a file of this name.
+/// - `BAD_INDEX`: the text is invalid, or an earlier file is of the same index.
+/// - `NO_MEMORY`: memory allocation failed.
 #[unsafe(no_mangle)]
 pub extern "C" fn jillapun_tables_new(
     alloc: Global,

@@ -15,11 +15,8 @@ use encoding_tables::Tables;
 use std::marker::Model;
 use std::{mem, ptr};
 
-/// Tables of indexes, loaded by `jillapun_tables_new`. Begin with `{0}`, which holds none, and does
-/// wherever tables are handed in for encodings that need no index.
-///
-/// The tables live as long as the process, and are never changed. So a copy of this is as good as
-/// this, and any number of threads may use the same tables at once.
+/// The tables of loaded indexes. Pass `{0}`, which has none, for encodings that need no index.
+/// Tables are never changed or freed, so any number of threads may share them.
 #[repr(C)]
 #[derive(Drop)]
 pub struct TablesHandle {
