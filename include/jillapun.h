@@ -316,7 +316,7 @@ typedef struct {
     size_t line;
 } jillapun_index_fault;
 
-/** What a decoder keeps between calls, for calls of this library alone. */
+/** Private state of a decoder. */
 typedef struct {
     bool private_is_there;
     bool private_is_finished;
@@ -332,13 +332,7 @@ typedef struct {
 } jillapun_decoder_words;
 
 /**
- * A decoder of a stream. Begin with `{0}`, which holds none; `jillapun_decoder_new` fills it.
- * All that it keeps stands in it: it may be moved, a copy is a decoder of its own that goes on
- * from here, and nothing has to be freed. Nothing but this library, or a copy of what it wrote,
- * may be written into it.
- *
- * Calls that take a `const` one may be made by any number of threads at once, and others by one
- * thread at a time.
+ * A decoder of one stream, begun by `jillapun_decoder_new`.
  *
  *     jillapun_decoder decoder = {0};
  *     if (jillapun_decoder_new(tables, JILLAPUN_SHIFT_JIS, JILLAPUN_SNIFF, &decoder))
@@ -364,24 +358,21 @@ typedef struct {
 
 /** What a call of a decoder did. */
 typedef struct {
-    /** How many bytes were read. */
+    /** Bytes read. */
     size_t read;
-    /** How many bytes of UTF-8, or units of UTF-16, were written. */
+    /** Bytes of UTF-8, or UTF-16 code units, written. */
     size_t written;
     /** `JILLAPUN_INPUT_EMPTY`, `JILLAPUN_OUTPUT_FULL` or `JILLAPUN_MALFORMED`. */
     uint8_t outcome;
-    /** At `JILLAPUN_MALFORMED`, how many bytes the malformed sequence has, 1 to 4; else 0. */
+    /** At `JILLAPUN_MALFORMED`, the length of the malformed sequence in bytes, 1 to 4; else 0. */
     uint8_t malformed_length;
-    /**
-     * At `JILLAPUN_MALFORMED`, how many of the bytes that were read follow the sequence, 0 to 3;
-     * else 0.
-     */
+    /** At `JILLAPUN_MALFORMED`, the bytes read after the sequence, 0 to 3; else 0. */
     uint8_t malformed_after;
     /** Whether U+FFFD was written for a malformed sequence. */
     bool had_errors;
 } jillapun_progress;
 
-/** What an encoder's handle keeps of the encoder, for calls of this library alone. */
+/** Private state of an encoder. */
 typedef struct {
     bool private_is_there;
     uint8_t private_encoding;
@@ -389,13 +380,7 @@ typedef struct {
 } jillapun_encoder_words;
 
 /**
- * An encoder of a stream. Begin with `{0}`, which holds none; `jillapun_encoder_new` fills it.
- * All that it keeps stands in it: it may be moved, a copy is an encoder of its own that goes on
- * from here, and nothing has to be freed. Nothing but this library, or a copy of what it wrote,
- * may be written into it.
- *
- * Calls that take a `const` one may be made by any number of threads at once, and others by one
- * thread at a time.
+ * An encoder of one text at a time, begun by `jillapun_encoder_new`.
  *
  *     jillapun_encoder encoder = {0};
  *     jillapun_encoder_progress did;
@@ -418,17 +403,17 @@ typedef struct {
 
 /** What a call of an encoder did. */
 typedef struct {
-    /** How many bytes of UTF-8, or units of UTF-16, were read. */
+    /** Bytes of UTF-8, or UTF-16 code units, read. */
     size_t read;
-    /** How many bytes were written. */
+    /** Bytes written. */
     size_t written;
     /** `JILLAPUN_INPUT_EMPTY`, `JILLAPUN_OUTPUT_FULL` or `JILLAPUN_UNMAPPABLE`. */
     uint8_t outcome;
-    /** Whether a reference was written for a character that has no bytes. */
+    /** Whether a numeric character reference was written for an unmappable character. */
     bool had_unmappable;
     /**
-     * At `JILLAPUN_UNMAPPABLE`, the code point of the character that has no bytes; U+FFFD for
-     * U+000E, U+000F and U+001B in ISO-2022-JP. Else 0.
+     * At `JILLAPUN_UNMAPPABLE`, the code point of the character, or U+FFFD for U+000E, U+000F and
+     * U+001B in ISO-2022-JP; else 0.
      */
     uint32_t scalar;
 } jillapun_encoder_progress;
@@ -715,327 +700,243 @@ jillapun_status jillapun_tables_is_ready(jillapun_tables tables, uint8_t encodin
 jillapun_status jillapun_tables_new(const jillapun_index_file *files, size_t files_len,
     jillapun_tables *out, jillapun_index_fault *fault);
 
-/* The exports that decode streams. */
+/* Decoders. */
 
 /**
- * Makes a decoder of a new stream, in the encoding with this number, and `mark` says what
- * becomes of a byte order mark at its start. `tables` may be `{0}` if the encoding needs no
- * index. What `out` held is overwritten, whether or not its stream has ended.
- *
- * Returns `JILLAPUN_OK`, and `out` holds the decoder. Else nothing is made, and `out` holds
- * none, as `{0}`: `JILLAPUN_UNKNOWN`, no encoding or no handling of marks has the number;
- * `JILLAPUN_NOT_READY`, the tables lack an index of the encoding, or there are none and it
- * needs one.
+ * Begins a new stream in an encoding. `mark` (`JILLAPUN_SNIFF`, `JILLAPUN_REMOVE` or
+ * `JILLAPUN_KEEP`) says what happens to a BOM at its start. Errors: `JILLAPUN_UNKNOWN`,
+ * `JILLAPUN_NOT_READY`.
  */
 jillapun_status jillapun_decoder_new(jillapun_tables tables, uint8_t encoding, uint8_t mark,
     jillapun_decoder *out);
 
-/* What a decoder reports of itself. */
+/* Decoder queries. */
 
 /**
- * The number of the encoding in force: the one that the decoder was made for, or that of the
- * byte order mark once all of it was read. `JILLAPUN_NO_ENCODING` if the handle holds no
- * decoder.
+ * Returns the current encoding: that of the BOM once all of the BOM was read, else the one
+ * passed to `jillapun_decoder_new`; `JILLAPUN_NO_ENCODING` if the handle is empty.
  */
 uint8_t jillapun_decoder_encoding(const jillapun_decoder *decoder);
 
 /**
- * Reports in `length` how many bytes of UTF-8 are room enough for the text of `n` more bytes,
- * with U+FFFD for each malformed sequence; `SIZE_MAX` if the number passes a `size_t`. What is
- * pending counts too.
+ * Stores in `length` a buffer length in bytes sufficient to decode the pending bytes and `n`
+ * more with `jillapun_decoder_decode_to_utf8`; `SIZE_MAX` if it does not fit into a `size_t`.
  *
- * Returns `JILLAPUN_OK`. Else `length` is 0: `JILLAPUN_CLOSED`, the handle holds no decoder;
- * `JILLAPUN_FINISHED`, the stream has ended.
+ * Returns `JILLAPUN_OK`, `JILLAPUN_CLOSED` or `JILLAPUN_FINISHED`.
  */
 jillapun_status jillapun_decoder_max_utf8_length(const jillapun_decoder *decoder, size_t n,
     size_t *length);
 
 /**
- * Reports in `length` how many bytes of UTF-8 are room enough for the text of `n` more bytes up
- * to the first malformed sequence, and for one U+FFFD there; `SIZE_MAX` if the number passes a
- * `size_t`. What is pending counts too. What is returned is as of
- * `jillapun_decoder_max_utf8_length`.
+ * Like `jillapun_decoder_max_utf8_length`, for
+ * `jillapun_decoder_decode_to_utf8_without_replacement`: sufficient up to the first malformed
+ * sequence, and for one U+FFFD there.
  */
 jillapun_status jillapun_decoder_max_utf8_length_without_replacement(
     const jillapun_decoder *decoder, size_t n, size_t *length);
 
 /**
- * Reports in `length` how many units of UTF-16 are room enough for the text of `n` more bytes,
- * with U+FFFD for each malformed sequence; `SIZE_MAX` if the number passes a `size_t`. What is
- * pending counts too. What is returned is as of `jillapun_decoder_max_utf8_length`.
+ * Like `jillapun_decoder_max_utf8_length`, in UTF-16 code units, for both functions that decode
+ * to UTF-16.
  */
 jillapun_status jillapun_decoder_max_utf16_length(const jillapun_decoder *decoder, size_t n,
     size_t *length);
 
 /**
- * Reports in `length` how many of `bytes`, if they come next, stand for the characters of their
- * own numbers, as in Latin1: a caller may copy these, and hand in the rest. In a single-byte
- * encoding the index decides, and the number is the most that is true. In the others it ends
- * before the first byte that is not ASCII, in ISO-2022-JP also before the first 0E, 0F or 1B.
- * It is `SIZE_MAX` if it is not known: a byte order mark may still come, bytes are pending,
- * ISO-2022-JP is in another mode than ASCII, or the encoding is UTF-16BE, UTF-16LE or
- * replacement.
+ * Stores in `length` how many of `bytes`, if they come next in the stream, decode to the
+ * characters with the same numbers, as in Latin1. The caller may copy these and pass only the
+ * rest. The count is the greatest possible for a single-byte encoding; for others it ends
+ * before the first byte that is not ASCII, and for ISO-2022-JP also before the first 0x0E, 0x0F
+ * or 0x1B.
  *
- * Returns `JILLAPUN_OK`. Else `length` is 0: `JILLAPUN_CLOSED`, the handle holds no decoder;
- * `JILLAPUN_FINISHED`, the stream has ended.
+ * `length` is `SIZE_MAX` if the count is not known: a BOM may still come, bytes are pending,
+ * ISO-2022-JP is not in ASCII mode, or the encoding is UTF-16BE, UTF-16LE or replacement.
+ *
+ * Returns `JILLAPUN_OK`, `JILLAPUN_CLOSED` or `JILLAPUN_FINISHED`.
  */
 jillapun_status jillapun_decoder_latin1_byte_compatible_up_to(const jillapun_decoder *decoder,
     const uint8_t *bytes, size_t bytes_len, size_t *length);
 
-/* The exports that decode to UTF-8 over a text. */
+/* Decoding to UTF-8 over a text. */
 
-/**
- * Decodes the next bytes of a stream to UTF-8 at the start of a text, with U+FFFD for each
- * malformed sequence. What it does and returns is as of `jillapun_decoder_decode_to_utf8`, but
- * for this: if a character of `dst` is overwritten in part, its other bytes become 00, so what
- * was UTF-8 is UTF-8 after the call. Of what stands behind the bytes that were written the call
- * looks at three, and it changes those at their start that go on with a character (80 to BF),
- * whether or not `dst` was UTF-8.
- */
+/** Like `jillapun_decoder_decode_to_utf8`, but keeps `dst` valid UTF-8 (see Texts). */
 jillapun_status jillapun_decoder_decode_to_str(jillapun_decoder *decoder, const uint8_t *src,
     size_t src_len, uint8_t *dst, size_t dst_len, bool last, jillapun_progress *progress);
 
 /**
- * Decodes the next bytes of a stream to UTF-8 at the start of a text, up to the first malformed
- * sequence. What it does and returns is as of
- * `jillapun_decoder_decode_to_utf8_without_replacement`, but that what was UTF-8 stays UTF-8,
- * as with `jillapun_decoder_decode_to_str`.
+ * Like `jillapun_decoder_decode_to_utf8_without_replacement`, but keeps `dst` valid UTF-8 (see
+ * Texts).
  */
 jillapun_status jillapun_decoder_decode_to_str_without_replacement(jillapun_decoder *decoder,
     const uint8_t *src, size_t src_len, uint8_t *dst, size_t dst_len, bool last,
     jillapun_progress *progress);
 
-/* The exports that decode to UTF-16. */
+/* Decoding to UTF-16. */
 
 /**
- * Decodes the next bytes of a stream to UTF-16, with U+FFFD for each malformed sequence. `last`
- * says that the stream ends with them.
- *
- * Returns `JILLAPUN_OK`, and `progress` says what was done. At `JILLAPUN_INPUT_EMPTY` all of
- * `src` is read: hand in what follows; with `last` the stream has ended. At
- * `JILLAPUN_OUTPUT_FULL` fewer than 2 units are free: make room, and hand in the rest again,
- * with `last` as it was, even if nothing is left. A surrogate pair is never split, and nothing
- * after what is written changes. `JILLAPUN_OUTPUT_FULL` does not come if `dst` is as long as
- * `jillapun_decoder_max_utf16_length` reports.
- *
- * Else nothing is done, and all of `progress` is 0: `JILLAPUN_CLOSED`, the handle holds no
- * decoder; `JILLAPUN_FINISHED`, the stream has ended.
+ * Like `jillapun_decoder_decode_to_utf8`, but writes UTF-16 and never splits a surrogate pair.
+ * At `JILLAPUN_OUTPUT_FULL` fewer than 2 code units of `dst` are free; it does not occur if
+ * `dst` has the length that `jillapun_decoder_max_utf16_length` gives.
  */
 jillapun_status jillapun_decoder_decode_to_utf16(jillapun_decoder *decoder, const uint8_t *src,
     size_t src_len, jillapun_char16 *dst, size_t dst_len, bool last, jillapun_progress *progress);
 
 /**
- * Decodes the next bytes of a stream to UTF-16, up to the first malformed sequence. `last` says
- * that the stream ends with them.
- *
- * Returns `JILLAPUN_OK`, and `progress` says what was done. At `JILLAPUN_INPUT_EMPTY` all of
- * `src` is read: hand in what follows; with `last` the stream has ended. At
- * `JILLAPUN_OUTPUT_FULL` fewer than 2 units are free: make room, and hand in the rest again,
- * with `last` as it was, even if nothing is left. A surrogate pair is never split, and nothing
- * after what is written changes. `JILLAPUN_OUTPUT_FULL` does not come if `dst` is as long as
- * `jillapun_decoder_max_utf16_length` reports.
- *
- * At `JILLAPUN_MALFORMED` a sequence of `malformed_length` bytes ends `malformed_after` bytes
- * before the end of what was read, and a unit is free: write U+FFFD or not, and go on as at
- * `JILLAPUN_OUTPUT_FULL`.
- *
- * Else nothing is done, and all of `progress` is 0: `JILLAPUN_CLOSED`, the handle holds no
- * decoder; `JILLAPUN_FINISHED`, the stream has ended.
+ * Like `jillapun_decoder_decode_to_utf16`, but stops after a malformed sequence, as
+ * `jillapun_decoder_decode_to_utf8_without_replacement` does. At `JILLAPUN_MALFORMED` a code
+ * unit of `dst` is free.
  */
 jillapun_status jillapun_decoder_decode_to_utf16_without_replacement(jillapun_decoder *decoder,
     const uint8_t *src, size_t src_len, jillapun_char16 *dst, size_t dst_len, bool last,
     jillapun_progress *progress);
 
-/* The exports that decode to UTF-8. */
+/* Decoding to UTF-8. */
 
 /**
  * Decodes the next bytes of a stream to UTF-8, with U+FFFD for each malformed sequence. `last`
- * says that the stream ends with them.
+ * says that the stream ends with `src`. The output never ends within a character, and `dst`
+ * after it is unchanged.
  *
- * Returns `JILLAPUN_OK`, and `progress` says what was done. At `JILLAPUN_INPUT_EMPTY` all of
- * `src` is read: hand in what follows; with `last` the stream has ended. At
- * `JILLAPUN_OUTPUT_FULL` fewer than 4 bytes are free: make room, and hand in the rest again,
- * with `last` as it was, even if nothing is left. A character is never split, and nothing after
- * what is written changes. `JILLAPUN_OUTPUT_FULL` does not come if `dst` is as long as
- * `jillapun_decoder_max_utf8_length` reports.
+ * Returns `JILLAPUN_OK`, `JILLAPUN_CLOSED` or `JILLAPUN_FINISHED`. At `JILLAPUN_OK` `progress`
+ * has the counts and an outcome:
  *
- * Else nothing is done, and all of `progress` is 0: `JILLAPUN_CLOSED`, the handle holds no
- * decoder; `JILLAPUN_FINISHED`, the stream has ended.
+ * - `JILLAPUN_INPUT_EMPTY`: all of `src` was read. Pass the bytes that follow; after `last` the
+ *   stream has ended.
+ * - `JILLAPUN_OUTPUT_FULL`: fewer than 4 bytes of `dst` are free. Call again with free space,
+ *   the unread bytes and the same `last`, even if no byte is unread. This does not occur if
+ *   `dst` has the length that `jillapun_decoder_max_utf8_length` gives.
  */
 jillapun_status jillapun_decoder_decode_to_utf8(jillapun_decoder *decoder, const uint8_t *src,
     size_t src_len, uint8_t *dst, size_t dst_len, bool last, jillapun_progress *progress);
 
 /**
- * Decodes the next bytes of a stream to UTF-8, up to the first malformed sequence. `last` says
- * that the stream ends with them.
+ * Like `jillapun_decoder_decode_to_utf8`, but stops after a malformed sequence and writes
+ * nothing for it; `jillapun_decoder_max_utf8_length_without_replacement` gives a sufficient
+ * length. A further outcome:
  *
- * Returns `JILLAPUN_OK`, and `progress` says what was done. At `JILLAPUN_INPUT_EMPTY` all of
- * `src` is read: hand in what follows; with `last` the stream has ended. At
- * `JILLAPUN_OUTPUT_FULL` fewer than 4 bytes are free: make room, and hand in the rest again,
- * with `last` as it was, even if nothing is left. A character is never split, and nothing after
- * what is written changes. `JILLAPUN_OUTPUT_FULL` does not come if `dst` is as long as
- * `jillapun_decoder_max_utf8_length_without_replacement` reports.
- *
- * At `JILLAPUN_MALFORMED` a sequence of `malformed_length` bytes ends `malformed_after` bytes
- * before the end of what was read, and 3 bytes are free: write U+FFFD or not, and go on as at
- * `JILLAPUN_OUTPUT_FULL`.
- *
- * Else nothing is done, and all of `progress` is 0: `JILLAPUN_CLOSED`, the handle holds no
- * decoder; `JILLAPUN_FINISHED`, the stream has ended.
+ * - `JILLAPUN_MALFORMED`: a sequence of `malformed_length` bytes is malformed. It ends
+ *   `malformed_after` bytes before the end of the bytes read. 3 bytes of `dst` are free: write
+ *   U+FFFD or not, and continue as after `JILLAPUN_OUTPUT_FULL`.
  */
 jillapun_status jillapun_decoder_decode_to_utf8_without_replacement(jillapun_decoder *decoder,
     const uint8_t *src, size_t src_len, uint8_t *dst, size_t dst_len, bool last,
     jillapun_progress *progress);
 
-/* The exports that encode streams. */
+/* Encoders. */
 
 /**
- * Makes an encoder of a new stream into the output encoding of the one with this number (the
- * Encoding Standard, section 4.3). `tables` may be `{0}` if the output encoding needs no index.
- * What `out` held is overwritten.
- *
- * Returns `JILLAPUN_OK`, and `out` holds the encoder. Else nothing is made, and `out` holds
- * none, as `{0}`: `JILLAPUN_UNKNOWN`, no encoding has the number; `JILLAPUN_NOT_READY`, the
- * tables lack an index of the output encoding, or there are none and it needs one.
+ * Begins a new text in the output encoding of an encoding (section 4.3). Errors:
+ * `JILLAPUN_UNKNOWN`, `JILLAPUN_NOT_READY`.
  */
 jillapun_status jillapun_encoder_new(jillapun_tables tables, uint8_t encoding,
     jillapun_encoder *out);
 
-/* What an encoder reports of itself. */
+/* Encoder queries. */
 
 /**
- * The number of the output encoding, in which the encoder writes; `JILLAPUN_NO_ENCODING` if the
- * handle holds no encoder.
+ * Returns the output encoding, in which the encoder writes; `JILLAPUN_NO_ENCODING` if the
+ * handle is empty.
  */
 uint8_t jillapun_encoder_encoding(const jillapun_encoder *encoder);
 
 /**
- * Whether an escape to ASCII is still to be written at the end of the stream: so only in
- * ISO-2022-JP, where another set is in force. False if the handle holds no encoder.
+ * Returns whether an escape sequence to ASCII must still be written at the end of the text:
+ * only in ISO-2022-JP, if another character set is active. False if the handle is empty.
  */
 bool jillapun_encoder_has_pending_state(const jillapun_encoder *encoder);
 
 /**
- * Reports in `length` how many bytes are room enough for what `n` bytes of UTF-8 are encoded to
- * with references, if each character has bytes; `SIZE_MAX` if the number passes a `size_t`.
+ * Stores in `length` a buffer length in bytes sufficient to encode `n` bytes of UTF-8 with
+ * `jillapun_encoder_encode_from_utf8` if no character is unmappable; `SIZE_MAX` if it does not
+ * fit into a `size_t`.
  *
- * Returns `JILLAPUN_OK`; or `JILLAPUN_CLOSED`, and `length` is 0: the handle holds no encoder.
+ * Returns `JILLAPUN_OK` or `JILLAPUN_CLOSED`.
  */
 jillapun_status jillapun_encoder_max_length_from_utf8_if_no_unmappables(
     const jillapun_encoder *encoder, size_t n, size_t *length);
 
 /**
- * Reports in `length` how many bytes are room enough for what `n` bytes of UTF-8 are encoded to
- * without replacement, and for the last escape; `SIZE_MAX` if the number passes a `size_t`.
- * What is returned is as of `jillapun_encoder_max_length_from_utf8_if_no_unmappables`.
+ * Like `jillapun_encoder_max_length_from_utf8_if_no_unmappables`, for
+ * `jillapun_encoder_encode_from_utf8_without_replacement`, the final escape sequence included.
  */
 jillapun_status jillapun_encoder_max_length_from_utf8_without_replacement(
     const jillapun_encoder *encoder, size_t n, size_t *length);
 
 /**
- * Reports in `length` how many bytes are room enough for what `n` units of UTF-16 are encoded
- * to with references, if each character has bytes; `SIZE_MAX` if the number passes a `size_t`.
- * What is returned is as of `jillapun_encoder_max_length_from_utf8_if_no_unmappables`.
+ * Like `jillapun_encoder_max_length_from_utf8_if_no_unmappables`, for `n` UTF-16 code units and
+ * `jillapun_encoder_encode_from_utf16`.
  */
 jillapun_status jillapun_encoder_max_length_from_utf16_if_no_unmappables(
     const jillapun_encoder *encoder, size_t n, size_t *length);
 
 /**
- * Reports in `length` how many bytes are room enough for what `n` units of UTF-16 are encoded
- * to without replacement, and for the last escape; `SIZE_MAX` if the number passes a `size_t`.
- * What is returned is as of `jillapun_encoder_max_length_from_utf8_if_no_unmappables`.
+ * Like `jillapun_encoder_max_length_from_utf8_without_replacement`, for `n` UTF-16 code units
+ * and `jillapun_encoder_encode_from_utf16_without_replacement`.
  */
 jillapun_status jillapun_encoder_max_length_from_utf16_without_replacement(
     const jillapun_encoder *encoder, size_t n, size_t *length);
 
-/* The exports that encode UTF-16. */
+/* Encoding UTF-16. */
 
 /**
- * Encodes the next part of a text in UTF-16, with the decimal reference (`&#8364;`) of each
- * character that has no bytes. `last` says that the text ends with it: then the last escape is
- * written too, and the encoder is as a new one.
- *
- * Returns `JILLAPUN_OK`, and `progress` says what was done. At `JILLAPUN_INPUT_EMPTY` all is
- * read. At `JILLAPUN_OUTPUT_FULL` something is left to do: make room, and hand in the rest
- * again, with `last` as it was, even if nothing is left; 14 bytes are always enough to go on.
- * Unless the encoding is UTF-8, the last ten bytes of `dst` are kept for a reference. Nothing
- * after what is written changes.
- *
- * Else nothing is done, and all of `progress` is 0: `JILLAPUN_CLOSED`, the handle holds no
- * encoder.
+ * Like `jillapun_encoder_encode_from_utf8`, for a text in UTF-16; what is said there of invalid
+ * text and of the bytes examined does not apply. An unpaired surrogate is encoded as U+FFFD, so
+ * do not end `text` within a surrogate pair; a call never stops within one. The only error is
+ * `JILLAPUN_CLOSED`.
  */
 jillapun_status jillapun_encoder_encode_from_utf16(jillapun_encoder *encoder,
     const jillapun_char16 *text, size_t text_len, uint8_t *dst, size_t dst_len, bool last,
     jillapun_encoder_progress *progress);
 
 /**
- * Encodes the next part of a text in UTF-16, up to the first character that has no bytes.
- * `last` says that the text ends with it: then the last escape is written too, and the encoder
- * is as a new one.
- *
- * Returns `JILLAPUN_OK`, and `progress` says what was done. At `JILLAPUN_INPUT_EMPTY` all is
- * read. At `JILLAPUN_OUTPUT_FULL` something is left to do: make room, and hand in the rest
- * again, with `last` as it was, even if nothing is left; 4 bytes are always enough to go on. At
- * `JILLAPUN_UNMAPPABLE` the character that was read last has no bytes: write its reference, or
- * something else in printable ASCII other than backslash and tilde, and go on as at
- * `JILLAPUN_OUTPUT_FULL`. (In ISO-2022-JP the set in force may then be Roman, in which their
- * bytes, 5C and 7E, are U+00A5 and U+203E; 0E, 0F and 1B are no characters.) Nothing after what
- * is written changes.
- *
- * Else nothing is done, and all of `progress` is 0: `JILLAPUN_CLOSED`, the handle holds no
- * encoder.
+ * Like `jillapun_encoder_encode_from_utf16`, but stops after an unmappable character, as
+ * `jillapun_encoder_encode_from_utf8_without_replacement` does.
  */
 jillapun_status jillapun_encoder_encode_from_utf16_without_replacement(jillapun_encoder *encoder,
     const jillapun_char16 *text, size_t text_len, uint8_t *dst, size_t dst_len, bool last,
     jillapun_encoder_progress *progress);
 
-/* The exports that encode UTF-8. */
+/* Encoding UTF-8. */
 
 /**
- * Encodes the next part of a text in UTF-8, with the decimal reference (`&#8364;`) of each
- * character that has no bytes. `last` says that the text ends with it: then the last escape is
- * written too, and the encoder is as a new one.
+ * Encodes the next part of a text in UTF-8, with a decimal numeric character reference
+ * (`&#8364;`) for each unmappable character. `last` says that the text ends with `text`: then
+ * the final escape sequence is written too, and a new text may follow. `dst` after the output
+ * is unchanged.
  *
- * Returns `JILLAPUN_OK`, and `progress` says what was done. At `JILLAPUN_INPUT_EMPTY` all is
- * read. At `JILLAPUN_OUTPUT_FULL` something is left to do: make room, and hand in the rest
- * again, with `last` as it was, even if nothing is left; 14 bytes are always enough to go on.
- * Unless the encoding is UTF-8, the last ten bytes of `dst` are kept for a reference. Nothing
- * after what is written changes.
+ * At `JILLAPUN_OK` `progress` has the counts and an outcome:
  *
- * A call looks at no more of the text than at as many bytes as `dst` has, if it writes UTF-8,
- * and else at 4 for each of them, and at 7 more, so it takes no longer if more of the text is
- * handed in. A text that is not UTF-8 is encoded up to its first malformed sequence: a call
- * that reads all before that ends with `JILLAPUN_OUTPUT_FULL`, whatever its room, and the next
- * one, with what is left, returns `JILLAPUN_NOT_UTF8`. A character must not be cut between two
- * calls.
+ * - `JILLAPUN_INPUT_EMPTY`: everything was read and written.
+ * - `JILLAPUN_OUTPUT_FULL`: something is left to do. Call again with free space, the unread
+ *   text and the same `last`, even if no text is unread.
  *
- * Else nothing is done, and all of `progress` is 0: `JILLAPUN_NOT_UTF8`, the text begins with a
- * malformed sequence, or with a character of which the end is not there; if it does not,
- * `JILLAPUN_CLOSED`, the handle holds no encoder.
+ * Errors: `JILLAPUN_NOT_UTF8`, if `text` begins with a malformed sequence or an incomplete
+ * character; otherwise `JILLAPUN_CLOSED`.
+ *
+ * 14 bytes of `dst` always suffice to continue: unless the encoding is UTF-8, the last 10 bytes
+ * are reserved for a reference.
+ *
+ * End `text` between characters. Text that is not UTF-8 is encoded up to its first malformed
+ * sequence: the call that reaches it ends with `JILLAPUN_OUTPUT_FULL`, whatever the length of
+ * `dst`, and the next call, with the unread text, returns `JILLAPUN_NOT_UTF8`.
+ *
+ * A call examines at most as many bytes of `text` as `dst` has, or 4 times as many if the
+ * encoding is not UTF-8, and 7 more: it takes no longer if more text is passed.
  */
 jillapun_status jillapun_encoder_encode_from_utf8(jillapun_encoder *encoder, const uint8_t *text,
     size_t text_len, uint8_t *dst, size_t dst_len, bool last, jillapun_encoder_progress *progress);
 
 /**
- * Encodes the next part of a text in UTF-8, up to the first character that has no bytes. `last`
- * says that the text ends with it: then the last escape is written too, and the encoder is as a
- * new one.
+ * Like `jillapun_encoder_encode_from_utf8`, but stops after an unmappable character and writes
+ * nothing for it. 4 bytes of `dst` always suffice to continue; none are reserved. A further
+ * outcome:
  *
- * Returns `JILLAPUN_OK`, and `progress` says what was done. At `JILLAPUN_INPUT_EMPTY` all is
- * read. At `JILLAPUN_OUTPUT_FULL` something is left to do: make room, and hand in the rest
- * again, with `last` as it was, even if nothing is left; 4 bytes are always enough to go on. At
- * `JILLAPUN_UNMAPPABLE` the character that was read last has no bytes: write its reference, or
- * something else in printable ASCII other than backslash and tilde, and go on as at
- * `JILLAPUN_OUTPUT_FULL`. (In ISO-2022-JP the set in force may then be Roman, in which their
- * bytes, 5C and 7E, are U+00A5 and U+203E; 0E, 0F and 1B are no characters.) Nothing after what
- * is written changes.
+ * - `JILLAPUN_UNMAPPABLE`: the last character read is unmappable. Write its numeric character
+ *   reference, or other printable ASCII without backslash and tilde, and continue as after
+ *   `JILLAPUN_OUTPUT_FULL`.
  *
- * What a call looks at, and a text that is not UTF-8, are as with
- * `jillapun_encoder_encode_from_utf8`.
- *
- * Else nothing is done, and all of `progress` is 0: `JILLAPUN_NOT_UTF8`, the text begins with a
- * malformed sequence, or with a character of which the end is not there; if it does not,
- * `JILLAPUN_CLOSED`, the handle holds no encoder.
+ * In ISO-2022-JP the active character set may be Roman, where the bytes of backslash and tilde,
+ * 0x5C and 0x7E, are U+00A5 and U+203E; 0x0E, 0x0F and 0x1B are no characters.
  */
 jillapun_status jillapun_encoder_encode_from_utf8_without_replacement(jillapun_encoder *encoder,
     const uint8_t *text, size_t text_len, uint8_t *dst, size_t dst_len, bool last,

@@ -1,4 +1,4 @@
-//! The exports that decode streams.
+//! Decoders.
 
 ghost use Rattle.std.specs.Prelude.{◌≡◌, ◌≢◌, None, MatchResult};
 ghost use Rattle.encoding_mem.specs.declared.codec.room.OutputUnit.{OutputUnit};
@@ -85,13 +85,8 @@ impl DecoderHandle {
     }
 }
 
-/// Makes a decoder of a new stream, in the encoding with this number, and `mark` says what becomes
-/// of a byte order mark at its start. `tables` may be `{0}` if the encoding needs no index. What
-/// `out` held is overwritten, whether or not its stream has ended.
-///
-/// Returns `OK`, and `out` holds the decoder. Else nothing is made, and `out` holds none, as `{0}`:
-/// `UNKNOWN`, no encoding or no handling of marks has the number; `NOT_READY`, the tables lack an
-/// index of the encoding, or there are none and it needs one.
+/// Begins a new stream in an encoding. `mark` (`SNIFF`, `REMOVE` or `KEEP`) says what happens to a
+/// BOM at its start. Errors: `UNKNOWN`, `NOT_READY`.
 #[unsafe(no_mangle)]
 pub extern "C" fn jillapun_decoder_new(
     tables: TablesHandle,

@@ -1,4 +1,4 @@
-//! The exports that encode streams.
+//! Encoders.
 
 ghost use Rattle.std.specs.Prelude.{◌≡◌, ◌≢◌, None};
 ghost use Rattle.jillapun_c.specs.Coders.{encoder_in};
@@ -17,13 +17,8 @@ use crate::encoding_number::encoding_of;
 use crate::status::{NOT_READY, OK, Status, UNKNOWN};
 use crate::tables_handle::TablesHandle;
 
-/// Makes an encoder of a new stream into the output encoding of the one with this number (the
-/// Encoding Standard, section 4.3). `tables` may be `{0}` if the output encoding needs no index.
-/// What `out` held is overwritten.
-///
-/// Returns `OK`, and `out` holds the encoder. Else nothing is made, and `out` holds none, as `{0}`:
-/// `UNKNOWN`, no encoding has the number; `NOT_READY`, the tables lack an index of the output
-/// encoding, or there are none and it needs one.
+/// Begins a new text in the output encoding of an encoding (section 4.3). Errors: `UNKNOWN`,
+/// `NOT_READY`.
 #[unsafe(no_mangle)]
 pub extern "C" fn jillapun_encoder_new(
     tables: TablesHandle,

@@ -11,16 +11,16 @@ use encoding_mem::EncoderResult;
 #[repr(C)]
 #[derive(Clone, Copy)]
 pub struct EncoderProgress {
-    /// How many bytes of UTF-8, or units of UTF-16, were read.
+    /// Bytes of UTF-8, or UTF-16 code units, read.
     pub read: usize,
-    /// How many bytes were written.
+    /// Bytes written.
     pub written: usize,
     /// `INPUT_EMPTY`, `OUTPUT_FULL` or `UNMAPPABLE`.
     pub outcome: u8,
-    /// Whether a reference was written for a character that has no bytes.
+    /// Whether a numeric character reference was written for an unmappable character.
     pub had_unmappable: bool,
-    /// At `UNMAPPABLE`, the code point of the character that has no bytes; U+FFFD for U+000E,
-    /// U+000F and U+001B in ISO-2022-JP. Else 0.
+    /// At `UNMAPPABLE`, the code point of the character, or U+FFFD for U+000E, U+000F and U+001B in
+    /// ISO-2022-JP; else 0.
     pub scalar: u32,
 }
 

@@ -11,15 +11,15 @@ use encoding_mem::DecoderResult;
 #[repr(C)]
 #[derive(Clone, Copy)]
 pub struct Progress {
-    /// How many bytes were read.
+    /// Bytes read.
     pub read: usize,
-    /// How many bytes of UTF-8, or units of UTF-16, were written.
+    /// Bytes of UTF-8, or UTF-16 code units, written.
     pub written: usize,
     /// `INPUT_EMPTY`, `OUTPUT_FULL` or `MALFORMED`.
     pub outcome: u8,
-    /// At `MALFORMED`, how many bytes the malformed sequence has, 1 to 4; else 0.
+    /// At `MALFORMED`, the length of the malformed sequence in bytes, 1 to 4; else 0.
     pub malformed_length: u8,
-    /// At `MALFORMED`, how many of the bytes that were read follow the sequence, 0 to 3; else 0.
+    /// At `MALFORMED`, the bytes read after the sequence, 0 to 3; else 0.
     pub malformed_after: u8,
     /// Whether U+FFFD was written for a malformed sequence.
     pub had_errors: bool,

@@ -6,13 +6,7 @@ ghost use Rattle.jillapun_c.specs.HeldDecoders.{IsSoundDecoder, saved_in};
 use crate::decoder::words::DecoderWords;
 use crate::tables_handle::TablesHandle;
 
-/// A decoder of a stream. Begin with `{0}`, which holds none; `jillapun_decoder_new` fills it. All
-/// that it keeps stands in it: it may be moved, a copy is a decoder of its own that goes on from
-/// here, and nothing has to be freed. Nothing but this library, or a copy of what it wrote, may be
-/// written into it.
-///
-/// Calls that take a `const` one may be made by any number of threads at once, and others by one
-/// thread at a time.
+/// A decoder of one stream, begun by `jillapun_decoder_new`.
 #[repr(C)]
 #[derive(Drop)]
 pub struct DecoderHandle {

@@ -1,4 +1,4 @@
-//! What a decoder reports of itself.
+//! Decoder queries.
 
 ghost use Rattle.std.specs.Prelude.{◌≡◌, ◌≢◌, [], None};
 ghost use Rattle.encoding_mem.specs.declared.codec.room.OutputUnit.TheVariants.{Units, Bytes};
@@ -14,8 +14,8 @@ use crate::encoding_number::number_of;
 use crate::status::{NO_ENCODING, OK, REFUSED, Status};
 use encoding_mem::room::OutputUnit;
 
-/// The number of the encoding in force: the one that the decoder was made for, or that of the byte
-/// order mark once all of it was read. `NO_ENCODING` if the handle holds no decoder.
+/// Returns the current encoding: that of the BOM once all of the BOM was read, else the one passed
+/// to `jillapun_decoder_new`; `NO_ENCODING` if the handle is empty.
 #[unsafe(no_mangle)]
 pub extern "C" fn jillapun_decoder_encoding(decoder: &DecoderHandle) -> u8
     ensures closed { saved_in decoder.now.words ≡ None → result ≡ NO_ENCODING }
@@ -28,12 +28,10 @@ pub extern "C" fn jillapun_decoder_encoding(decoder: &DecoderHandle) -> u8
     }
 }
 
-/// Reports in `length` how many bytes of UTF-8 are room enough for the text of `n` more bytes, with
-/// U+FFFD for each malformed sequence; `SIZE_MAX` if the number passes a `size_t`. What is pending
-/// counts too.
+/// Stores in `length` a buffer length in bytes sufficient to decode the pending bytes and `n` more
+/// with `jillapun_decoder_decode_to_utf8`; `SIZE_MAX` if it does not fit into a `size_t`.
 ///
-/// Returns `OK`. Else `length` is 0: `CLOSED`, the handle holds no decoder; `FINISHED`, the stream
-/// has ended.
+/// Returns `OK`, `CLOSED` or `FINISHED`.
 #[unsafe(no_mangle)]
 pub extern "C" fn jillapun_decoder_max_utf8_length(
     decoder: &DecoderHandle,
@@ -46,10 +44,9 @@ pub extern "C" fn jillapun_decoder_max_utf8_length(
     decoder.room(OutputUnit::Replaced, n, length)
 }
 
-/// Reports in `length` how many bytes of UTF-8 are room enough for the text of `n` more bytes up to
-/// the first malformed sequence, and for one U+FFFD there; `SIZE_MAX` if the number passes a
-/// `size_t`. What is pending counts too. What is returned is as of
-/// `jillapun_decoder_max_utf8_length`.
+/// Like `jillapun_decoder_max_utf8_length`, for
+/// `jillapun_decoder_decode_to_utf8_without_replacement`: sufficient up to the first malformed
+/// sequence, and for one U+FFFD there.
 #[unsafe(no_mangle)]
 pub extern "C" fn jillapun_decoder_max_utf8_length_without_replacement(
     decoder: &DecoderHandle,
@@ -62,9 +59,8 @@ pub extern "C" fn jillapun_decoder_max_utf8_length_without_replacement(
     decoder.room(OutputUnit::Bytes, n, length)
 }
 
-/// Reports in `length` how many units of UTF-16 are room enough for the text of `n` more bytes,
-/// with U+FFFD for each malformed sequence; `SIZE_MAX` if the number passes a `size_t`. What is
-/// pending counts too. What is returned is as of `jillapun_decoder_max_utf8_length`.
+/// Like `jillapun_decoder_max_utf8_length`, in UTF-16 code units, for both functions that decode to
+/// UTF-16.
 #[unsafe(no_mangle)]
 pub extern "C" fn jillapun_decoder_max_utf16_length(
     decoder: &DecoderHandle,
@@ -77,15 +73,15 @@ pub extern "C" fn jillapun_decoder_max_utf16_length(
     decoder.room(OutputUnit::Units, n, length)
 }
 
-/// Reports in `length` how many of `bytes`, if they come next, stand for the characters of their
-/// own numbers, as in Latin1: a caller may copy these, and hand in the rest. In a single-byte
-/// encoding the index decides, and the number is the most that is true. In the others it ends
-/// before the first byte that is not ASCII, in ISO-2022-JP also before the first 0E, 0F or 1B. It
-/// is `SIZE_MAX` if it is not known: a byte order mark may still come, bytes are pending,
-/// ISO-2022-JP is in another mode than ASCII, or the encoding is UTF-16BE, UTF-16LE or replacement.
+/// Stores in `length` how many of `bytes`, if they come next in the stream, decode to the
+/// characters with the same numbers, as in Latin1. The caller may copy these and pass only the
+/// rest. The count is the greatest possible for a single-byte encoding; for others it ends before
+/// the first byte that is not ASCII, and for ISO-2022-JP also before the first 0x0E, 0x0F or 0x1B.
 ///
-/// Returns `OK`. Else `length` is 0: `CLOSED`, the handle holds no decoder; `FINISHED`, the stream
-/// has ended.
+/// `length` is `SIZE_MAX` if the count is not known: a BOM may still come, bytes are pending,
+/// ISO-2022-JP is not in ASCII mode, or the encoding is UTF-16BE, UTF-16LE or replacement.
+///
+/// Returns `OK`, `CLOSED` or `FINISHED`.
 #[unsafe(no_mangle)]
 pub extern "C" fn jillapun_decoder_latin1_byte_compatible_up_to(
     decoder: &DecoderHandle,

@@ -1,4 +1,4 @@
-//! The exports that decode to UTF-8 over a text.
+//! Decoding to UTF-8 over a text.
 
 ghost use Rattle.std.specs.Prelude.{◌≡◌, ◌≢◌};
 ghost use Rattle.encoding_mem.specs.declared.codec.room.OutputUnit.TheVariants.{Bytes, Replaced};
@@ -15,12 +15,7 @@ use crate::mem::text_room::clear_rest;
 use crate::progress::Progress;
 use crate::status::{OK, Status};
 
-/// Decodes the next bytes of a stream to UTF-8 at the start of a text, with U+FFFD for each
-/// malformed sequence. What it does and returns is as of `jillapun_decoder_decode_to_utf8`, but for
-/// this: if a character of `dst` is overwritten in part, its other bytes become 00, so what was
-/// UTF-8 is UTF-8 after the call. Of what stands behind the bytes that were written the call looks
-/// at three, and it changes those at their start that go on with a character (80 to BF), whether or
-/// not `dst` was UTF-8.
+/// Like `jillapun_decoder_decode_to_utf8`, but keeps `dst` valid UTF-8 (see Texts).
 #[unsafe(no_mangle)]
 pub extern "C" fn jillapun_decoder_decode_to_str(
     decoder: &mut DecoderHandle,
@@ -43,10 +38,8 @@ pub extern "C" fn jillapun_decoder_decode_to_str(
     status
 }
 
-/// Decodes the next bytes of a stream to UTF-8 at the start of a text, up to the first malformed
-/// sequence. What it does and returns is as of
-/// `jillapun_decoder_decode_to_utf8_without_replacement`, but that what was UTF-8 stays UTF-8, as
-/// with `jillapun_decoder_decode_to_str`.
+/// Like `jillapun_decoder_decode_to_utf8_without_replacement`, but keeps `dst` valid UTF-8 (see
+/// Texts).
 #[unsafe(no_mangle)]
 pub extern "C" fn jillapun_decoder_decode_to_str_without_replacement(
     decoder: &mut DecoderHandle,

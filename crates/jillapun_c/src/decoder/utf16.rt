@@ -1,4 +1,4 @@
-//! The exports that decode to UTF-16.
+//! Decoding to UTF-16.
 
 ghost use Rattle.std.specs.Prelude.{◌≡◌, ◌≢◌};
 ghost use Rattle.encoding_mem.specs.declared.codec.room.OutputUnit.TheVariants.{Units};
@@ -11,17 +11,9 @@ use crate::decoder::DecoderHandle;
 use crate::progress::{Progress, outcome_of, part_outcome_of};
 use crate::status::{OK, Status};
 
-/// Decodes the next bytes of a stream to UTF-16, with U+FFFD for each malformed sequence. `last`
-/// says that the stream ends with them.
-///
-/// Returns `OK`, and `progress` says what was done. At `INPUT_EMPTY` all of `src` is read: hand in
-/// what follows; with `last` the stream has ended. At `OUTPUT_FULL` fewer than 2 units are free:
-/// make room, and hand in the rest again, with `last` as it was, even if nothing is left. A
-/// surrogate pair is never split, and nothing after what is written changes. `OUTPUT_FULL` does not
-/// come if `dst` is as long as `jillapun_decoder_max_utf16_length` reports.
-///
-/// Else nothing is done, and all of `progress` is 0: `CLOSED`, the handle holds no decoder;
-/// `FINISHED`, the stream has ended.
+/// Like `jillapun_decoder_decode_to_utf8`, but writes UTF-16 and never splits a surrogate pair. At
+/// `OUTPUT_FULL` fewer than 2 code units of `dst` are free; it does not occur if `dst` has the
+/// length that `jillapun_decoder_max_utf16_length` gives.
 #[unsafe(no_mangle)]
 pub extern "C" fn jillapun_decoder_decode_to_utf16(
     decoder: &mut DecoderHandle,
@@ -54,20 +46,9 @@ pub extern "C" fn jillapun_decoder_decode_to_utf16(
     OK
 }
 
-/// Decodes the next bytes of a stream to UTF-16, up to the first malformed sequence. `last` says
-/// that the stream ends with them.
-///
-/// Returns `OK`, and `progress` says what was done. At `INPUT_EMPTY` all of `src` is read: hand in
-/// what follows; with `last` the stream has ended. At `OUTPUT_FULL` fewer than 2 units are free:
-/// make room, and hand in the rest again, with `last` as it was, even if nothing is left. A
-/// surrogate pair is never split, and nothing after what is written changes. `OUTPUT_FULL` does not
-/// come if `dst` is as long as `jillapun_decoder_max_utf16_length` reports.
-///
-/// At `MALFORMED` a sequence of `malformed_length` bytes ends `malformed_after` bytes before the
-/// end of what was read, and a unit is free: write U+FFFD or not, and go on as at `OUTPUT_FULL`.
-///
-/// Else nothing is done, and all of `progress` is 0: `CLOSED`, the handle holds no decoder;
-/// `FINISHED`, the stream has ended.
+/// Like `jillapun_decoder_decode_to_utf16`, but stops after a malformed sequence, as
+/// `jillapun_decoder_decode_to_utf8_without_replacement` does. At `MALFORMED` a code unit of `dst`
+/// is free.
 #[unsafe(no_mangle)]
 pub extern "C" fn jillapun_decoder_decode_to_utf16_without_replacement(
     decoder: &mut DecoderHandle,

@@ -1,4 +1,4 @@
-//! The exports that decode to UTF-8.
+//! Decoding to UTF-8.
 
 ghost use Rattle.std.specs.Prelude.{◌≡◌, ◌≢◌};
 ghost use Rattle.encoding_mem.specs.declared.codec.room.OutputUnit.TheVariants.{Bytes, Replaced};
@@ -12,16 +12,16 @@ use crate::progress::{Progress, outcome_of, part_outcome_of};
 use crate::status::{OK, Status};
 
 /// Decodes the next bytes of a stream to UTF-8, with U+FFFD for each malformed sequence. `last`
-/// says that the stream ends with them.
+/// says that the stream ends with `src`. The output never ends within a character, and `dst` after
+/// it is unchanged.
 ///
-/// Returns `OK`, and `progress` says what was done. At `INPUT_EMPTY` all of `src` is read: hand in
-/// what follows; with `last` the stream has ended. At `OUTPUT_FULL` fewer than 4 bytes are free:
-/// make room, and hand in the rest again, with `last` as it was, even if nothing is left. A
-/// character is never split, and nothing after what is written changes. `OUTPUT_FULL` does not come
-/// if `dst` is as long as `jillapun_decoder_max_utf8_length` reports.
+/// Returns `OK`, `CLOSED` or `FINISHED`. At `OK` `progress` has the counts and an outcome:
 ///
-/// Else nothing is done, and all of `progress` is 0: `CLOSED`, the handle holds no decoder;
-/// `FINISHED`, the stream has ended.
+/// - `INPUT_EMPTY`: all of `src` was read. Pass the bytes that follow; after `last` the stream has
+///   ended.
+/// - `OUTPUT_FULL`: fewer than 4 bytes of `dst` are free. Call again with free space, the unread
+///   bytes and the same `last`, even if no byte is unread. This does not occur if `dst` has the
+///   length that `jillapun_decoder_max_utf8_length` gives.
 #[unsafe(no_mangle)]
 pub extern "C" fn jillapun_decoder_decode_to_utf8(
     decoder: &mut DecoderHandle,
@@ -54,20 +54,13 @@ pub extern "C" fn jillapun_decoder_decode_to_utf8(
     OK
 }
 
-/// Decodes the next bytes of a stream to UTF-8, up to the first malformed sequence. `last` says
-/// that the stream ends with them.
+/// Like `jillapun_decoder_decode_to_utf8`, but stops after a malformed sequence and writes nothing
+/// for it; `jillapun_decoder_max_utf8_length_without_replacement` gives a sufficient length. A
+/// further outcome:
 ///
-/// Returns `OK`, and `progress` says what was done. At `INPUT_EMPTY` all of `src` is read: hand in
-/// what follows; with `last` the stream has ended. At `OUTPUT_FULL` fewer than 4 bytes are free:
-/// make room, and hand in the rest again, with `last` as it was, even if nothing is left. A
-/// character is never split, and nothing after what is written changes. `OUTPUT_FULL` does not come
-/// if `dst` is as long as `jillapun_decoder_max_utf8_length_without_replacement` reports.
-///
-/// At `MALFORMED` a sequence of `malformed_length` bytes ends `malformed_after` bytes before the
-/// end of what was read, and 3 bytes are free: write U+FFFD or not, and go on as at `OUTPUT_FULL`.
-///
-/// Else nothing is done, and all of `progress` is 0: `CLOSED`, the handle holds no decoder;
-/// `FINISHED`, the stream has ended.
+/// - `MALFORMED`: a sequence of `malformed_length` bytes is malformed. It ends `malformed_after`
+///   bytes before the end of the bytes read. 3 bytes of `dst` are free: write U+FFFD or not, and
+///   continue as after `OUTPUT_FULL`.
 #[unsafe(no_mangle)]
 pub extern "C" fn jillapun_decoder_decode_to_utf8_without_replacement(
     decoder: &mut DecoderHandle,

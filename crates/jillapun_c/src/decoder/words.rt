@@ -8,7 +8,7 @@ use encoding_front::SavedDecoder;
 use encoding_front::seeking::BomSet;
 use encoding_mem::saved_pieces::{SavedBytes, SavedPieces};
 
-/// What a decoder keeps between calls, for calls of this library alone.
+/// Private state of a decoder.
 #[repr(C)]
 #[derive(Clone, Copy)]
 pub struct DecoderWords {

@@ -7,13 +7,7 @@ use crate::tables_handle::TablesHandle;
 use encoding_front::{Encoder, Encoding, SavedEncoder};
 use encoding_mem::form::EscapeState;
 
-/// An encoder of a stream. Begin with `{0}`, which holds none; `jillapun_encoder_new` fills it. All
-/// that it keeps stands in it: it may be moved, a copy is an encoder of its own that goes on from
-/// here, and nothing has to be freed. Nothing but this library, or a copy of what it wrote, may be
-/// written into it.
-///
-/// Calls that take a `const` one may be made by any number of threads at once, and others by one
-/// thread at a time.
+/// An encoder of one text at a time, begun by `jillapun_encoder_new`.
 #[repr(C)]
 #[derive(Drop)]
 pub struct EncoderHandle {

@@ -1,4 +1,4 @@
-//! What an encoder reports of itself.
+//! Encoder queries.
 
 ghost use Rattle.std.specs.Prelude.{◌≡◌, ◌≢◌, ◌↔◌, true, false, IsTrue, MatchOption};
 ghost use Rattle.encoding_mem.specs.declared.codec.form.EscapeState.TheVariants.{Ascii};
@@ -13,8 +13,7 @@ use crate::encoding_number::number_of;
 use crate::status::{CLOSED, NO_ENCODING, OK, REFUSED, Status};
 use encoding_mem::form::EscapeState;
 
-/// The number of the output encoding, in which the encoder writes; `NO_ENCODING` if the handle
-/// holds no encoder.
+/// Returns the output encoding, in which the encoder writes; `NO_ENCODING` if the handle is empty.
 #[unsafe(no_mangle)]
 pub extern "C" fn jillapun_encoder_encoding(encoder: &EncoderHandle) -> u8
     ensures { MatchOption (encoder_in encoder.now) (result ≡ NO_ENCODING)
@@ -26,8 +25,8 @@ pub extern "C" fn jillapun_encoder_encoding(encoder: &EncoderHandle) -> u8
     }
 }
 
-/// Whether an escape to ASCII is still to be written at the end of the stream: so only in
-/// ISO-2022-JP, where another set is in force. False if the handle holds no encoder.
+/// Returns whether an escape sequence to ASCII must still be written at the end of the text: only
+/// in ISO-2022-JP, if another character set is active. False if the handle is empty.
 #[unsafe(no_mangle)]
 pub extern "C" fn jillapun_encoder_has_pending_state(encoder: &EncoderHandle) -> bool
     ensures { MatchOption (encoder_in encoder.now) (result ≡ false)
@@ -39,10 +38,11 @@ pub extern "C" fn jillapun_encoder_has_pending_state(encoder: &EncoderHandle) ->
     }
 }
 
-/// Reports in `length` how many bytes are room enough for what `n` bytes of UTF-8 are encoded to
-/// with references, if each character has bytes; `SIZE_MAX` if the number passes a `size_t`.
+/// Stores in `length` a buffer length in bytes sufficient to encode `n` bytes of UTF-8 with
+/// `jillapun_encoder_encode_from_utf8` if no character is unmappable; `SIZE_MAX` if it does not fit
+/// into a `size_t`.
 ///
-/// Returns `OK`; or `CLOSED`, and `length` is 0: the handle holds no encoder.
+/// Returns `OK` or `CLOSED`.
 #[unsafe(no_mangle)]
 pub extern "C" fn jillapun_encoder_max_length_from_utf8_if_no_unmappables(
     encoder: &EncoderHandle,
@@ -64,9 +64,8 @@ pub extern "C" fn jillapun_encoder_max_length_from_utf8_if_no_unmappables(
     OK
 }
 
-/// Reports in `length` how many bytes are room enough for what `n` bytes of UTF-8 are encoded to
-/// without replacement, and for the last escape; `SIZE_MAX` if the number passes a `size_t`. What
-/// is returned is as of `jillapun_encoder_max_length_from_utf8_if_no_unmappables`.
+/// Like `jillapun_encoder_max_length_from_utf8_if_no_unmappables`, for
+/// `jillapun_encoder_encode_from_utf8_without_replacement`, the final escape sequence included.
 #[unsafe(no_mangle)]
 pub extern "C" fn jillapun_encoder_max_length_from_utf8_without_replacement(
     encoder: &EncoderHandle,
@@ -88,9 +87,8 @@ pub extern "C" fn jillapun_encoder_max_length_from_utf8_without_replacement(
     OK
 }
 
-/// Reports in `length` how many bytes are room enough for what `n` units of UTF-16 are encoded to
-/// with references, if each character has bytes; `SIZE_MAX` if the number passes a `size_t`. What
-/// is returned is as of `jillapun_encoder_max_length_from_utf8_if_no_unmappables`.
+/// Like `jillapun_encoder_max_length_from_utf8_if_no_unmappables`, for `n` UTF-16 code units and
+/// `jillapun_encoder_encode_from_utf16`.
 #[unsafe(no_mangle)]
 pub extern "C" fn jillapun_encoder_max_length_from_utf16_if_no_unmappables(
     encoder: &EncoderHandle,
@@ -112,9 +110,8 @@ pub extern "C" fn jillapun_encoder_max_length_from_utf16_if_no_unmappables(
     OK
 }
 
-/// Reports in `length` how many bytes are room enough for what `n` units of UTF-16 are encoded to
-/// without replacement, and for the last escape; `SIZE_MAX` if the number passes a `size_t`. What
-/// is returned is as of `jillapun_encoder_max_length_from_utf8_if_no_unmappables`.
+/// Like `jillapun_encoder_max_length_from_utf8_without_replacement`, for `n` UTF-16 code units and
+/// `jillapun_encoder_encode_from_utf16_without_replacement`.
 #[unsafe(no_mangle)]
 pub extern "C" fn jillapun_encoder_max_length_from_utf16_without_replacement(
     encoder: &EncoderHandle,

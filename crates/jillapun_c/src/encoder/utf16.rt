@@ -1,4 +1,4 @@
-//! The exports that encode UTF-16.
+//! Encoding UTF-16.
 
 ghost use Rattle.std.specs.Prelude.{◌≡◌, ◌≢◌, ◌≤◌, true, length};
 ghost use Rattle.std.specs.Char.Utf16.{utf16_lossy_chars};
@@ -12,16 +12,10 @@ use crate::encoder_progress::{EncoderProgress, encoder_outcome_of};
 use crate::progress::outcome_of;
 use crate::status::{CLOSED, OK, Status};
 
-/// Encodes the next part of a text in UTF-16, with the decimal reference (`&#8364;`) of each
-/// character that has no bytes. `last` says that the text ends with it: then the last escape is
-/// written too, and the encoder is as a new one.
-///
-/// Returns `OK`, and `progress` says what was done. At `INPUT_EMPTY` all is read. At `OUTPUT_FULL`
-/// something is left to do: make room, and hand in the rest again, with `last` as it was, even if
-/// nothing is left; 14 bytes are always enough to go on. Unless the encoding is UTF-8, the last ten
-/// bytes of `dst` are kept for a reference. Nothing after what is written changes.
-///
-/// Else nothing is done, and all of `progress` is 0: `CLOSED`, the handle holds no encoder.
+/// Like `jillapun_encoder_encode_from_utf8`, for a text in UTF-16; what is said there of invalid
+/// text and of the bytes examined does not apply. An unpaired surrogate is encoded as U+FFFD, so do
+/// not end `text` within a surrogate pair; a call never stops within one. The only error is
+/// `CLOSED`.
 #[unsafe(no_mangle)]
 pub extern "C" fn jillapun_encoder_encode_from_utf16(
     encoder: &mut EncoderHandle,
@@ -53,19 +47,8 @@ pub extern "C" fn jillapun_encoder_encode_from_utf16(
     OK
 }
 
-/// Encodes the next part of a text in UTF-16, up to the first character that has no bytes. `last`
-/// says that the text ends with it: then the last escape is written too, and the encoder is as a
-/// new one.
-///
-/// Returns `OK`, and `progress` says what was done. At `INPUT_EMPTY` all is read. At `OUTPUT_FULL`
-/// something is left to do: make room, and hand in the rest again, with `last` as it was, even if
-/// nothing is left; 4 bytes are always enough to go on. At `UNMAPPABLE` the character that was read
-/// last has no bytes: write its reference, or something else in printable ASCII other than
-/// backslash and tilde, and go on as at `OUTPUT_FULL`. (In ISO-2022-JP the set in force may then be
-/// Roman, in which their bytes, 5C and 7E, are U+00A5 and U+203E; 0E, 0F and 1B are no characters.)
-/// Nothing after what is written changes.
-///
-/// Else nothing is done, and all of `progress` is 0: `CLOSED`, the handle holds no encoder.
+/// Like `jillapun_encoder_encode_from_utf16`, but stops after an unmappable character, as
+/// `jillapun_encoder_encode_from_utf8_without_replacement` does.
 #[unsafe(no_mangle)]
 pub extern "C" fn jillapun_encoder_encode_from_utf16_without_replacement(
     encoder: &mut EncoderHandle,

@@ -1,4 +1,4 @@
-//! The exports that encode UTF-8.
+//! Encoding UTF-8.
 
 ghost use Rattle.std.specs.Prelude.{◌≡◌, ◌≢◌, [], false};
 ghost use Rattle.std.specs.Str.{IsUtf8, chars};
@@ -16,24 +16,28 @@ use crate::encoder_progress::{EncoderProgress, encoder_outcome_of, told_outcome}
 use crate::progress::outcome_of;
 use crate::status::{CLOSED, NOT_UTF8, OK, Status};
 
-/// Encodes the next part of a text in UTF-8, with the decimal reference (`&#8364;`) of each
-/// character that has no bytes. `last` says that the text ends with it: then the last escape is
-/// written too, and the encoder is as a new one.
+/// Encodes the next part of a text in UTF-8, with a decimal numeric character reference (`&#8364;`)
+/// for each unmappable character. `last` says that the text ends with `text`: then the final escape
+/// sequence is written too, and a new text may follow. `dst` after the output is unchanged.
 ///
-/// Returns `OK`, and `progress` says what was done. At `INPUT_EMPTY` all is read. At `OUTPUT_FULL`
-/// something is left to do: make room, and hand in the rest again, with `last` as it was, even if
-/// nothing is left; 14 bytes are always enough to go on. Unless the encoding is UTF-8, the last ten
-/// bytes of `dst` are kept for a reference. Nothing after what is written changes.
+/// At `OK` `progress` has the counts and an outcome:
 ///
-/// A call looks at no more of the text than at as many bytes as `dst` has, if it writes UTF-8, and
-/// else at 4 for each of them, and at 7 more, so it takes no longer if more of the text is handed
-/// in. A text that is not UTF-8 is encoded up to its first malformed sequence: a call that reads
-/// all before that ends with `OUTPUT_FULL`, whatever its room, and the next one, with what is left,
-/// returns `NOT_UTF8`. A character must not be cut between two calls.
+/// - `INPUT_EMPTY`: everything was read and written.
+/// - `OUTPUT_FULL`: something is left to do. Call again with free space, the unread text and the
+///   same `last`, even if no text is unread.
 ///
-/// Else nothing is done, and all of `progress` is 0: `NOT_UTF8`, the text begins with a malformed
-/// sequence, or with a character of which the end is not there; if it does not, `CLOSED`, the
-/// handle holds no encoder.
+/// Errors: `NOT_UTF8`, if `text` begins with a malformed sequence or an incomplete character;
+/// otherwise `CLOSED`.
+///
+/// 14 bytes of `dst` always suffice to continue: unless the encoding is UTF-8, the last 10 bytes
+/// are reserved for a reference.
+///
+/// End `text` between characters. Text that is not UTF-8 is encoded up to its first malformed
+/// sequence: the call that reaches it ends with `OUTPUT_FULL`, whatever the length of `dst`, and
+/// the next call, with the unread text, returns `NOT_UTF8`.
+///
+/// A call examines at most as many bytes of `text` as `dst` has, or 4 times as many if the encoding
+/// is not UTF-8, and 7 more: it takes no longer if more text is passed.
 #[unsafe(no_mangle)]
 pub extern "C" fn jillapun_encoder_encode_from_utf8(
     encoder: &mut EncoderHandle,
@@ -72,24 +76,15 @@ pub extern "C" fn jillapun_encoder_encode_from_utf8(
     OK
 }
 
-/// Encodes the next part of a text in UTF-8, up to the first character that has no bytes. `last`
-/// says that the text ends with it: then the last escape is written too, and the encoder is as a
-/// new one.
+/// Like `jillapun_encoder_encode_from_utf8`, but stops after an unmappable character and writes
+/// nothing for it. 4 bytes of `dst` always suffice to continue; none are reserved. A further
+/// outcome:
 ///
-/// Returns `OK`, and `progress` says what was done. At `INPUT_EMPTY` all is read. At `OUTPUT_FULL`
-/// something is left to do: make room, and hand in the rest again, with `last` as it was, even if
-/// nothing is left; 4 bytes are always enough to go on. At `UNMAPPABLE` the character that was read
-/// last has no bytes: write its reference, or something else in printable ASCII other than
-/// backslash and tilde, and go on as at `OUTPUT_FULL`. (In ISO-2022-JP the set in force may then be
-/// Roman, in which their bytes, 5C and 7E, are U+00A5 and U+203E; 0E, 0F and 1B are no characters.)
-/// Nothing after what is written changes.
+/// - `UNMAPPABLE`: the last character read is unmappable. Write its numeric character reference, or
+///   other printable ASCII without backslash and tilde, and continue as after `OUTPUT_FULL`.
 ///
-/// What a call looks at, and a text that is not UTF-8, are as with
-/// `jillapun_encoder_encode_from_utf8`.
-///
-/// Else nothing is done, and all of `progress` is 0: `NOT_UTF8`, the text begins with a malformed
-/// sequence, or with a character of which the end is not there; if it does not, `CLOSED`, the
-/// handle holds no encoder.
+/// In ISO-2022-JP the active character set may be Roman, where the bytes of backslash and tilde,
+/// 0x5C and 0x7E, are U+00A5 and U+203E; 0x0E, 0x0F and 0x1B are no characters.
 #[unsafe(no_mangle)]
 pub extern "C" fn jillapun_encoder_encode_from_utf8_without_replacement(
     encoder: &mut EncoderHandle,

@@ -7,7 +7,7 @@ use crate::encoding_number::{encoding_of, number_of};
 use encoding_front::SavedEncoder;
 use encoding_mem::form::EscapeState;
 
-/// What an encoder's handle keeps of the encoder, for calls of this library alone.
+/// Private state of an encoder.
 #[repr(C)]
 #[derive(Clone, Copy)]
 pub struct EncoderWords {
