@@ -420,32 +420,32 @@ typedef struct {
 
 /** What a call that decodes a whole input reports. */
 typedef struct {
-    /** How many bytes the text has; `SIZE_MAX` if it has more. */
+    /** The length of the text in bytes; `SIZE_MAX` if it is longer. */
     size_t written;
-    /** How many bytes the byte order mark has that was left out; 0 if none was. */
+    /** The length of the removed BOM in bytes; 0 if none was removed. */
     size_t mark_len;
     /**
-     * The number of the encoding that the input was decoded from: that of the mark, if one was
-     * left out, else the one that was asked for. `JILLAPUN_NO_ENCODING` if nothing was decoded.
+     * The encoding of the input: that of the removed BOM, else the one passed.
+     * `JILLAPUN_NO_ENCODING` if nothing was decoded.
      */
     uint8_t encoding;
     /**
-     * Whether the text is the bytes of the input that follow the mark, as they stand: then the
-     * caller may use these, from `src + mark_len` on, in place of `dst`.
+     * Whether the text has the same bytes as the input after the BOM, so that the caller can use
+     * `src + mark_len` in place of `dst`.
      */
     bool is_own;
 } jillapun_decoded;
 
-/** A malformed sequence of the input, or a character that the output encoding has no bytes for. */
+/** A loss: a malformed sequence of the input, or an unmappable character of the text. */
 typedef struct {
     /**
-     * Of a malformed sequence, its offset in bytes from the start of the input. Of a character,
-     * how many characters of the text stand before it.
+     * Of a malformed sequence, its offset in the input in bytes; of a character, the number of
+     * characters of the text before it.
      */
     uint64_t place;
     /**
-     * Of a malformed sequence, its length in bytes, 1 to 4. Of a character, its code point, or
-     * FFFD if ISO-2022-JP refuses a control.
+     * Of a malformed sequence, its length in bytes, 1 to 4; of a character, its code point, or
+     * U+FFFD for U+000E, U+000F and U+001B in ISO-2022-JP.
      */
     uint32_t number;
     /** `JILLAPUN_BAD` for a malformed sequence, `JILLAPUN_LOST` for a character. */
@@ -455,49 +455,43 @@ typedef struct {
 /** What a conversion reports beside its status. */
 typedef struct {
     /**
-     * The bytes of the input. Told at `JILLAPUN_OK` and `JILLAPUN_LOSSY`, as the three counts that
-     * follow, and else 0.
+     * Bytes of the input. This and the next three are 0 except at `JILLAPUN_OK` and
+     * `JILLAPUN_LOSSY`.
      */
     uint64_t read;
-    /** The malformed sequences of the input. */
+    /** Malformed sequences in the input. */
     uint64_t bad;
-    /** The characters of the text that the output encoding has no bytes for. */
+    /** Unmappable characters in the text. */
     uint64_t lost;
     /**
-     * The characters of the text of the input, with U+FFFD for each malformed sequence, and
-     * without a mark that was taken. The indexes of what follows the input, if that is converted
-     * by itself, are moved by it.
+     * Characters of the text, with a U+FFFD for each malformed sequence and without a removed BOM.
+     * `jillapun_join_loss` adds them to places in later parts.
      */
     uint64_t characters;
     /**
-     * The bytes of the output, in memory: so many stand at the start of `dst`, or, at
-     * `JILLAPUN_ROOM`, so many are wanted, `SIZE_MAX` if more are. 0 if nothing was written, and in
-     * a conversion by steps: its calls report it.
+     * For `jillapun_convert`, bytes written to `dst` or, at `JILLAPUN_ROOM`, needed (`SIZE_MAX` if
+     * more); 0 for a converter, whose calls report it.
      */
     uint64_t written;
-    /**
-     * The records of losses, in memory: so many stand at the start of `losses`, or, at
-     * `JILLAPUN_ROOM`, so many are wanted, `SIZE_MAX` if more are. 0 if nothing was written, and in
-     * a conversion by steps: its calls report it.
-     */
+    /** Likewise, records of losses. */
     uint64_t losses;
-    /** At `JILLAPUN_STOPPED`, how many characters of the text stand before the lost one. Else 0. */
+    /** At `JILLAPUN_STOPPED`, the characters of the text before the unmappable one; else 0. */
     uint64_t index;
     /**
-     * At `JILLAPUN_STOPPED`, the code point of the lost character, or FFFD where ISO-2022-JP
-     * refuses a control. Else 0.
+     * At `JILLAPUN_STOPPED`, the code point of the unmappable character, or U+FFFD as in
+     * `jillapun_loss`; else 0.
      */
     uint32_t scalar;
 } jillapun_report;
 
-/** What a conversion has come to, for calls of this library alone. */
+/** Private stage of a conversion. */
 typedef struct {
     uint64_t private_index;
     uint32_t private_scalar;
     uint8_t private_stage;
 } jillapun_stage_words;
 
-/** A job in numbers, for calls of this library alone. */
+/** Private parameters of a conversion. */
 typedef struct {
     uint64_t private_limit;
     uint8_t private_from;
@@ -506,21 +500,21 @@ typedef struct {
     uint8_t private_policy;
 } jillapun_job_words;
 
-/** What is known of whether the output reads back as the text, for calls of this library alone. */
+/** Private state of the check that the output decodes to the text. */
 typedef struct {
     jillapun_decoder_words private_reader;
     bool private_by_log;
     bool private_faithful;
 } jillapun_verdict_words;
 
-/** How a call of a decoder ended, for calls of this library alone. */
+/** Private result of a decoder call. */
 typedef struct {
     uint8_t private_kind;
     uint8_t private_size;
     uint8_t private_after;
 } jillapun_answer_words;
 
-/** What a conversion keeps, for calls of this library alone. */
+/** Private state of a conversion. */
 typedef struct {
     uint64_t private_read;
     uint64_t private_index;
@@ -536,7 +530,7 @@ typedef struct {
     bool private_over;
 } jillapun_stream_words;
 
-/** What a converter keeps between calls, for calls of this library alone. */
+/** Private state of a converter. */
 typedef struct {
     bool private_is_there;
     bool private_is_finished;
@@ -549,10 +543,7 @@ typedef struct {
 } jillapun_converter_words;
 
 /**
- * A conversion by steps. Begin with `{0}`, which holds none; `jillapun_converter_new` fills it.
- * All that it keeps stands in it: it may be moved, a copy is a converter of its own that goes
- * on from here, and nothing has to be freed. Nothing but this library, or a copy of what it
- * wrote, may be written into it. One thread at a time.
+ * A conversion of one input by steps, begun by `jillapun_converter_new`.
  *
  *     jillapun_converter converter = {0};
  *     jillapun_converter_progress did = {0};
@@ -579,16 +570,13 @@ typedef struct {
 
 /** What a call of a converter did. */
 typedef struct {
-    /** How many bytes of `src` were read. */
+    /** Bytes of `src` read. */
     size_t read;
-    /** How many bytes were written to `dst`. */
+    /** Bytes written to `dst`. */
     size_t written;
-    /** How many records were written to `losses`. */
+    /** Records written to `losses`. */
     size_t losses;
-    /**
-     * Whether room is wanted: bytes or a record are left that did not fit. The next call hands
-     * them out first.
-     */
+    /** Whether bytes or a record are left that did not fit. The next call writes them first. */
     bool wants_room;
 } jillapun_converter_progress;
 
@@ -942,195 +930,167 @@ jillapun_status jillapun_encoder_encode_from_utf8_without_replacement(jillapun_e
     const uint8_t *text, size_t text_len, uint8_t *dst, size_t dst_len, bool last,
     jillapun_encoder_progress *progress);
 
-/* The exports that decode a whole input, and encode a whole text, at once. */
+/* Whole inputs: decoding and encoding in one call. */
 
 /**
- * Decodes a whole input to UTF-8, at the start of `dst`, with U+FFFD for each malformed
- * sequence. `mark` says what becomes of a byte order mark at its start. `tables` may be `{0}`
- * if the encoding needs no index. Nothing after the text changes.
+ * Decodes a whole input to UTF-8, with U+FFFD for each malformed sequence. `mark`
+ * (`JILLAPUN_SNIFF`, `JILLAPUN_REMOVE` or `JILLAPUN_KEEP`) says what happens to a BOM at its
+ * start. `dst` after the text is unchanged.
  *
- * Returns `JILLAPUN_OK`; or `JILLAPUN_LOSSY`, a malformed sequence was replaced. At
- * `JILLAPUN_ROOM` `dst` is shorter than the text, and begins with the first part of it;
- * `decoded` is as after a call with enough room: call again with room for `written` bytes, or,
- * if the text `is_own`, use the input. Else nothing is done, and `decoded` says so: its
- * `encoding` is `JILLAPUN_NO_ENCODING`, and all else 0. `JILLAPUN_UNKNOWN`: no encoding or no
- * handling of marks has the number. `JILLAPUN_NOT_READY`: the tables lack an index of the
- * encoding, or there are none and it needs one.
+ * - `JILLAPUN_OK`: no sequence was malformed.
+ * - `JILLAPUN_LOSSY`: a malformed sequence was replaced.
+ * - `JILLAPUN_ROOM`: `dst` is too small and holds only the beginning of the text. `decoded` is
+ *   as after a call with enough space: call again with `written` bytes or, if the text
+ *   `is_own`, use the input.
  *
- * No memory is taken. What does not fit into `dst` is decoded all the same, for its length.
+ * Errors: `JILLAPUN_UNKNOWN`, `JILLAPUN_NOT_READY`. `decoded` then has `JILLAPUN_NO_ENCODING`
+ * and is otherwise 0.
  */
 jillapun_status jillapun_decode(jillapun_tables tables, uint8_t encoding, uint8_t mark,
     const uint8_t *src, size_t src_len, uint8_t *dst, size_t dst_len, jillapun_decoded *decoded);
 
-/**
- * Decodes a whole input to UTF-8 at the start of a text, with U+FFFD for each malformed
- * sequence. What it does and returns is as of `jillapun_decode`, but for this: if a character
- * of `dst` is overwritten in part, its other bytes become 00, so what was UTF-8 is UTF-8 after
- * the call, as with `jillapun_decoder_decode_to_str`.
- */
+/** Like `jillapun_decode`, but keeps `dst` valid UTF-8 (see Texts). */
 jillapun_status jillapun_decode_to_str(jillapun_tables tables, uint8_t encoding, uint8_t mark,
     const uint8_t *src, size_t src_len, uint8_t *dst, size_t dst_len, jillapun_decoded *decoded);
 
 /**
- * Decodes a whole input to UTF-8, at the start of `dst`, unless a sequence of it is malformed.
- * The parameters are those of `jillapun_decode`.
- *
- * Returns `JILLAPUN_OK` or `JILLAPUN_ROOM`, and the text and `decoded` are as with
- * `jillapun_decode`; or `JILLAPUN_NOT_WELL_FORMED`, a sequence is malformed: `decoded` says
- * that nothing was decoded, and `dst` may have been written to. What else is returned, and what
- * is done then, is as with `jillapun_decode`.
+ * Like `jillapun_decode`, but never returns `JILLAPUN_LOSSY`. A further error is
+ * `JILLAPUN_NOT_WELL_FORMED`, after which `dst` may have been written to.
  */
 jillapun_status jillapun_decode_without_replacement(jillapun_tables tables, uint8_t encoding,
     uint8_t mark, const uint8_t *src, size_t src_len, uint8_t *dst, size_t dst_len,
     jillapun_decoded *decoded);
 
 /**
- * Encodes a whole text, which is UTF-8, into the output encoding of the one with this number
- * (the Encoding Standard, section 6, "encode"), at the start of `dst`, with the decimal
- * reference (`&#8364;`) of each character that has no bytes. `tables` may be `{0}` if the
- * output encoding needs no index. `written` is the length of the output in bytes, or `SIZE_MAX`
- * if it has more. Nothing after it changes.
+ * Encodes a whole text in UTF-8 into the output encoding of an encoding ("encode", section 6),
+ * with a decimal numeric character reference (`&#8364;`) for each unmappable character. Stores
+ * the length of the output in bytes in `written`, or `SIZE_MAX` if it is longer. `dst` after
+ * the output is unchanged.
  *
- * Returns `JILLAPUN_OK`; or `JILLAPUN_LOSSY`, a reference was written. At `JILLAPUN_ROOM` `dst`
- * is shorter than the output, and begins with the first part of it: call again with room for
- * `written` bytes. Else nothing is done, and `written` is 0: `JILLAPUN_NOT_UTF8`, the text is
- * not UTF-8; `JILLAPUN_UNKNOWN`, no encoding has the number; `JILLAPUN_NOT_READY`, the tables
- * lack an index of the output encoding, or there are none and it needs one.
+ * - `JILLAPUN_OK`: no character was unmappable.
+ * - `JILLAPUN_LOSSY`: a reference was written.
+ * - `JILLAPUN_ROOM`: `dst` is too small and holds only the beginning of the output. Call again
+ *   with `written` bytes.
  *
- * No memory is taken. What does not fit into `dst` is encoded all the same, for its length.
+ * Errors: `JILLAPUN_NOT_UTF8`, `JILLAPUN_UNKNOWN`, `JILLAPUN_NOT_READY`.
  */
 jillapun_status jillapun_encode(jillapun_tables tables, uint8_t encoding, const uint8_t *text,
     size_t text_len, uint8_t *dst, size_t dst_len, size_t *written);
 
-/* Conversions from memory to memory. */
+/* Conversions in memory. */
 
 /**
- * Converts a text in memory: the bytes of `src`, from the encoding with the number `from` to
- * the output encoding of that with the number `to`, at the start of `dst`, with a record of
- * each loss at the start of `losses`, in the order of the text. The rest of both stays as it
- * was.
+ * Converts a whole input from the encoding `from` to the output encoding of `to`, and writes a
+ * record of each loss to `losses`, in the order of the text. The rest of `dst` and of `losses`
+ * is unchanged.
  *
- * `mark` says what becomes of a byte order mark at the start (`JILLAPUN_SNIFF`,
- * `JILLAPUN_REMOVE`, `JILLAPUN_KEEP`), `policy` what is written for a character without bytes
- * (`JILLAPUN_DECIMAL`, `JILLAPUN_HEXADECIMAL`, `JILLAPUN_STOP`), and `limit` how many bytes the
- * input may have; a greater number than 2^48 counts as that. Any number of threads may call at
- * once, over the same tables, which have the indexes of both encodings; or `{0}` if neither
- * needs any.
+ * `mark` (`JILLAPUN_SNIFF`, `JILLAPUN_REMOVE` or `JILLAPUN_KEEP`) says what happens to a BOM at
+ * the start, `policy` (`JILLAPUN_DECIMAL`, `JILLAPUN_HEXADECIMAL` or `JILLAPUN_STOP`) what is
+ * written for an unmappable character, and `limit` how many bytes the input may have; a limit
+ * above 2^48 counts as 2^48. `tables` needs the indexes of both encodings.
  *
- * - `JILLAPUN_OK`: nothing was malformed, and the output, read again, is the text of the input.
- * - `JILLAPUN_LOSSY`: all was converted, and something was lost. `losses` may be empty even so:
- *   some encodings write a character as bytes that read back as another.
- * - `JILLAPUN_ROOM`: `written` bytes and `losses` records are wanted, and both rooms begin with
- *   the first of them. Call again.
- * - `JILLAPUN_STOPPED`: the policy is `JILLAPUN_STOP`, and the character that has no bytes is
- *   in the report. What is before it was converted, with the escape that would come before a
- *   reference, and its record is the last.
- * - `JILLAPUN_TOO_LONG`: `src` is longer than the limit.
- * - `JILLAPUN_UNKNOWN`: a number stands for nothing. `JILLAPUN_NOT_READY`: an index that one of
- *   the encodings needs is not in the tables.
+ * - `JILLAPUN_OK`: no sequence was malformed, and the output decodes to the text of the input.
+ * - `JILLAPUN_LOSSY`: everything was converted, and something was lost. `losses` can be empty
+ *   even so: some encodings have one-way mappings, characters encoded as bytes that decode to
+ *   other characters.
+ * - `JILLAPUN_ROOM`: `dst` or `losses` is too small, and each holds the beginning of its
+ *   output. Call again with space for `written` bytes and `losses` records.
+ * - `JILLAPUN_STOPPED`: the policy is `JILLAPUN_STOP`, and the report gives the unmappable
+ *   character. Everything before it was converted, with the escape sequence that would precede
+ *   a reference, and its record is the last.
  *
- * At the last three nothing is written, and all of the report is 0.
- *
- * No memory is taken. What does not fit into `dst` and `losses` is converted all the same, for
- * its length.
+ * Errors: `JILLAPUN_UNKNOWN`, `JILLAPUN_NOT_READY`; `JILLAPUN_TOO_LONG` if `src` is longer than
+ * the limit.
  */
 jillapun_status jillapun_convert(jillapun_tables tables, uint8_t from, uint8_t to, uint8_t mark,
     uint8_t policy, uint64_t limit, const uint8_t *src, size_t src_len, uint8_t *dst,
     size_t dst_len, jillapun_loss *losses, size_t losses_len, jillapun_report *report);
 
-/* The exports that convert by steps. */
+/* Conversions by steps. */
 
 /**
- * Makes a converter of a new input, from the encoding with the number `from` to the output
- * encoding of that with the number `to`. `tables`, `mark`, `policy` and `limit` are as for
- * `jillapun_convert`. What `out` held is overwritten, whether or not its end was reported.
- *
- * Returns `JILLAPUN_OK`, and `out` holds the converter. Else nothing is made, and `out` holds
- * none, as `{0}`: `JILLAPUN_UNKNOWN`, a number stands for nothing; `JILLAPUN_NOT_READY`, an
- * index that one of the encodings needs is not in the tables.
+ * Begins the conversion of a new input. The parameters are as for `jillapun_convert`. Errors:
+ * `JILLAPUN_UNKNOWN`, `JILLAPUN_NOT_READY`.
  */
 jillapun_status jillapun_converter_new(jillapun_tables tables, uint8_t from, uint8_t to,
     uint8_t mark, uint8_t policy, uint64_t limit, jillapun_converter *out);
 
-/* The export that makes a step of a conversion. */
+/* Steps of a conversion. */
 
 /**
- * Converts the next bytes of an input. It reads from the start of `src`, writes what that gives
- * at the start of `dst`, and a record of each loss at the start of `losses`, and says in
- * `progress` how much of each. `last` says that nothing follows `src` in the input: give it
- * again, with what of `src` was not read, until the end is reported. What finds no room is
- * kept, at most 1 KiB of text, 32 bytes of output and one record, and comes first in the next
- * call.
+ * Converts the next bytes of an input, `src`: writes output to `dst` and a record of each loss
+ * to `losses`, and stores the counts in `progress`. `last` says that the input ends with `src`;
+ * set it in each further call, with the unread bytes, until the end is reported. Output that
+ * does not fit is kept, at most 1 KiB of text, 32 bytes of output and one record, and comes
+ * first in the next call.
  *
- * - `JILLAPUN_GOES_ON`: call again. If `progress` says that room is wanted (`wants_room`), with
- *   room, and with what of `src` was not read; what follows may stand behind it. Else all of
- *   `src` is read, and all that it decides is written: call with what follows.
- * - `JILLAPUN_OK`: all was converted and handed out. Nothing was malformed, and the output,
- *   read again, is the text of the input. `JILLAPUN_LOSSY`: the same, but something was lost.
- *   The report has the counts.
- * - `JILLAPUN_STOPPED`: the policy is `JILLAPUN_STOP`, and the character that has no bytes is
- *   in the report. What is before it was converted, with the escape that would come before a
- *   reference, and its record is the last.
- * - `JILLAPUN_TOO_LONG`: the input is longer than the limit. All that the limit allows was
+ * - `JILLAPUN_GOES_ON`: call again. If `progress` says `wants_room`, pass free space and the
+ *   unread bytes of `src`, which others may follow. Otherwise all of `src` was read, and all
+ *   output that it determines was written: pass the bytes that follow.
+ * - `JILLAPUN_OK`: everything was converted and written. No sequence was malformed, and the
+ *   output decodes to the text of the input. The report has the counts.
+ * - `JILLAPUN_LOSSY`: as `JILLAPUN_OK`, but something was lost.
+ * - `JILLAPUN_STOPPED`: as for `jillapun_convert`.
+ * - `JILLAPUN_TOO_LONG`: the input is longer than the limit. Everything within the limit was
  *   converted.
- * - `JILLAPUN_FINISHED`: an earlier call returned one of the four above, which end the
- *   conversion. `JILLAPUN_CLOSED`: the handle holds no converter. Nothing is done, and all of
- *   `progress` and of the report is 0: keep the report of the end.
  *
- * At `JILLAPUN_OK`, `JILLAPUN_LOSSY` and `JILLAPUN_STOPPED` the outputs of all calls, joined,
- * are what `jillapun_convert` writes for all that was handed in, and so are the records,
- * however the input is cut and however the room. Before, and at `JILLAPUN_TOO_LONG`, they are
- * the first part of what it would write without a limit, however the input goes on. Before the
- * end, and at `JILLAPUN_TOO_LONG`, the report is 0. Room for one byte and one record is enough,
- * and records want room even if nobody reads them.
+ * Errors: `JILLAPUN_CLOSED`; `JILLAPUN_FINISHED` after a call that returned one of the last
+ * four. Keep the report of that call: this one is 0.
  *
- * No memory is taken.
+ * At `JILLAPUN_OK`, `JILLAPUN_LOSSY` and `JILLAPUN_STOPPED` the outputs of all calls,
+ * concatenated, are the output of `jillapun_convert` for the input passed, and so are the
+ * records, however the input is split and however long the buffers are. Before that, and at
+ * `JILLAPUN_TOO_LONG`, they are the beginning of its output without a limit, whatever bytes
+ * follow, and the report is 0.
+ *
+ * Space for one byte and one record suffices to continue. Records need space even if nobody
+ * reads them.
  */
 jillapun_status jillapun_converter_step(jillapun_converter *converter, const uint8_t *src,
     size_t src_len, bool last, uint8_t *dst, size_t dst_len, jillapun_loss *losses,
     size_t losses_len, jillapun_converter_progress *progress, jillapun_report *report);
 
-/* The exports on an input that is converted part by part. */
+/* Conversions in parts: an input that is split, and whose parts are converted separately. */
 
 /**
- * Whether an input can be cut, and each part but the first be converted by itself: the number
- * of the encoding that they are converted from, with marks kept (`JILLAPUN_KEEP`), or
- * `JILLAPUN_NO_ENCODING`. The first part is converted as the whole would be. Each part but the
- * last has to end in a byte below 30 (hexadecimal), as a line feed is.
+ * Returns the encoding from which each part of an input but the first can be converted
+ * separately, with `JILLAPUN_KEEP`; `JILLAPUN_NO_ENCODING` if the input cannot be split. The
+ * first part is converted as the whole would be. Each part but the last must end in a byte
+ * below 0x30, such as a line feed.
  *
- * `first` is how the input begins: three bytes of it, or more, or all that it has. `from`, `to`
- * and `mark` are as for `jillapun_convert`. The parts are in the encoding that a byte order
- * mark says, if `mark` takes it, else in `from`. It is `JILLAPUN_NO_ENCODING` if that encoding
- * or the output encoding of `to` is not compatible with ASCII (UTF-16BE, UTF-16LE, ISO-2022-JP,
- * replacement), or if a number stands for nothing.
+ * `first` is the beginning of the input: three bytes or more, or all if it has fewer. `from`,
+ * `to` and `mark` are as for `jillapun_convert`. The result is the encoding of a BOM that
+ * `mark` removes, else `from`. It is `JILLAPUN_NO_ENCODING` if this encoding or the output
+ * encoding of `to` is not ASCII-compatible (UTF-16BE, UTF-16LE, ISO-2022-JP, replacement), or
+ * if no encoding or BOM handling has the number.
  *
- * The outputs of all parts, in a row, are the output for the whole, if that is within the
- * limit: a part is compared by itself. So are their records of losses, once
- * `jillapun_join_loss` has moved them, and what is reported of the parts, once
- * `jillapun_join_reports` has added it. Nothing was lost of the whole if nothing was lost of
- * any part. A part that the policy stops is the last, and is not added: the stop of the whole
- * has its `scalar`, and its `index` with the `characters` of the parts before.
+ * If the whole is within the limit, which is checked for each part alone, the outputs of the
+ * parts, concatenated, are the output for the whole. So are the records, moved by
+ * `jillapun_join_loss`, and the reports, added by `jillapun_join_reports`. If no part lost
+ * anything, the whole lost nothing. If the policy stops a part, this is the last, and its
+ * report is not added: the stop of the whole has its `scalar`, and its `index` plus the
+ * `characters` of the parts before it.
  */
 uint8_t jillapun_part_encoding(uint8_t from, uint8_t to, uint8_t mark, const uint8_t *first,
     size_t first_len);
 
 /**
- * Makes a record of what the next part loses one of the whole. `before` is what is reported of
- * the parts before it: its `read` is added to the place of a record of kind `JILLAPUN_BAD`, and
- * its `characters` to that of one of kind `JILLAPUN_LOST`.
+ * Turns a loss record of the next part into one of the whole. `before` is the report of the
+ * parts before it: its `read` is added to the place of a record of kind `JILLAPUN_BAD`, its
+ * `characters` to that of kind `JILLAPUN_LOST`.
  *
- * Returns whether that was done. Else the record stays as it is: it is of another kind, or its
- * place would be 2^64 or more, which is so of no record of a conversion.
+ * Returns whether it did so. Otherwise the record is unchanged: its kind is another, or its
+ * place would be 2^64 or more, which no record of a conversion reaches.
  */
 bool jillapun_join_loss(const jillapun_report *before, jillapun_loss *loss);
 
 /**
- * Adds what is reported of the next part to what is reported of those before it: `read`, `bad`,
- * `lost`, `characters`, `written` and `losses`; `index` and `scalar` stay. The status of both
+ * Adds the report of the next part to that of the parts before it: `read`, `bad`, `lost`,
+ * `characters`, `written` and `losses`; `index` and `scalar` are unchanged. The status of both
  * is `JILLAPUN_LOSSY` if that of one is.
  *
- * Returns whether that was done. Else nothing is changed, since a sum would be 2^64 or more:
- * never of parts of an input that is within a limit.
+ * Returns whether it did so. Otherwise nothing is changed: a sum would be 2^64 or more, which
+ * parts of an input within a limit never reach.
  */
 bool jillapun_join_reports(jillapun_report *whole, const jillapun_report *next);
 

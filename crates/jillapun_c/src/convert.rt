@@ -1,4 +1,4 @@
-//! Conversions from memory to memory.
+//! Conversions in memory.
 
 ghost use Rattle.encoding_front.specs.Encodings.{no_lists};
 ghost use Rattle.jillapun_c.specs.AskedConversions.{ConvertsAsked};
@@ -13,32 +13,25 @@ use crate::tables_handle::TablesHandle;
 use encoding_tables::Tables;
 use std::alloc::Global;
 
-/// Converts a text in memory: the bytes of `src`, from the encoding with the number `from` to the
-/// output encoding of that with the number `to`, at the start of `dst`, with a record of each loss
-/// at the start of `losses`, in the order of the text. The rest of both stays as it was.
+/// Converts a whole input from the encoding `from` to the output encoding of `to`, and writes a
+/// record of each loss to `losses`, in the order of the text. The rest of `dst` and of `losses` is
+/// unchanged.
 ///
-/// `mark` says what becomes of a byte order mark at the start (`SNIFF`, `REMOVE`, `KEEP`), `policy`
-/// what is written for a character without bytes (`DECIMAL`, `HEXADECIMAL`, `STOP`), and `limit`
-/// how many bytes the input may have; a greater number than 2^48 counts as that. Any number of
-/// threads may call at once, over the same tables, which have the indexes of both encodings; or
-/// `{0}` if neither needs any.
+/// `mark` (`SNIFF`, `REMOVE` or `KEEP`) says what happens to a BOM at the start, `policy`
+/// (`DECIMAL`, `HEXADECIMAL` or `STOP`) what is written for an unmappable character, and `limit`
+/// how many bytes the input may have; a limit above 2^48 counts as 2^48. `tables` needs the indexes
+/// of both encodings.
 ///
-/// - `OK`: nothing was malformed, and the output, read again, is the text of the input.
-/// - `LOSSY`: all was converted, and something was lost. `losses` may be empty even so: some
-///   encodings write a character as bytes that read back as another.
-/// - `ROOM`: `written` bytes and `losses` records are wanted, and both rooms begin with the first
-///   of them. Call again.
-/// - `STOPPED`: the policy is `STOP`, and the character that has no bytes is in the report. What is
-///   before it was converted, with the escape that would come before a reference, and its record
-///   is the last.
-/// - `TOO_LONG`: `src` is longer than the limit.
-/// - `UNKNOWN`: a number stands for nothing. `NOT_READY`: an index that one of the encodings needs
-///   is not in the tables.
+/// - `OK`: no sequence was malformed, and the output decodes to the text of the input.
+/// - `LOSSY`: everything was converted, and something was lost. `losses` can be empty even so: some
+///   encodings have one-way mappings, characters encoded as bytes that decode to other characters.
+/// - `ROOM`: `dst` or `losses` is too small, and each holds the beginning of its output. Call again
+///   with space for `written` bytes and `losses` records.
+/// - `STOPPED`: the policy is `STOP`, and the report gives the unmappable character. Everything
+///   before it was converted, with the escape sequence that would precede a reference, and its
+///   record is the last.
 ///
-/// At the last three nothing is written, and all of the report is 0.
-///
-/// No memory is taken. What does not fit into `dst` and `losses` is converted all the same, for its
-/// length.
+/// Errors: `UNKNOWN`, `NOT_READY`; `TOO_LONG` if `src` is longer than the limit.
 #[unsafe(no_mangle)]
 pub extern "C" fn jillapun_convert(
     alloc: Global,

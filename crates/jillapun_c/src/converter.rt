@@ -1,4 +1,4 @@
-//! The exports that convert by steps.
+//! Conversions by steps.
 
 ghost use Rattle.std.specs.Prelude.{◌≡◌, ◌≢◌, [], false, None};
 ghost use Rattle.recode.specs.Job.{IsValidJob};
@@ -107,13 +107,8 @@ impl<'t> Converter<'t> {
     }
 }
 
-/// Makes a converter of a new input, from the encoding with the number `from` to the output
-/// encoding of that with the number `to`. `tables`, `mark`, `policy` and `limit` are as for
-/// `jillapun_convert`. What `out` held is overwritten, whether or not its end was reported.
-///
-/// Returns `OK`, and `out` holds the converter. Else nothing is made, and `out` holds none, as
-/// `{0}`: `UNKNOWN`, a number stands for nothing; `NOT_READY`, an index that one of the encodings
-/// needs is not in the tables.
+/// Begins the conversion of a new input. The parameters are as for `jillapun_convert`. Errors:
+/// `UNKNOWN`, `NOT_READY`.
 #[unsafe(no_mangle)]
 pub extern "C" fn jillapun_converter_new(
     alloc: Global,

@@ -10,15 +10,15 @@ use encoding_front::{Encoding, Mark};
 #[repr(C)]
 #[derive(Clone, Copy)]
 pub struct Decoded {
-    /// How many bytes the text has; `SIZE_MAX` if it has more.
+    /// The length of the text in bytes; `SIZE_MAX` if it is longer.
     pub written: usize,
-    /// How many bytes the byte order mark has that was left out; 0 if none was.
+    /// The length of the removed BOM in bytes; 0 if none was removed.
     pub mark_len: usize,
-    /// The number of the encoding that the input was decoded from: that of the mark, if one was
-    /// left out, else the one that was asked for. `NO_ENCODING` if nothing was decoded.
+    /// The encoding of the input: that of the removed BOM, else the one passed. `NO_ENCODING` if
+    /// nothing was decoded.
     pub encoding: u8,
-    /// Whether the text is the bytes of the input that follow the mark, as they stand: then the
-    /// caller may use these, from `src + mark_len` on, in place of `dst`.
+    /// Whether the text has the same bytes as the input after the BOM, so that the caller can use
+    /// `src + mark_len` in place of `dst`.
     pub is_own: bool,
 }
 

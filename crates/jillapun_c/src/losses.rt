@@ -5,15 +5,15 @@ ghost use Rattle.std.specs.Prelude.{◌≡◌, Some};
 use crate::status::{BAD, LOST};
 use recode_log::LogLine;
 
-/// A malformed sequence of the input, or a character that the output encoding has no bytes for.
+/// A loss: a malformed sequence of the input, or an unmappable character of the text.
 #[repr(C)]
 #[derive(Clone, Copy)]
 pub struct Loss {
-    /// Of a malformed sequence, its offset in bytes from the start of the input. Of a character,
-    /// how many characters of the text stand before it.
+    /// Of a malformed sequence, its offset in the input in bytes; of a character, the number of
+    /// characters of the text before it.
     pub place: u64,
-    /// Of a malformed sequence, its length in bytes, 1 to 4. Of a character, its code point, or
-    /// FFFD if ISO-2022-JP refuses a control.
+    /// Of a malformed sequence, its length in bytes, 1 to 4; of a character, its code point, or
+    /// U+FFFD for U+000E, U+000F and U+001B in ISO-2022-JP.
     pub number: u32,
     /// `BAD` for a malformed sequence, `LOST` for a character.
     pub kind: u8,

@@ -1,4 +1,4 @@
-//! The exports on an input that is converted part by part.
+//! Conversions in parts: an input that is split, and whose parts are converted separately.
 
 ghost use Rattle.std.specs.Prelude.{◌≡◌, ◌⊎◌, ◌≤◌, ◌^◌, IfNone, IfSome, MatchOption};
 ghost use Rattle.std.specs.Prelude.{None, true, false};
@@ -15,23 +15,22 @@ use crate::report::Report;
 use crate::status::{BAD, LOST, NO_ENCODING};
 use encoding_front::{Encoding, Mark};
 
-/// Whether an input can be cut, and each part but the first be converted by itself: the number of
-/// the encoding that they are converted from, with marks kept (`KEEP`), or `NO_ENCODING`. The first
-/// part is converted as the whole would be. Each part but the last has to end in a byte below 30
-/// (hexadecimal), as a line feed is.
+/// Returns the encoding from which each part of an input but the first can be converted separately,
+/// with `KEEP`; `NO_ENCODING` if the input cannot be split. The first part is converted as the
+/// whole would be. Each part but the last must end in a byte below 0x30, such as a line feed.
 ///
-/// `first` is how the input begins: three bytes of it, or more, or all that it has. `from`, `to`
-/// and `mark` are as for `jillapun_convert`. The parts are in the encoding that a byte order mark
-/// says, if `mark` takes it, else in `from`. It is `NO_ENCODING` if that encoding or the output
-/// encoding of `to` is not compatible with ASCII (UTF-16BE, UTF-16LE, ISO-2022-JP, replacement), or
-/// if a number stands for nothing.
+/// `first` is the beginning of the input: three bytes or more, or all if it has fewer. `from`, `to`
+/// and `mark` are as for `jillapun_convert`. The result is the encoding of a BOM that `mark`
+/// removes, else `from`. It is `NO_ENCODING` if this encoding or the output encoding of `to` is not
+/// ASCII-compatible (UTF-16BE, UTF-16LE, ISO-2022-JP, replacement), or if no encoding or BOM
+/// handling has the number.
 ///
-/// The outputs of all parts, in a row, are the output for the whole, if that is within the limit: a
-/// part is compared by itself. So are their records of
-/// losses, once `jillapun_join_loss` has moved them, and what is reported of the parts, once
-/// `jillapun_join_reports` has added it. Nothing was lost of the whole if nothing was lost of any
-/// part. A part that the policy stops is the last, and is not added: the stop of the whole has its
-/// `scalar`, and its `index` with the `characters` of the parts before.
+/// If the whole is within the limit, which is checked for each part alone, the outputs of the
+/// parts, concatenated, are the output for the whole. So are the records, moved by
+/// `jillapun_join_loss`, and the reports, added by `jillapun_join_reports`. If no part lost
+/// anything, the whole lost nothing. If the policy stops a part, this is the last, and its report
+/// is not added: the stop of the whole has its `scalar`, and its `index` plus the `characters` of
+/// the parts before it.
 #[unsafe(no_mangle)]
 pub extern "C" fn jillapun_part_encoding(from: u8, to: u8, mark: u8, first: &[u8]) -> u8
     ensures { MatchOption (encoding_of_parts_at from to mark first.now) (result ≡ NO_ENCODING)
@@ -71,12 +70,12 @@ fn input_encoding(from: Encoding, mark: Mark, first: &[u8]) -> Encoding
     }
 }
 
-/// Makes a record of what the next part loses one of the whole. `before` is what is reported of the
-/// parts before it: its `read` is added to the place of a record of kind `BAD`, and its
-/// `characters` to that of one of kind `LOST`.
+/// Turns a loss record of the next part into one of the whole. `before` is the report of the parts
+/// before it: its `read` is added to the place of a record of kind `BAD`, its `characters` to that
+/// of kind `LOST`.
 ///
-/// Returns whether that was done. Else the record stays as it is: it is of another kind, or its
-/// place would be 2^64 or more, which is so of no record of a conversion.
+/// Returns whether it did so. Otherwise the record is unchanged: its kind is another, or its place
+/// would be 2^64 or more, which no record of a conversion reaches.
 #[unsafe(no_mangle)]
 pub extern "C" fn jillapun_join_loss(before: &Report, loss: &mut Loss) -> bool
     ensures joined { result ≡ true → loss.new ≡ loss_in_whole before.now loss.old }
@@ -99,12 +98,12 @@ pub extern "C" fn jillapun_join_loss(before: &Report, loss: &mut Loss) -> bool
     true
 }
 
-/// Adds what is reported of the next part to what is reported of those before it: `read`, `bad`,
-/// `lost`, `characters`, `written` and `losses`; `index` and `scalar` stay. The status of both is
+/// Adds the report of the next part to that of the parts before it: `read`, `bad`, `lost`,
+/// `characters`, `written` and `losses`; `index` and `scalar` are unchanged. The status of both is
 /// `LOSSY` if that of one is.
 ///
-/// Returns whether that was done. Else nothing is changed, since a sum would be 2^64 or more: never
-/// of parts of an input that is within a limit.
+/// Returns whether it did so. Otherwise nothing is changed: a sum would be 2^64 or more, which
+/// parts of an input within a limit never reach.
 #[unsafe(no_mangle)]
 pub extern "C" fn jillapun_join_reports(whole: &mut Report, next: &Report) -> bool
     ensures joined { result ≡ true → AddsReports whole.old next.now whole.new }

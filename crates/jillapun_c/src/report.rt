@@ -8,29 +8,24 @@ use crate::status::{LOSSY, OK, STOPPED};
 #[repr(C)]
 #[derive(Clone, Copy)]
 pub struct Report {
-    /// The bytes of the input. Told at `OK` and `LOSSY`, as the three counts that follow, and else
-    /// 0.
+    /// Bytes of the input. This and the next three are 0 except at `OK` and `LOSSY`.
     pub read: u64,
-    /// The malformed sequences of the input.
+    /// Malformed sequences in the input.
     pub bad: u64,
-    /// The characters of the text that the output encoding has no bytes for.
+    /// Unmappable characters in the text.
     pub lost: u64,
-    /// The characters of the text of the input, with U+FFFD for each malformed sequence, and
-    /// without a mark that was taken. The indexes of what follows the input, if that is converted
-    /// by itself, are moved by it.
+    /// Characters of the text, with a U+FFFD for each malformed sequence and without a removed BOM.
+    /// `jillapun_join_loss` adds them to places in later parts.
     pub characters: u64,
-    /// The bytes of the output, in memory: so many stand at the start of `dst`, or, at `ROOM`, so
-    /// many are wanted, `SIZE_MAX` if more are. 0 if nothing was written, and in a conversion by
-    /// steps: its calls report it.
+    /// For `jillapun_convert`, bytes written to `dst` or, at `ROOM`, needed (`SIZE_MAX` if more); 0
+    /// for a converter, whose calls report it.
     pub written: u64,
-    /// The records of losses, in memory: so many stand at the start of `losses`, or, at `ROOM`, so
-    /// many are wanted, `SIZE_MAX` if more are. 0 if nothing was written, and in a conversion by
-    /// steps: its calls report it.
+    /// Likewise, records of losses.
     pub losses: u64,
-    /// At `STOPPED`, how many characters of the text stand before the lost one. Else 0.
+    /// At `STOPPED`, the characters of the text before the unmappable one; else 0.
     pub index: u64,
-    /// At `STOPPED`, the code point of the lost character, or FFFD where ISO-2022-JP refuses a
-    /// control. Else 0.
+    /// At `STOPPED`, the code point of the unmappable character, or U+FFFD as in `jillapun_loss`;
+    /// else 0.
     pub scalar: u32,
 }
 

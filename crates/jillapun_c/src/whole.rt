@@ -1,4 +1,4 @@
-//! The exports that decode a whole input, and encode a whole text, at once.
+//! Whole inputs: decoding and encoding in one call.
 
 ghost use Rattle.std.specs.Prelude.{◌≡◌, ◌≢◌, IfErr, IfOk, MatchResult, OnErr, false};
 ghost use Rattle.std.specs.Str.{IsUtf8};
@@ -25,18 +25,16 @@ use crate::whole::encoding::encode_whole;
 use encoding_front::{Decoder, Encoder};
 use std::str;
 
-/// Decodes a whole input to UTF-8, at the start of `dst`, with U+FFFD for each malformed sequence.
-/// `mark` says what becomes of a byte order mark at its start. `tables` may be `{0}` if the
-/// encoding needs no index. Nothing after the text changes.
+/// Decodes a whole input to UTF-8, with U+FFFD for each malformed sequence. `mark` (`SNIFF`,
+/// `REMOVE` or `KEEP`) says what happens to a BOM at its start. `dst` after the text is unchanged.
 ///
-/// Returns `OK`; or `LOSSY`, a malformed sequence was replaced. At `ROOM` `dst` is shorter than the
-/// text, and begins with the first part of it; `decoded` is as after a call with enough room: call
-/// again with room for `written` bytes, or, if the text `is_own`, use the input. Else nothing is
-/// done, and `decoded` says so: its `encoding` is `NO_ENCODING`, and all else 0. `UNKNOWN`: no
-/// encoding or no handling of marks has the number. `NOT_READY`: the tables lack an index of the
-/// encoding, or there are none and it needs one.
+/// - `OK`: no sequence was malformed.
+/// - `LOSSY`: a malformed sequence was replaced.
+/// - `ROOM`: `dst` is too small and holds only the beginning of the text. `decoded` is as after a
+///   call with enough space: call again with `written` bytes or, if the text `is_own`, use the
+///   input.
 ///
-/// No memory is taken. What does not fit into `dst` is decoded all the same, for its length.
+/// Errors: `UNKNOWN`, `NOT_READY`. `decoded` then has `NO_ENCODING` and is otherwise 0.
 #[unsafe(no_mangle)]
 pub extern "C" fn jillapun_decode(
     tables: TablesHandle,
@@ -58,10 +56,7 @@ pub extern "C" fn jillapun_decode(
     }
 }
 
-/// Decodes a whole input to UTF-8 at the start of a text, with U+FFFD for each malformed sequence.
-/// What it does and returns is as of `jillapun_decode`, but for this: if a character of `dst` is
-/// overwritten in part, its other bytes become 00, so what was UTF-8 is UTF-8 after the call, as
-/// with `jillapun_decoder_decode_to_str`.
+/// Like `jillapun_decode`, but keeps `dst` valid UTF-8 (see Texts).
 #[unsafe(no_mangle)]
 pub extern "C" fn jillapun_decode_to_str(
     tables: TablesHandle,
@@ -85,13 +80,8 @@ pub extern "C" fn jillapun_decode_to_str(
     }
 }
 
-/// Decodes a whole input to UTF-8, at the start of `dst`, unless a sequence of it is malformed. The
-/// parameters are those of `jillapun_decode`.
-///
-/// Returns `OK` or `ROOM`, and the text and `decoded` are as with `jillapun_decode`; or
-/// `NOT_WELL_FORMED`, a sequence is malformed: `decoded` says that nothing was decoded, and `dst`
-/// may have been written to. What else is returned, and what is done then, is as with
-/// `jillapun_decode`.
+/// Like `jillapun_decode`, but never returns `LOSSY`. A further error is `NOT_WELL_FORMED`, after
+/// which `dst` may have been written to.
 #[unsafe(no_mangle)]
 pub extern "C" fn jillapun_decode_without_replacement(
     tables: TablesHandle,
@@ -156,19 +146,17 @@ fn decode_input(
     Ok(whole)
 }
 
-/// Encodes a whole text, which is UTF-8, into the output encoding of the one with this number (the
-/// Encoding Standard, section 6, "encode"), at the start of `dst`, with the decimal reference
-/// (`&#8364;`) of each character that has no bytes. `tables` may be `{0}` if the output encoding
-/// needs no index. `written` is the length of the output in bytes, or `SIZE_MAX` if it has more.
-/// Nothing after it changes.
+/// Encodes a whole text in UTF-8 into the output encoding of an encoding ("encode", section 6),
+/// with a decimal numeric character reference (`&#8364;`) for each unmappable character. Stores the
+/// length of the output in bytes in `written`, or `SIZE_MAX` if it is longer. `dst` after the
+/// output is unchanged.
 ///
-/// Returns `OK`; or `LOSSY`, a reference was written. At `ROOM` `dst` is shorter than the output,
-/// and begins with the first part of it: call again with room for `written` bytes. Else nothing is
-/// done, and `written` is 0: `NOT_UTF8`, the text is not UTF-8; `UNKNOWN`, no encoding has the
-/// number; `NOT_READY`, the tables lack an index of the output encoding, or there are none and it
-/// needs one.
+/// - `OK`: no character was unmappable.
+/// - `LOSSY`: a reference was written.
+/// - `ROOM`: `dst` is too small and holds only the beginning of the output. Call again with
+///   `written` bytes.
 ///
-/// No memory is taken. What does not fit into `dst` is encoded all the same, for its length.
+/// Errors: `NOT_UTF8`, `UNKNOWN`, `NOT_READY`.
 #[unsafe(no_mangle)]
 pub extern "C" fn jillapun_encode(
     tables: TablesHandle,

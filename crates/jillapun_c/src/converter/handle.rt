@@ -9,10 +9,7 @@ use crate::converter::words::{ConverterWords, SavedStep};
 use crate::status::{CLOSED, FINISHED};
 use crate::tables_handle::TablesHandle;
 
-/// A conversion by steps. Begin with `{0}`, which holds none; `jillapun_converter_new` fills it.
-/// All that it keeps stands in it: it may be moved, a copy is a converter of its own that goes on
-/// from here, and nothing has to be freed. Nothing but this library, or a copy of what it wrote,
-/// may be written into it. One thread at a time.
+/// A conversion of one input by steps, begun by `jillapun_converter_new`.
 #[repr(C)]
 #[derive(Drop)]
 pub struct ConverterHandle {

@@ -4,14 +4,13 @@
 #[repr(C)]
 #[derive(Clone, Copy)]
 pub struct ConverterProgress {
-    /// How many bytes of `src` were read.
+    /// Bytes of `src` read.
     pub read: usize,
-    /// How many bytes were written to `dst`.
+    /// Bytes written to `dst`.
     pub written: usize,
-    /// How many records were written to `losses`.
+    /// Records written to `losses`.
     pub losses: usize,
-    /// Whether room is wanted: bytes or a record are left that did not fit. The next call hands
-    /// them out first.
+    /// Whether bytes or a record are left that did not fit. The next call writes them first.
     pub wants_room: bool,
 }
 

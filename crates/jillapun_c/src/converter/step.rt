@@ -1,4 +1,4 @@
-//! The export that makes a step of a conversion.
+//! Steps of a conversion.
 
 ghost use Rattle.std.specs.Prelude.{◌≡◌, [], false, None, Some, true};
 ghost use Rattle.jillapun_c.specs.ConverterCalls.{HoldsNoStep, HoldsStep, IsIdle, MakesStep};
@@ -56,32 +56,31 @@ impl Converter<'_> {
     }
 }
 
-/// Converts the next bytes of an input. It reads from the start of `src`, writes what that gives at
-/// the start of `dst`, and a record of each loss at the start of `losses`, and says in `progress`
-/// how much of each. `last` says that nothing follows `src` in the input: give it again, with what
-/// of `src` was not read, until the end is reported. What finds no room is kept, at most 1 KiB of
-/// text, 32 bytes of output and one record, and comes first in the next call.
+/// Converts the next bytes of an input, `src`: writes output to `dst` and a record of each loss to
+/// `losses`, and stores the counts in `progress`. `last` says that the input ends with `src`; set
+/// it in each further call, with the unread bytes, until the end is reported. Output that does not
+/// fit is kept, at most 1 KiB of text, 32 bytes of output and one record, and comes first in the
+/// next call.
 ///
-/// - `GOES_ON`: call again. If `progress` says that room is wanted (`wants_room`), with room, and
-///   with what of `src` was not read; what follows may stand behind it. Else all of `src` is read,
-///   and all that it decides is written: call with what follows.
-/// - `OK`: all was converted and handed out. Nothing was malformed, and the output, read again, is
-///   the text of the input. `LOSSY`: the same, but something was lost. The report has the counts.
-/// - `STOPPED`: the policy is `STOP`, and the character that has no bytes is in the report. What is
-///   before it was converted, with the escape that would come before a reference, and its record is
-///   the last.
-/// - `TOO_LONG`: the input is longer than the limit. All that the limit allows was converted.
-/// - `FINISHED`: an earlier call returned one of the four above, which end the conversion.
-///   `CLOSED`: the handle holds no converter. Nothing is done, and all of `progress` and of the
-///   report is 0: keep the report of the end.
+/// - `GOES_ON`: call again. If `progress` says `wants_room`, pass free space and the unread bytes
+///   of `src`, which others may follow. Otherwise all of `src` was read, and all output that it
+///   determines was written: pass the bytes that follow.
+/// - `OK`: everything was converted and written. No sequence was malformed, and the output decodes
+///   to the text of the input. The report has the counts.
+/// - `LOSSY`: as `OK`, but something was lost.
+/// - `STOPPED`: as for `jillapun_convert`.
+/// - `TOO_LONG`: the input is longer than the limit. Everything within the limit was converted.
 ///
-/// At `OK`, `LOSSY` and `STOPPED` the outputs of all calls, joined, are what `jillapun_convert`
-/// writes for all that was handed in, and so are the records, however the input is cut and however
-/// the room. Before, and at `TOO_LONG`, they are the first part of what it would write without a
-/// limit, however the input goes on. Before the end, and at `TOO_LONG`, the report is 0. Room for
-/// one byte and one record is enough, and records want room even if nobody reads them.
+/// Errors: `CLOSED`; `FINISHED` after a call that returned one of the last four. Keep the report of
+/// that call: this one is 0.
 ///
-/// No memory is taken.
+/// At `OK`, `LOSSY` and `STOPPED` the outputs of all calls, concatenated, are the output of
+/// `jillapun_convert` for the input passed, and so are the records, however the input is split and
+/// however long the buffers are. Before that, and at `TOO_LONG`, they are the beginning of its
+/// output without a limit, whatever bytes follow, and the report is 0.
+///
+/// Space for one byte and one record suffices to continue. Records need space even if nobody reads
+/// them.
 #[unsafe(no_mangle)]
 pub extern "C" fn jillapun_converter_step(
     alloc: Global,

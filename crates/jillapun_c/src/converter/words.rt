@@ -30,7 +30,7 @@ pub struct SavedStep {
     pub is_finished: bool,
 }
 
-/// A job in numbers, for calls of this library alone.
+/// Private parameters of a conversion.
 #[repr(C)]
 #[derive(Clone, Copy)]
 pub struct JobWords {
@@ -75,7 +75,7 @@ impl JobWords {
     }
 }
 
-/// What is known of whether the output reads back as the text, for calls of this library alone.
+/// Private state of the check that the output decodes to the text.
 #[repr(C)]
 #[derive(Clone, Copy)]
 pub struct VerdictWords {
@@ -111,7 +111,7 @@ impl VerdictWords {
     }
 }
 
-/// How a call of a decoder ended, for calls of this library alone.
+/// Private result of a decoder call.
 #[repr(C)]
 #[derive(Clone, Copy)]
 pub struct AnswerWords {
@@ -150,7 +150,7 @@ impl AnswerWords {
     }
 }
 
-/// What a conversion keeps, for calls of this library alone.
+/// Private state of a conversion.
 #[repr(C)]
 #[derive(Clone, Copy)]
 pub struct StreamWords {
@@ -219,7 +219,7 @@ impl StreamWords {
     }
 }
 
-/// What a conversion has come to, for calls of this library alone.
+/// Private stage of a conversion.
 #[repr(C)]
 #[derive(Clone, Copy)]
 pub struct StageWords {
@@ -263,7 +263,7 @@ impl StageWords {
     }
 }
 
-/// What a converter keeps between calls, for calls of this library alone.
+/// Private state of a converter.
 #[repr(C)]
 #[derive(Clone, Copy)]
 pub struct ConverterWords {
