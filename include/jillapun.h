@@ -1094,269 +1094,230 @@ bool jillapun_join_loss(const jillapun_report *before, jillapun_loss *loss);
  */
 bool jillapun_join_reports(jillapun_report *whole, const jillapun_report *next);
 
-/* ASCII, in bytes and in units of UTF-16: checks, and copies of the ASCII at the start. */
+/* ASCII: checks and copies, in bytes and UTF-16 code units. */
 
-/** Whether each byte is ASCII: below 80 hex. */
+/** Returns whether all bytes are ASCII: below 0x80. */
 bool jillapun_mem_is_ascii(const uint8_t *buffer, size_t buffer_len);
 
-/** Whether each unit of UTF-16 is below 80 hex. */
+/** Returns whether all UTF-16 code units are ASCII: below 0x80. */
 bool jillapun_mem_is_basic_latin(const jillapun_char16 *buffer, size_t buffer_len);
 
-/**
- * The length in bytes of the longest prefix that is ASCII: it ends before the first byte from
- * 80 hex on.
- */
+/** Returns the length in bytes of the longest ASCII prefix. */
 size_t jillapun_ascii_valid_up_to(const uint8_t *buffer, size_t buffer_len);
 
 /**
- * The length in bytes of the longest prefix that ISO-2022-JP, at the start of an input, reads
- * as ASCII: it ends before the first 0E, 0F, 1B or byte from 80 hex on (the Encoding Standard,
- * section 12.2.1).
+ * Returns the length in bytes of the longest prefix that ISO-2022-JP, at the start of an input,
+ * decodes as ASCII: it ends before the first byte that is 0x0E, 0x0F, 0x1B or not ASCII
+ * (section 12.2.1).
  */
 size_t jillapun_iso_2022_jp_ascii_valid_up_to(const uint8_t *buffer, size_t buffer_len);
 
 /**
- * Copies the longest prefix of `src` that is ASCII to the start of `dst`, and returns its
- * length in bytes. Room: as many bytes as `src` has; if `dst` is shorter, nothing is written
- * and that number is returned.
+ * Copies the longest ASCII prefix of `src` and returns its length in bytes. Required `dst_len`:
+ * `src_len`.
  */
 size_t jillapun_mem_copy_ascii_to_ascii(const uint8_t *src, size_t src_len, uint8_t *dst,
     size_t dst_len);
 
 /**
- * Copies the longest prefix of `src` that is ASCII to the start of `dst`, each byte as a unit
- * of UTF-16, and returns its length. Room: as many units as `src` has bytes; if `dst` is
- * shorter, nothing is written and that number is returned.
+ * Copies the longest ASCII prefix of `src`, each byte as a UTF-16 code unit, and returns its
+ * length. Required `dst_len`: `src_len`.
  */
 size_t jillapun_mem_copy_ascii_to_basic_latin(const uint8_t *src, size_t src_len,
     jillapun_char16 *dst, size_t dst_len);
 
 /**
- * Copies the longest prefix of `src` whose units of UTF-16 are below 80 hex to the start of
- * `dst`, each as a byte, and returns its length. Room: as many bytes as `src` has units; if
- * `dst` is shorter, nothing is written and that number is returned.
+ * Copies the longest ASCII prefix of `src`, each UTF-16 code unit as a byte, and returns its
+ * length. Required `dst_len`: `src_len`.
  */
 size_t jillapun_mem_copy_basic_latin_to_ascii(const jillapun_char16 *src, size_t src_len,
     uint8_t *dst, size_t dst_len);
 
-/* Whether a text may have to be laid out from right to left: a quick test that may say yes of a
-   text without such characters, and never says no of one with them. */
+/* Right-to-left text: quick checks, which may return true for a text without right-to-left
+   characters, and never return false for one with them. */
 
 /**
- * Whether a character, given as its code point, may be written from right to left, or is a
- * control that begins such a run. Taken by blocks: U+0590 to U+08FF, U+200F, U+202B, U+202E,
- * U+2067, U+FB1D to U+FDFF, U+FE70 to U+FEFE, U+10800 to U+10FFF and U+1E800 to U+1EFFF. A
- * number that is no character is not.
+ * Returns whether a character, given as its code point, is in a block of right-to-left
+ * characters or is a control that begins a right-to-left run: U+0590 to U+08FF, U+200F, U+202B,
+ * U+202E, U+2067, U+FB1D to U+FDFF, U+FE70 to U+FEFE, U+10800 to U+10FFF and U+1E800 to
+ * U+1EFFF. False for a number that is no character.
  */
 bool jillapun_mem_is_char_bidi(uint32_t c);
 
 /**
- * Whether a unit of UTF-16 is a character of which `jillapun_mem_is_char_bidi` holds, or a high
- * surrogate with which one of those above U+FFFF is written: D802, D803, D83A or D83B.
+ * Returns whether a UTF-16 code unit is a character for which `jillapun_mem_is_char_bidi`
+ * returns true, or the high surrogate of some above U+FFFF: 0xD802, 0xD803, 0xD83A or 0xD83B.
  */
 bool jillapun_mem_is_utf16_code_unit_bidi(jillapun_char16 u);
 
 /**
- * Whether `jillapun_mem_is_char_bidi` holds of some character of the bytes, as UTF-8, or they
- * are not well-formed.
+ * Returns whether some character is one for which `jillapun_mem_is_char_bidi` returns true, or
+ * the bytes are not UTF-8.
  */
 bool jillapun_mem_is_utf8_bidi(const uint8_t *buffer, size_t buffer_len);
 
-/** What `jillapun_mem_is_utf8_bidi` returns. The bytes are tested: none are undefined here. */
+/** The same as `jillapun_mem_is_utf8_bidi`: the bytes need not be UTF-8. */
 bool jillapun_mem_is_str_bidi(const uint8_t *buffer, size_t buffer_len);
 
 /**
- * Whether `jillapun_mem_is_utf16_code_unit_bidi` holds of some unit. A lone high surrogate
- * counts as if its pair were whole.
+ * Returns whether `jillapun_mem_is_utf16_code_unit_bidi` returns true for some code unit. An
+ * unpaired high surrogate counts as if it were paired.
  */
 bool jillapun_mem_is_utf16_bidi(const jillapun_char16 *buffer, size_t buffer_len);
 
 /**
- * `JILLAPUN_LATIN1` if `jillapun_mem_is_utf8_latin1` holds of the bytes, `JILLAPUN_BIDI` if
- * `jillapun_mem_is_utf8_bidi` does, also if they are not well-formed, and else
+ * Returns `JILLAPUN_LATIN1` if `jillapun_mem_is_utf8_latin1` returns true, `JILLAPUN_BIDI` if
+ * `jillapun_mem_is_utf8_bidi` does, as for bytes that are not UTF-8, else
  * `JILLAPUN_LEFT_TO_RIGHT`.
  */
 uint32_t jillapun_mem_check_utf8_for_latin1_and_bidi(const uint8_t *buffer, size_t buffer_len);
 
-/**
- * What `jillapun_mem_check_utf8_for_latin1_and_bidi` returns. The bytes are tested: none are
- * undefined here.
- */
+/** The same as `jillapun_mem_check_utf8_for_latin1_and_bidi`: the bytes need not be UTF-8. */
 uint32_t jillapun_mem_check_str_for_latin1_and_bidi(const uint8_t *buffer, size_t buffer_len);
 
 /**
- * `JILLAPUN_LATIN1` if `jillapun_mem_is_utf16_latin1` holds of the units, `JILLAPUN_BIDI` if
- * `jillapun_mem_is_utf16_bidi` does, and else `JILLAPUN_LEFT_TO_RIGHT`.
+ * Returns `JILLAPUN_LATIN1` if `jillapun_mem_is_utf16_latin1` returns true, `JILLAPUN_BIDI` if
+ * `jillapun_mem_is_utf16_bidi` does, else `JILLAPUN_LEFT_TO_RIGHT`.
  */
 uint32_t jillapun_mem_check_utf16_for_latin1_and_bidi(const jillapun_char16 *buffer,
     size_t buffer_len);
 
-/* Latin1, whose bytes are the characters U+0000 to U+00FF: checks, and conversions from it and
-   into it. */
+/* Latin1: checks and conversions. Its bytes are the characters U+0000 to U+00FF. */
 
-/** Whether the bytes are well-formed UTF-8 with no character above U+00FF. */
+/** Returns whether the bytes are UTF-8 without characters above U+00FF. */
 bool jillapun_mem_is_utf8_latin1(const uint8_t *buffer, size_t buffer_len);
 
-/** What `jillapun_mem_is_utf8_latin1` returns. The bytes are tested: none are undefined here. */
+/** The same as `jillapun_mem_is_utf8_latin1`: the bytes need not be UTF-8. */
 bool jillapun_mem_is_str_latin1(const uint8_t *buffer, size_t buffer_len);
 
-/** Whether each unit of UTF-16 is at most FF hex. */
+/** Returns whether no UTF-16 code unit is above 0xFF. */
 bool jillapun_mem_is_utf16_latin1(const jillapun_char16 *buffer, size_t buffer_len);
 
 /**
- * The length in bytes of the longest prefix that is well-formed UTF-8 with no character above
+ * Returns the length in bytes of the longest prefix that is UTF-8 without characters above
  * U+00FF.
  */
 size_t jillapun_mem_utf8_latin1_up_to(const uint8_t *buffer, size_t buffer_len);
 
-/** What `jillapun_mem_utf8_latin1_up_to` returns. The bytes are tested: none are undefined here. */
+/** The same as `jillapun_mem_utf8_latin1_up_to`: the bytes need not be UTF-8. */
 size_t jillapun_mem_str_latin1_up_to(const uint8_t *buffer, size_t buffer_len);
 
 /**
- * Converts Latin1 to UTF-16 at the start of `dst`, a unit for each byte, and returns how many
- * units were written. Room: as many units as `src` has bytes; if `dst` is shorter, nothing is
- * written and that number is returned.
+ * Converts Latin1 to UTF-16, one code unit for each byte, and returns the number of code units
+ * written. Required `dst_len`: `src_len`.
  */
 size_t jillapun_mem_convert_latin1_to_utf16(const uint8_t *src, size_t src_len,
     jillapun_char16 *dst, size_t dst_len);
 
 /**
- * Takes the low eight bits of each unit of UTF-16, into the start of `dst`, and returns how
- * many bytes were written. If `jillapun_mem_is_utf16_latin1` holds of `src`, that is its text
- * in Latin1; else it is not. Room: as many bytes as `src` has units; if `dst` is shorter,
- * nothing is written and that number is returned.
+ * Writes the low byte of each UTF-16 code unit, and returns the number of bytes written. They
+ * are the text in Latin1 only if `jillapun_mem_is_utf16_latin1` returns true for `src`.
+ * Required `dst_len`: `src_len`.
  */
 size_t jillapun_mem_convert_utf16_to_latin1_lossy(const jillapun_char16 *src, size_t src_len,
     uint8_t *dst, size_t dst_len);
 
 /**
- * Converts UTF-8 to Latin1 at the start of `dst`, a byte for each character, and returns how
- * many bytes were written. Room: as many bytes as `src` has; if `dst` is shorter, nothing is
- * written and that number is returned. If there is room, but `jillapun_mem_is_utf8_latin1` does
- * not hold of `src`, nothing is written and `SIZE_MAX` is returned.
+ * Converts UTF-8 to Latin1, one byte for each character, and returns the number of bytes
+ * written; `SIZE_MAX`, with nothing written, if `jillapun_mem_is_utf8_latin1` returns false for
+ * `src`. Required `dst_len`, which is checked first: `src_len`.
  */
 size_t jillapun_mem_convert_utf8_to_latin1_lossy(const uint8_t *src, size_t src_len, uint8_t *dst,
     size_t dst_len);
 
 /**
- * Converts Latin1 to UTF-8 at the start of `dst`, and returns how many bytes were written.
- * Room: twice as many bytes as `src` has; if `dst` is shorter, nothing is written and that
- * number is returned.
+ * Converts Latin1 to UTF-8, and returns the number of bytes written. Required `dst_len`: twice
+ * `src_len`.
  */
 size_t jillapun_mem_convert_latin1_to_utf8(const uint8_t *src, size_t src_len, uint8_t *dst,
     size_t dst_len);
 
-/**
- * Converts Latin1 to UTF-8 at the start of a text, and returns how many bytes were written. If
- * a character of `dst` is overwritten in part, its other bytes become 00, so what was UTF-8 is
- * UTF-8 after the call. Of what stands behind the bytes that were written the call looks at
- * three, and it changes those at their start that go on with a character (80 to BF), whether or
- * not `dst` was UTF-8. Room: twice as many bytes as `src` has; if `dst` is shorter, nothing is
- * written and that number is returned.
- */
+/** Like `jillapun_mem_convert_latin1_to_utf8`, but keeps `dst` valid UTF-8 (see Texts). */
 size_t jillapun_mem_convert_latin1_to_str(const uint8_t *src, size_t src_len, uint8_t *dst,
     size_t dst_len);
 
-/* Conversions of the longest prefix that fits. Each says how much was read and how much was
-   written: the caller goes on with what is unread. */
+/* Conversions of as much as fits. Each reports how much was read and written; continue with what
+   is unread. */
 
 /**
- * Converts the longest well-formed prefix of UTF-8 whose UTF-16 fits into `dst`. It ends before
- * the first malformed sequence, if one comes before the room ends. `read` is in bytes,
- * `written` in units. No more of `src` is looked at than three bytes for each unit of `dst`.
+ * Converts the longest prefix of `src` that is UTF-8 and fits into `dst` as UTF-16: it ends
+ * before the first malformed sequence at the latest. `read` is in bytes, `written` in code
+ * units. At most 3 bytes of `src` are examined for each code unit of `dst`.
  */
 void jillapun_mem_convert_utf8_to_utf16_up_to_invalid(const uint8_t *src, size_t src_len,
     jillapun_char16 *dst, size_t dst_len, size_t *read, size_t *written);
 
 /**
- * Converts the longest prefix of UTF-16 whose UTF-8 fits into `dst`. No pair is split; a
- * surrogate in no pair of `src` becomes U+FFFD. `read` is in units, `written` in bytes.
+ * Converts the longest prefix of UTF-16 that fits into `dst` as UTF-8, with U+FFFD for each
+ * surrogate that is unpaired in `src`. It never ends within a surrogate pair. `read` is in code
+ * units, `written` in bytes.
  */
 void jillapun_mem_convert_utf16_to_utf8_partial(const jillapun_char16 *src, size_t src_len,
     uint8_t *dst, size_t dst_len, size_t *read, size_t *written);
 
 /**
- * Converts the longest prefix of Latin1 whose UTF-8 fits into `dst`. `read` and `written` are
+ * Converts the longest prefix of Latin1 that fits into `dst` as UTF-8. `read` and `written` are
  * in bytes.
  */
 void jillapun_mem_convert_latin1_to_utf8_partial(const uint8_t *src, size_t src_len, uint8_t *dst,
     size_t dst_len, size_t *read, size_t *written);
 
-/**
- * Converts the longest prefix of UTF-16 whose UTF-8 fits into a text. No pair is split; a
- * surrogate in no pair of `src` becomes U+FFFD. `read` is in units, `written` in bytes. What
- * becomes of the bytes behind those is as with `jillapun_mem_convert_utf16_to_str`: what was
- * UTF-8 stays UTF-8.
- */
+/** Like `jillapun_mem_convert_utf16_to_utf8_partial`, but keeps `dst` valid UTF-8 (see Texts). */
 void jillapun_mem_convert_utf16_to_str_partial(const jillapun_char16 *src, size_t src_len,
     uint8_t *dst, size_t dst_len, size_t *read, size_t *written);
 
-/**
- * Converts the longest prefix of Latin1 whose UTF-8 fits into a text. `read` and `written` are
- * in bytes. What becomes of the bytes behind those is as with
- * `jillapun_mem_convert_latin1_to_str`: what was UTF-8 stays UTF-8.
- */
+/** Like `jillapun_mem_convert_latin1_to_utf8_partial`, but keeps `dst` valid UTF-8 (see Texts). */
 void jillapun_mem_convert_latin1_to_str_partial(const uint8_t *src, size_t src_len, uint8_t *dst,
     size_t dst_len, size_t *read, size_t *written);
 
-/* UTF-16: whether it is well-formed, and conversions to UTF-8. */
+/* UTF-16: validity, and conversions to UTF-8. */
 
 /**
- * The length in units of the longest prefix that is well-formed UTF-16: it ends before the
- * first surrogate in no pair.
+ * Returns the length in code units of the longest prefix that is valid UTF-16: it ends before
+ * the first unpaired surrogate.
  */
 size_t jillapun_mem_utf16_valid_up_to(const jillapun_char16 *buffer, size_t buffer_len);
 
-/** Puts U+FFFD in place of each surrogate in no pair, and leaves all other units as they are. */
+/** Replaces each unpaired surrogate with U+FFFD, in place. */
 void jillapun_mem_ensure_utf16_validity(jillapun_char16 *buffer, size_t buffer_len);
 
 /**
- * Converts UTF-16 to UTF-8 at the start of `dst`, with U+FFFD for each surrogate in no pair,
- * and returns how many bytes were written. Room: three bytes for each unit of `src`; if `dst`
- * is shorter, nothing is written and that number is returned.
+ * Converts UTF-16 to UTF-8, with U+FFFD for each unpaired surrogate, and returns the number of
+ * bytes written. Required `dst_len`: 3 times `src_len`.
  */
 size_t jillapun_mem_convert_utf16_to_utf8(const jillapun_char16 *src, size_t src_len, uint8_t *dst,
     size_t dst_len);
 
-/**
- * Converts UTF-16 to UTF-8 at the start of a text, with U+FFFD for each surrogate in no pair,
- * and returns how many bytes were written. If a character of `dst` is overwritten in part, its
- * other bytes become 00, so what was UTF-8 is UTF-8 after the call. Of what stands behind the
- * bytes that were written the call looks at three, and it changes those at their start that go
- * on with a character (80 to BF), whether or not `dst` was UTF-8. Room: three bytes for each
- * unit of `src`; if `dst` is shorter, nothing is written and that number is returned.
- */
+/** Like `jillapun_mem_convert_utf16_to_utf8`, but keeps `dst` valid UTF-8 (see Texts). */
 size_t jillapun_mem_convert_utf16_to_str(const jillapun_char16 *src, size_t src_len, uint8_t *dst,
     size_t dst_len);
 
-/* UTF-8: how far it is well-formed, and conversions to UTF-16. */
+/* UTF-8: validity, and conversions to UTF-16. */
 
 /**
- * The length in bytes of the longest prefix that is well-formed UTF-8 (RFC 3629): it ends
- * before the first byte of the first malformed sequence.
+ * Returns the length in bytes of the longest prefix that is valid UTF-8 (RFC 3629): it ends
+ * before the first malformed sequence.
  */
 size_t jillapun_utf8_valid_up_to(const uint8_t *buffer, size_t buffer_len);
 
 /**
- * Converts UTF-8 to UTF-16 at the start of `dst`, with U+FFFD for each malformed sequence, and
- * returns how many units were written. Room: one unit more than `src` has bytes; if `dst` is
- * shorter, nothing is written and that number is returned.
+ * Converts UTF-8 to UTF-16, with U+FFFD for each malformed sequence, and returns the number of
+ * code units written. Required `dst_len`: `src_len` + 1.
  */
 size_t jillapun_mem_convert_utf8_to_utf16(const uint8_t *src, size_t src_len, jillapun_char16 *dst,
     size_t dst_len);
 
 /**
- * Converts UTF-8 to UTF-16 at the start of `dst`, and returns how many units were written.
- * Room: as many units as `src` has bytes; if `dst` is shorter, nothing is written and that
- * number is returned. If there is room, but `src` is not well-formed, `SIZE_MAX` is returned,
- * and `dst` begins with the text before the first malformed sequence.
+ * Converts UTF-8 to UTF-16, and returns the number of code units written. If `src` is not
+ * UTF-8, returns `SIZE_MAX`, and `dst` begins with the text before the first malformed
+ * sequence. Required `dst_len`, which is checked first: `src_len`.
  */
 size_t jillapun_mem_convert_utf8_to_utf16_without_replacement(const uint8_t *src, size_t src_len,
     jillapun_char16 *dst, size_t dst_len);
 
 /**
- * What `jillapun_mem_convert_utf8_to_utf16_without_replacement` does and returns. The bytes are
- * tested: none are undefined here.
+ * The same as `jillapun_mem_convert_utf8_to_utf16_without_replacement`: the bytes need not be
+ * UTF-8.
  */
 size_t jillapun_mem_convert_str_to_utf16(const uint8_t *src, size_t src_len, jillapun_char16 *dst,
     size_t dst_len);

@@ -1,4 +1,4 @@
-//! ASCII, in bytes and in units of UTF-16: checks, and copies of the ASCII at the start.
+//! ASCII: checks and copies, in bytes and UTF-16 code units.
 
 ghost use Rattle.std.specs.Prelude.{◌↔◌, ◌<◌, ◌≤◌, IsTrue, length, take};
 ghost use Rattle.std.specs.Str.{IsAscii};
@@ -6,7 +6,7 @@ ghost use Rattle.encoding_mem.specs.Iso2022JpAscii.{IsIso2022JpAscii};
 ghost use Rattle.encoding_mem.specs.LongestPrefix.{IsLongestPrefix};
 ghost use Rattle.jillapun_c.specs.Room.{IsPut, WantsRoom};
 
-/// Whether each byte is ASCII: below 80 hex.
+/// Returns whether all bytes are ASCII: below 0x80.
 #[unsafe(no_mangle)]
 pub extern "C" fn jillapun_mem_is_ascii(buffer: &[u8]) -> bool
     ensures { IsTrue result ↔ IsAscii buffer.now }
@@ -14,7 +14,7 @@ pub extern "C" fn jillapun_mem_is_ascii(buffer: &[u8]) -> bool
     encoding_mem::is_ascii(buffer)
 }
 
-/// Whether each unit of UTF-16 is below 80 hex.
+/// Returns whether all UTF-16 code units are ASCII: below 0x80.
 #[unsafe(no_mangle)]
 pub extern "C" fn jillapun_mem_is_basic_latin(buffer: &[u16]) -> bool
     ensures { IsTrue result ↔ IsAscii buffer.now }
@@ -22,8 +22,7 @@ pub extern "C" fn jillapun_mem_is_basic_latin(buffer: &[u16]) -> bool
     encoding_mem::is_basic_latin(buffer)
 }
 
-/// The length in bytes of the longest prefix that is ASCII: it ends before the first byte from 80
-/// hex on.
+/// Returns the length in bytes of the longest ASCII prefix.
 #[unsafe(no_mangle)]
 pub extern "C" fn jillapun_ascii_valid_up_to(buffer: &[u8]) -> usize
     ensures { IsLongestPrefix IsAscii buffer.now result }
@@ -31,9 +30,9 @@ pub extern "C" fn jillapun_ascii_valid_up_to(buffer: &[u8]) -> usize
     encoding_mem::ascii_valid_up_to(buffer)
 }
 
-/// The length in bytes of the longest prefix that ISO-2022-JP, at the start of an input, reads as
-/// ASCII: it ends before the first 0E, 0F, 1B or byte from 80 hex on (the Encoding Standard,
-/// section 12.2.1).
+/// Returns the length in bytes of the longest prefix that ISO-2022-JP, at the start of an input,
+/// decodes as ASCII: it ends before the first byte that is 0x0E, 0x0F, 0x1B or not ASCII (section
+/// 12.2.1).
 #[unsafe(no_mangle)]
 pub extern "C" fn jillapun_iso_2022_jp_ascii_valid_up_to(buffer: &[u8]) -> usize
     ensures { IsLongestPrefix IsIso2022JpAscii buffer.now result }
@@ -41,9 +40,8 @@ pub extern "C" fn jillapun_iso_2022_jp_ascii_valid_up_to(buffer: &[u8]) -> usize
     encoding_mem::iso_2022_jp_ascii_valid_up_to(buffer)
 }
 
-/// Copies the longest prefix of `src` that is ASCII to the start of `dst`, and returns its length
-/// in bytes. Room: as many bytes as `src` has; if `dst` is shorter, nothing is written and
-/// that number is returned.
+/// Copies the longest ASCII prefix of `src` and returns its length in bytes. Required `dst_len`:
+/// `src_len`.
 #[unsafe(no_mangle)]
 pub extern "C" fn jillapun_mem_copy_ascii_to_ascii(src: &[u8], dst: &mut [u8]) -> usize
     ensures prefix { length src.now ≤ length dst.old → IsLongestPrefix IsAscii src.now result }
@@ -58,9 +56,8 @@ pub extern "C" fn jillapun_mem_copy_ascii_to_ascii(src: &[u8], dst: &mut [u8]) -
     encoding_mem::copy_ascii_to_ascii(src, dst)
 }
 
-/// Copies the longest prefix of `src` that is ASCII to the start of `dst`, each byte as a unit of
-/// UTF-16, and returns its length. Room: as many units as `src` has bytes; if `dst` is shorter,
-/// nothing is written and that number is returned.
+/// Copies the longest ASCII prefix of `src`, each byte as a UTF-16 code unit, and returns its
+/// length. Required `dst_len`: `src_len`.
 #[unsafe(no_mangle)]
 pub extern "C" fn jillapun_mem_copy_ascii_to_basic_latin(src: &[u8], dst: &mut [u16]) -> usize
     ensures prefix { length src.now ≤ length dst.old → IsLongestPrefix IsAscii src.now result }
@@ -75,9 +72,8 @@ pub extern "C" fn jillapun_mem_copy_ascii_to_basic_latin(src: &[u8], dst: &mut [
     encoding_mem::copy_ascii_to_basic_latin(src, dst)
 }
 
-/// Copies the longest prefix of `src` whose units of UTF-16 are below 80 hex to the start of
-/// `dst`, each as a byte, and returns its length. Room: as many bytes as `src` has units; if `dst`
-/// is shorter, nothing is written and that number is returned.
+/// Copies the longest ASCII prefix of `src`, each UTF-16 code unit as a byte, and returns its
+/// length. Required `dst_len`: `src_len`.
 #[unsafe(no_mangle)]
 pub extern "C" fn jillapun_mem_copy_basic_latin_to_ascii(src: &[u16], dst: &mut [u8]) -> usize
     ensures prefix { length src.now ≤ length dst.old → IsLongestPrefix IsAscii src.now result }

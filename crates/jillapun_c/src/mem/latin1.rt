@@ -1,5 +1,4 @@
-//! Latin1, whose bytes are the characters U+0000 to U+00FF: checks, and conversions from it and
-//! into it.
+//! Latin1: checks and conversions. Its bytes are the characters U+0000 to U+00FF.
 
 ghost use Rattle.std.specs.Prelude.{◌≡◌, ◌↔◌, ◌*◌, ◌<◌, ◌≤◌, IsTrue, length, encode_utf8_all};
 ghost use Rattle.std.specs.Str.{chars};
@@ -11,7 +10,7 @@ ghost use Rattle.jillapun_c.specs.Room.{IsPut, TextIsPut, IsUnwritten, WantsRoom
 use crate::mem::text_room::clear_rest;
 use crate::status::REFUSED;
 
-/// Whether the bytes are well-formed UTF-8 with no character above U+00FF.
+/// Returns whether the bytes are UTF-8 without characters above U+00FF.
 #[unsafe(no_mangle)]
 pub extern "C" fn jillapun_mem_is_utf8_latin1(buffer: &[u8]) -> bool
     ensures { IsTrue result ↔ IsLatin1Text buffer.now }
@@ -19,7 +18,7 @@ pub extern "C" fn jillapun_mem_is_utf8_latin1(buffer: &[u8]) -> bool
     encoding_mem::is_utf8_latin1(buffer)
 }
 
-/// What `jillapun_mem_is_utf8_latin1` returns. The bytes are tested: none are undefined here.
+/// The same as `jillapun_mem_is_utf8_latin1`: the bytes need not be UTF-8.
 #[unsafe(no_mangle)]
 pub extern "C" fn jillapun_mem_is_str_latin1(buffer: &[u8]) -> bool
     ensures { IsTrue result ↔ IsLatin1Text buffer.now }
@@ -27,7 +26,7 @@ pub extern "C" fn jillapun_mem_is_str_latin1(buffer: &[u8]) -> bool
     encoding_mem::is_utf8_latin1(buffer)
 }
 
-/// Whether each unit of UTF-16 is at most FF hex.
+/// Returns whether no UTF-16 code unit is above 0xFF.
 #[unsafe(no_mangle)]
 pub extern "C" fn jillapun_mem_is_utf16_latin1(buffer: &[u16]) -> bool
     ensures { IsTrue result ↔ AllLatin1 buffer.now }
@@ -35,8 +34,7 @@ pub extern "C" fn jillapun_mem_is_utf16_latin1(buffer: &[u16]) -> bool
     encoding_mem::is_utf16_latin1(buffer)
 }
 
-/// The length in bytes of the longest prefix that is well-formed UTF-8 with no character above
-/// U+00FF.
+/// Returns the length in bytes of the longest prefix that is UTF-8 without characters above U+00FF.
 #[unsafe(no_mangle)]
 pub extern "C" fn jillapun_mem_utf8_latin1_up_to(buffer: &[u8]) -> usize
     ensures { IsLongestPrefix IsLatin1Text buffer.now result }
@@ -44,7 +42,7 @@ pub extern "C" fn jillapun_mem_utf8_latin1_up_to(buffer: &[u8]) -> usize
     encoding_mem::utf8_latin1_up_to(buffer)
 }
 
-/// What `jillapun_mem_utf8_latin1_up_to` returns. The bytes are tested: none are undefined here.
+/// The same as `jillapun_mem_utf8_latin1_up_to`: the bytes need not be UTF-8.
 #[unsafe(no_mangle)]
 pub extern "C" fn jillapun_mem_str_latin1_up_to(buffer: &[u8]) -> usize
     ensures { IsLongestPrefix IsLatin1Text buffer.now result }
@@ -52,9 +50,8 @@ pub extern "C" fn jillapun_mem_str_latin1_up_to(buffer: &[u8]) -> usize
     encoding_mem::utf8_latin1_up_to(buffer)
 }
 
-/// Converts Latin1 to UTF-16 at the start of `dst`, a unit for each byte, and returns how many
-/// units were written. Room: as many units as `src` has bytes; if `dst` is shorter, nothing is
-/// written and that number is returned.
+/// Converts Latin1 to UTF-16, one code unit for each byte, and returns the number of code units
+/// written. Required `dst_len`: `src_len`.
 #[unsafe(no_mangle)]
 pub extern "C" fn jillapun_mem_convert_latin1_to_utf16(src: &[u8], dst: &mut [u16]) -> usize
     ensures count { length src.now ≤ length dst.old → result ≡ length src.now }
@@ -69,10 +66,9 @@ pub extern "C" fn jillapun_mem_convert_latin1_to_utf16(src: &[u8], dst: &mut [u1
     src.len()
 }
 
-/// Takes the low eight bits of each unit of UTF-16, into the start of `dst`, and returns how many
-/// bytes were written. If `jillapun_mem_is_utf16_latin1` holds of `src`, that is its text in
-/// Latin1; else it is not. Room: as many bytes as `src` has units; if `dst` is shorter, nothing is
-/// written and that number is returned.
+/// Writes the low byte of each UTF-16 code unit, and returns the number of bytes written. They are
+/// the text in Latin1 only if `jillapun_mem_is_utf16_latin1` returns true for `src`. Required
+/// `dst_len`: `src_len`.
 #[unsafe(no_mangle)]
 pub extern "C" fn jillapun_mem_convert_utf16_to_latin1_lossy(src: &[u16], dst: &mut [u8]) -> usize
     ensures count { length src.now ≤ length dst.old → result ≡ length src.now }
@@ -88,10 +84,9 @@ pub extern "C" fn jillapun_mem_convert_utf16_to_latin1_lossy(src: &[u16], dst: &
     src.len()
 }
 
-/// Converts UTF-8 to Latin1 at the start of `dst`, a byte for each character, and returns how many
-/// bytes were written. Room: as many bytes as `src` has; if `dst` is shorter, nothing is written
-/// and that number is returned. If there is room, but `jillapun_mem_is_utf8_latin1` does not hold
-/// of `src`, nothing is written and `SIZE_MAX` is returned.
+/// Converts UTF-8 to Latin1, one byte for each character, and returns the number of bytes written;
+/// `SIZE_MAX`, with nothing written, if `jillapun_mem_is_utf8_latin1` returns false for `src`.
+/// Required `dst_len`, which is checked first: `src_len`.
 #[unsafe(no_mangle)]
 pub extern "C" fn jillapun_mem_convert_utf8_to_latin1_lossy(src: &[u8], dst: &mut [u8]) -> usize
     ensures converts { IsLatin1Text src.now → length src.now ≤ length dst.old
@@ -110,9 +105,8 @@ pub extern "C" fn jillapun_mem_convert_utf8_to_latin1_lossy(src: &[u8], dst: &mu
     encoding_mem::convert_utf8_to_latin1_lossy(src, dst)
 }
 
-/// Converts Latin1 to UTF-8 at the start of `dst`, and returns how many bytes were written. Room:
-/// twice as many bytes as `src` has; if `dst` is shorter, nothing is written and that number is
-/// returned.
+/// Converts Latin1 to UTF-8, and returns the number of bytes written. Required `dst_len`: twice
+/// `src_len`.
 #[unsafe(no_mangle)]
 pub extern "C" fn jillapun_mem_convert_latin1_to_utf8(src: &[u8], dst: &mut [u8]) -> usize
     ensures converts { 2 * length src.now ≤ length dst.old
@@ -126,12 +120,7 @@ pub extern "C" fn jillapun_mem_convert_latin1_to_utf8(src: &[u8], dst: &mut [u8]
     encoding_mem::convert_latin1_to_utf8(src, dst)
 }
 
-/// Converts Latin1 to UTF-8 at the start of a text, and returns how many bytes were written. If a
-/// character of `dst` is overwritten in part, its other bytes become 00, so what was UTF-8 is UTF-8
-/// after the call. Of what stands behind the bytes that were written the call looks at three, and
-/// it changes those at their start that go on with a character (80 to BF), whether or not `dst` was
-/// UTF-8. Room: twice as many bytes as `src` has; if `dst` is shorter, nothing is written and that
-/// number is returned.
+/// Like `jillapun_mem_convert_latin1_to_utf8`, but keeps `dst` valid UTF-8 (see Texts).
 #[unsafe(no_mangle)]
 pub extern "C" fn jillapun_mem_convert_latin1_to_str(src: &[u8], dst: &mut [u8]) -> usize
     ensures converts { 2 * length src.now ≤ length dst.old

@@ -1,5 +1,5 @@
-//! Conversions of the longest prefix that fits. Each says how much was read and how much was
-//! written: the caller goes on with what is unread.
+//! Conversions of as much as fits. Each reports how much was read and written; continue with what
+//! is unread.
 
 ghost use Rattle.std.specs.Prelude.{length, take, encode_utf8_all};
 ghost use Rattle.std.specs.Str.{IsUtf8};
@@ -9,9 +9,9 @@ ghost use Rattle.jillapun_c.specs.Room.{IsPut, TextIsPut};
 
 use crate::mem::text_room::clear_rest;
 
-/// Converts the longest well-formed prefix of UTF-8 whose UTF-16 fits into `dst`. It ends before
-/// the first malformed sequence, if one comes before the room ends. `read` is in bytes, `written`
-/// in units. No more of `src` is looked at than three bytes for each unit of `dst`.
+/// Converts the longest prefix of `src` that is UTF-8 and fits into `dst` as UTF-16: it ends before
+/// the first malformed sequence at the latest. `read` is in bytes, `written` in code units. At most
+/// 3 bytes of `src` are examined for each code unit of `dst`.
 #[unsafe(no_mangle)]
 pub extern "C" fn jillapun_mem_convert_utf8_to_utf16_up_to_invalid(
     src: &[u8],
@@ -35,8 +35,9 @@ pub extern "C" fn jillapun_mem_convert_utf8_to_utf16_up_to_invalid(
     *written = units;
 }
 
-/// Converts the longest prefix of UTF-16 whose UTF-8 fits into `dst`. No pair is split; a
-/// surrogate in no pair of `src` becomes U+FFFD. `read` is in units, `written` in bytes.
+/// Converts the longest prefix of UTF-16 that fits into `dst` as UTF-8, with U+FFFD for each
+/// surrogate that is unpaired in `src`. It never ends within a surrogate pair. `read` is in code
+/// units, `written` in bytes.
 #[unsafe(no_mangle)]
 pub extern "C" fn jillapun_mem_convert_utf16_to_utf8_partial(
     src: &[u16],
@@ -54,7 +55,7 @@ pub extern "C" fn jillapun_mem_convert_utf16_to_utf8_partial(
     *written = bytes;
 }
 
-/// Converts the longest prefix of Latin1 whose UTF-8 fits into `dst`. `read` and `written` are in
+/// Converts the longest prefix of Latin1 that fits into `dst` as UTF-8. `read` and `written` are in
 /// bytes.
 #[unsafe(no_mangle)]
 pub extern "C" fn jillapun_mem_convert_latin1_to_utf8_partial(
@@ -74,10 +75,7 @@ pub extern "C" fn jillapun_mem_convert_latin1_to_utf8_partial(
     *written = more;
 }
 
-/// Converts the longest prefix of UTF-16 whose UTF-8 fits into a text. No pair is split; a
-/// surrogate in no pair of `src` becomes U+FFFD. `read` is in units, `written` in bytes. What
-/// becomes of the bytes behind those is as with `jillapun_mem_convert_utf16_to_str`: what was UTF-8
-/// stays UTF-8.
+/// Like `jillapun_mem_convert_utf16_to_utf8_partial`, but keeps `dst` valid UTF-8 (see Texts).
 #[unsafe(no_mangle)]
 pub extern "C" fn jillapun_mem_convert_utf16_to_str_partial(
     src: &[u16],
@@ -95,9 +93,7 @@ pub extern "C" fn jillapun_mem_convert_utf16_to_str_partial(
     *written = len;
 }
 
-/// Converts the longest prefix of Latin1 whose UTF-8 fits into a text. `read` and `written` are in
-/// bytes. What becomes of the bytes behind those is as with `jillapun_mem_convert_latin1_to_str`:
-/// what was UTF-8 stays UTF-8.
+/// Like `jillapun_mem_convert_latin1_to_utf8_partial`, but keeps `dst` valid UTF-8 (see Texts).
 #[unsafe(no_mangle)]
 pub extern "C" fn jillapun_mem_convert_latin1_to_str_partial(
     src: &[u8],

@@ -1,4 +1,4 @@
-//! UTF-16: whether it is well-formed, and conversions to UTF-8.
+//! UTF-16: validity, and conversions to UTF-8.
 
 ghost use Rattle.std.specs.Prelude.{◌*◌, ◌<◌, ◌≤◌, length};
 ghost use Rattle.encoding_mem.specs.Conversions.{units_in_utf8};
@@ -8,8 +8,8 @@ ghost use Rattle.jillapun_c.specs.Room.{IsPut, TextIsPut, WantsRoom};
 
 use crate::mem::text_room::clear_rest;
 
-/// The length in units of the longest prefix that is well-formed UTF-16: it ends before the first
-/// surrogate in no pair.
+/// Returns the length in code units of the longest prefix that is valid UTF-16: it ends before the
+/// first unpaired surrogate.
 #[unsafe(no_mangle)]
 pub extern "C" fn jillapun_mem_utf16_valid_up_to(buffer: &[u16]) -> usize
     ensures { IsLongestPrefix IsUtf16 buffer.now result }
@@ -17,7 +17,7 @@ pub extern "C" fn jillapun_mem_utf16_valid_up_to(buffer: &[u16]) -> usize
     encoding_mem::utf16_valid_up_to(buffer)
 }
 
-/// Puts U+FFFD in place of each surrogate in no pair, and leaves all other units as they are.
+/// Replaces each unpaired surrogate with U+FFFD, in place.
 #[unsafe(no_mangle)]
 pub extern "C" fn jillapun_mem_ensure_utf16_validity(buffer: &mut [u16])
     ensures mended { IsMended buffer.old buffer.new }
@@ -26,9 +26,8 @@ pub extern "C" fn jillapun_mem_ensure_utf16_validity(buffer: &mut [u16])
     encoding_mem::ensure_utf16_validity(buffer);
 }
 
-/// Converts UTF-16 to UTF-8 at the start of `dst`, with U+FFFD for each surrogate in no pair, and
-/// returns how many bytes were written. Room: three bytes for each unit of `src`; if `dst` is
-/// shorter, nothing is written and that number is returned.
+/// Converts UTF-16 to UTF-8, with U+FFFD for each unpaired surrogate, and returns the number of
+/// bytes written. Required `dst_len`: 3 times `src_len`.
 #[unsafe(no_mangle)]
 pub extern "C" fn jillapun_mem_convert_utf16_to_utf8(src: &[u16], dst: &mut [u8]) -> usize
     ensures converts { 3 * length src.now ≤ length dst.old
@@ -42,12 +41,7 @@ pub extern "C" fn jillapun_mem_convert_utf16_to_utf8(src: &[u16], dst: &mut [u8]
     encoding_mem::convert_utf16_to_utf8(src, dst)
 }
 
-/// Converts UTF-16 to UTF-8 at the start of a text, with U+FFFD for each surrogate in no pair, and
-/// returns how many bytes were written. If a character of `dst` is overwritten in part, its other
-/// bytes become 00, so what was UTF-8 is UTF-8 after the call. Of what stands behind the bytes that
-/// were written the call looks at three, and it changes those at their start that go on with a
-/// character (80 to BF), whether or not `dst` was UTF-8. Room: three bytes for each unit of `src`;
-/// if `dst` is shorter, nothing is written and that number is returned.
+/// Like `jillapun_mem_convert_utf16_to_utf8`, but keeps `dst` valid UTF-8 (see Texts).
 #[unsafe(no_mangle)]
 pub extern "C" fn jillapun_mem_convert_utf16_to_str(src: &[u16], dst: &mut [u8]) -> usize
     ensures converts { 3 * length src.now ≤ length dst.old

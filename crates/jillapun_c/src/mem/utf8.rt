@@ -1,4 +1,4 @@
-//! UTF-8: how far it is well-formed, and conversions to UTF-16.
+//! UTF-8: validity, and conversions to UTF-16.
 
 ghost use Rattle.std.specs.Prelude.{◌≡◌, ◌↔◌, ◌+◌, ◌<◌, ◌≤◌, IsTrue, length};
 ghost use Rattle.std.specs.Str.{IsUtf8};
@@ -11,8 +11,8 @@ ghost use Rattle.jillapun_c.specs.Room.{IsPut, WantsRoom};
 
 use crate::status::REFUSED;
 
-/// The length in bytes of the longest prefix that is well-formed UTF-8 (RFC 3629): it ends before
-/// the first byte of the first malformed sequence.
+/// Returns the length in bytes of the longest prefix that is valid UTF-8 (RFC 3629): it ends before
+/// the first malformed sequence.
 #[unsafe(no_mangle)]
 pub extern "C" fn jillapun_utf8_valid_up_to(buffer: &[u8]) -> usize
     ensures { IsLongestPrefix IsUtf8 buffer.now result }
@@ -27,9 +27,8 @@ pub(crate) fn is_text(bytes: &[u8]) -> bool
     encoding_mem::utf8_valid_up_to(bytes) == bytes.len()
 }
 
-/// Converts UTF-8 to UTF-16 at the start of `dst`, with U+FFFD for each malformed sequence, and
-/// returns how many units were written. Room: one unit more than `src` has bytes; if `dst` is
-/// shorter, nothing is written and that number is returned.
+/// Converts UTF-8 to UTF-16, with U+FFFD for each malformed sequence, and returns the number of
+/// code units written. Required `dst_len`: `src_len` + 1.
 #[unsafe(no_mangle)]
 pub extern "C" fn jillapun_mem_convert_utf8_to_utf16(src: &[u8], dst: &mut [u16]) -> usize
     ensures converts { length src.now < length dst.old
@@ -43,10 +42,9 @@ pub extern "C" fn jillapun_mem_convert_utf8_to_utf16(src: &[u8], dst: &mut [u16]
     encoding_mem::convert_utf8_to_utf16(src, dst)
 }
 
-/// Converts UTF-8 to UTF-16 at the start of `dst`, and returns how many units were written. Room:
-/// as many units as `src` has bytes; if `dst` is shorter, nothing is written and that number is
-/// returned. If there is room, but `src` is not well-formed, `SIZE_MAX` is returned, and `dst`
-/// begins with the text before the first malformed sequence.
+/// Converts UTF-8 to UTF-16, and returns the number of code units written. If `src` is not UTF-8,
+/// returns `SIZE_MAX`, and `dst` begins with the text before the first malformed sequence. Required
+/// `dst_len`, which is checked first: `src_len`.
 #[unsafe(no_mangle)]
 pub extern "C" fn jillapun_mem_convert_utf8_to_utf16_without_replacement(
     src: &[u8],
@@ -71,8 +69,8 @@ pub extern "C" fn jillapun_mem_convert_utf8_to_utf16_without_replacement(
     }
 }
 
-/// What `jillapun_mem_convert_utf8_to_utf16_without_replacement` does and returns. The bytes are
-/// tested: none are undefined here.
+/// The same as `jillapun_mem_convert_utf8_to_utf16_without_replacement`: the bytes need not be
+/// UTF-8.
 #[unsafe(no_mangle)]
 pub extern "C" fn jillapun_mem_convert_str_to_utf16(src: &[u8], dst: &mut [u16]) -> usize
     ensures counts { IsUtf8 src.now → length src.now ≤ length dst.old
