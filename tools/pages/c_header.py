@@ -339,6 +339,8 @@ class Header:
             for said, name, it in struct.fields:
                 lines += comment(said, "    ") + ["    %s;" % self.member(name, re.sub(r"&'\w+ ", "&", it))]
             if struct.is_handle:
+                if struct.source not in EXAMPLES:
+                    raise DoesNotCross("the handle `%s` has no example" % struct.source)
                 struct.said += EXAMPLES[struct.source].split("\n") + ["", "It takes %d bytes." % self.layout(struct)[0]]
             self.declared.append((struct, [*comment(struct.said), "typedef struct {", *lines, "} %s;" % struct.name]))
         return struct.name
