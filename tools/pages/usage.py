@@ -90,9 +90,8 @@ def roff(text):
 
 
 def man_item(words, text):
-    """An item of the man page. A message keeps its first letter."""
-    begins = text[1:] if text.startswith('"') else text[0].upper() + text[1:]
-    return [".TP", words, roff(begins.replace('"', "") + ".")]
+    """An item of the man page."""
+    return [".TP", words, roff(text[0].upper() + text[1:] + ".")]
 
 
 def man_synopsis(usage):
@@ -119,9 +118,9 @@ def man_title(usage):
 def man_options(usage):
     lines = []
     for name, value, default, text in usage.options:
-        said = text + (", `%s` by default" % default).replace("`", "") * bool(default) + "."
+        said = text + " (default: %s)" % default * bool(default) + "."
         for word, meaning in usage.list_of("(" + name + ")"):
-            said += " With %s %s." % (word, meaning) if name == "--unmappable" else " %s: %s." % (word, meaning)
+            said += " %s: %s." % (word, meaning)
         if usage.labels(name):
             said += " " + usage.labels(name) + "."
         lines += [".TP", ('.BI %s " %s"' if value else ".B %s%s") % (roff(name), value), roff(said)]
@@ -133,6 +132,10 @@ def man_list(usage, title):
     return [line for word, said in usage.list_of(title) for line in man_item(".B " + roff(word), said)]
 
 
+def man_statuses(usage):
+    return man_list(usage, "Exit status") + [".PP", roff(usage.behind("Exit status"))]
+
+
 def man_parts(usage):
     yield "title", man_title(usage)
     yield "synopsis", [*man_synopsis(usage)]
@@ -142,7 +145,7 @@ def man_parts(usage):
         word, _, rest = word.partition(" ")
         lines += man_item('.BI %s " %s"' % (word, rest), said)
     yield "log", lines + [".PP", roff(usage.behind("Log"))]
-    yield "statuses", man_list(usage, "Exit status")
+    yield "statuses", man_statuses(usage)
     yield "messages", man_list(usage, "Message") + [".PP", roff(usage.behind("Message"))]
     yield "names", [roff(usage.names())]
     files = usage.notes["Index files"]
@@ -155,10 +158,10 @@ def places_parts(usage):
     yield "use", [roff(usage.notes["Use"])]
     yield "options", man_options(usage)
     yield "output", man_list(usage, "Output") + [".PP", roff(usage.behind("Output"))]
-    yield "words", man_list(usage, "Words of what is lost")
+    yield "losses", man_list(usage, "Kinds of loss")
     log = usage.notes["Log"]
     yield "log", [roff(log[0].upper() + log[1:])]
-    yield "statuses", man_list(usage, "Exit status")
+    yield "statuses", man_statuses(usage)
     yield "messages", man_list(usage, "Message")
 
 

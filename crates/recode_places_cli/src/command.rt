@@ -5,62 +5,75 @@ use recode_words::VERSION;
 use std::alloc::{AllocError, Global};
 
 const ABOUT: &str =
-    "Tells where in a file each thing stands that recode lost, from its log on standard input";
+    "Show the line and column of each loss in a log of recode, which is read from standard input";
 
 // The log is standard input, which clap's own line does not say.
 const USAGE: &str = "recode-places [OPTIONS] --from <LABEL> --to <LABEL> <INPUT> < LOG";
 
 const AFTER_HELP: &str =
-    "Use: \"recode-places --from utf-8 --to windows-1252 old.csv < log\" tells what was lost by
-\"recode --from utf-8 --to windows-1252 < old.csv > new.csv 2> log\". INPUT is read once more: it
-must be the file that was converted, still as it was, and not a pipe. --from, --to, --mark and
---indexes are as in that run; \"recode --help\" says what they take.
+    "Use: \"recode-places --from utf-8 --to windows-1252 old.csv < log\" shows what was lost by
+\"recode --from utf-8 --to windows-1252 < old.csv > new.csv 2> log\". INPUT is read again: it must
+be the file that was converted, unchanged, and not a pipe. Give --from, --to, --mark and --indexes
+as in that run; \"recode --help\" explains them.
 
 Output, on standard output, three lines for each place:
-  FILE:LINE:COLUMN: WORDS  where it is, and what is lost there
-  LINE | TEXT              the line around it: at most 48 characters before it, 24 from it on
-  | ^                      which part of the text it is
+  FILE:LINE:COLUMN: LOSS  where it is, and what is lost there
+  LINE | TEXT             the line around it: at most 48 characters before it, 24 from it on
+  | ^                     carets under what is lost
 If not all places are shown, a last line says how many there are. Lines and columns count from 1,
-and a line ends with U+000A. A column counts characters, and a malformed sequence as one. Editors
-may count columns otherwise, as vim counts bytes, but not lines: \"vim +LINE FILE\". In the text a
-tab is shown as one space, a malformed byte as <FF>, and a control, or a character that can't be
-seen or turns the direction of the text, by its number, as <U+202E>.
+and a line ends with U+000A. A column counts characters, and an invalid sequence as one. Some
+editors count columns differently (vim counts bytes), but lines alike: \"vim +LINE FILE\". In TEXT,
+a tab is shown as one space, an invalid byte as <FF>, and a control character, or one that is
+invisible or changes the direction of the text, by its number, such as <U+202E>.
 
-Words of what is lost:
-  has no bytes in ENCODING                         recode wrote a reference, as &#26085;
-  in no character of ENCODING                      recode wrote U+FFFD, or a reference to it
-  is written as U+N in ENCODING                    its bytes read back as that character
-  is written as bytes of another text in ENCODING  its bytes read back as no single character
+Kinds of loss:
+  has no bytes in ENCODING                         unmappable character: recode wrote a numeric
+                                                   character reference, such as &#26085;
+  in no character of ENCODING                      invalid sequence: recode wrote U+FFFD, or a
+                                                   numeric character reference to it
+  is written as U+N in ENCODING                    one-way mapping: its bytes read back as that
+                                                   character
+  is written as bytes of another text in ENCODING  one-way mapping: its bytes do not read back as a
+                                                   single character
 
-Log: each line is told, but a line \"lost\" after the line \"bad\" of the same place, which is of
-the U+FFFD there, is not told again. A part of the log serves as well, as grep or head leaves it.
-A line that is cut short ends it. So does a message of recode (a line that begins with
-\"recode: \" or \"error:\"): recode-places copies it to standard error and exits with 4. With
---no-log no log is read, and what recode would log is told. Characters that are written as others
-have no line in the log: if recode had status 1 and its log is empty, --folds shows them.
+Log: each line is reported, except that a line \"bad\" and the line \"lost\" for its U+FFFD are
+reported as one. Part of a log works, too, such as the output of grep or head. An incomplete last
+line is ignored. A message of recode (a line that begins with \"recode: \" or \"error:\") ends the
+log: recode-places copies it to standard error and exits with status 4. With --no-log, recode-places
+reads no log and reports what recode would log. One-way mappings are not in the log: if recode had
+status 1 and its log is empty, --folds shows them.
 
 Exit status:
-  0  there was nothing to tell; or help or version was asked for, whether or not it could be
+  0  there was nothing to report. Also after --help and --version, even if the text could not be
      written
-  1  at least one place was told, or counted
-  2  the command line was refused
-  3  the input or an index file is missing, or an index file is faulty, or memory was refused at
-     the start
-  4  a read or a write failed, memory was refused, the input is too long, a line of the log is not
-     of this input, read with these encodings, or the log ends in a message of recode; the places
-     that were told before are right
+  1  at least one place was reported or counted
+  2  the arguments are invalid
+  3  INPUT or an index file is missing, an index file is invalid, or memory ran out at the start
+  4  a read or a write failed, memory ran out, the input is too long, a line of the log does not
+     match this input in these encodings, or the log ends with a message of recode; the places
+     reported before that are correct
+Status 0 does not say that --from is right, and without --folds it says nothing about one-way
+mappings.
 
-Message, at the end of standard error:
-  2  lines from \"error:\" on; \"recode-places: unknown label WORD\";
-     \"recode-places: a word is not UTF-8\"
-  3  \"recode-places: INPUT: missing\", also if it can't be opened;
-     \"recode-places: FILE: missing\", \"recode-places: FILE: line N: KIND\" and
-     \"recode-places: FILE: table: KIND\" of an index file, as those of recode;
-     \"recode-places: out of memory\"
-  4  the message of recode that ends the log; \"recode-places: read fault\";
-     \"recode-places: log: read fault\"; \"recode-places: write fault\";
-     \"recode-places: out of memory\"; \"recode-places: input too long\";
-     \"recode-places: line N of the log is not of this input\"";
+Messages, at the end of standard error:
+  error: TEXT                                            status 2: the arguments are invalid; more
+                                                         lines follow
+  recode-places: unknown label WORD                      status 2: no encoding has this label;
+                                                         \"recode --list\" prints all labels
+  recode-places: a word is not UTF-8                     status 2: an argument is not valid UTF-8
+  recode-places: INPUT: missing                          status 3: INPUT can't be opened
+  recode-places: FILE: missing                           status 3: as for recode; set --indexes
+  recode-places: FILE: line N: KIND                      status 3: as for recode
+  recode-places: FILE: table: KIND                       status 3: as for recode
+  recode-places: out of memory                           status 3 at the start, 4 later
+  recode: TEXT or error: TEXT                            status 4: copied from the end of the log
+  recode-places: read fault                              status 4: reading INPUT failed
+  recode-places: log: read fault                         status 4: reading standard input failed
+  recode-places: write fault                             status 4: writing to standard output failed
+  recode-places: input too long                          status 4: INPUT has more than 2^48 bytes
+  recode-places: line N of the log is not of this input  status 4: INPUT or an option is not that of
+                                                         the run, or the line is damaged or out of
+                                                         order";
 
 // `--name VALUE`, which has to be there.
 fn required_option<'a>(
@@ -106,7 +119,7 @@ fn input<'a>(alloc: Global) -> Arg<'a> {
     Arg::new(alloc, "INPUT")
         .action(ArgAction::Set)
         .required(true)
-        .help("File that was converted")
+        .help("File that recode converted")
 }
 
 // The command line of the program.
@@ -130,17 +143,17 @@ pub(crate) fn command<'a>(alloc: Global) -> Result<Command<'a>, AllocError> {
         .arg(flag(
             alloc,
             "folds",
-            "Tell also each character that is written as another one",
+            "Also report one-way mappings: characters that read back as others",
         ))?
         .arg(flag(
             alloc,
             "no-log",
-            "Read no log, and tell what recode would lose",
+            "Do not read a log; report what recode would log",
         ))?
-        .arg(default_option(alloc, "most", "20", "N", "Most places that are shown"))?
+        .arg(default_option(alloc, "most", "20", "N", "Show at most N places"))?
         .arg(flag(
             alloc,
             "count",
-            "Tell what is lost and how often, and not where",
+            "Report what is lost and how often, but not where",
         ))
 }

@@ -12,75 +12,91 @@ use std::alloc::{AllocError, Global};
 pub const VERSION: &str = "0.1.0";
 
 const ABOUT: &str =
-    "Converts standard input to another encoding on standard output, and logs what is lost";
+    "Convert standard input to another encoding on standard output, and log what is lost";
 
 // Input and output are the standard streams, which clap's own line does not say.
 const USAGE: &str = "recode [OPTIONS] --from <LABEL> --to <LABEL> < INPUT > OUTPUT";
 
 const AFTER_HELP: &str =
-    "Labels: LABEL is any of the Encoding Standard's, in upper or lower case, as utf-8, shift_jis or
-windows-1252. UTF-16 and replacement are written as UTF-8.
+    "Labels: LABEL is any label of the Encoding Standard, in upper or lower case, such as utf-8,
+shift_jis or windows-1252. UTF-16 and replacement are written as UTF-8.
 
-Names: a label means what the standard says, so iso-8859-1 and ascii are windows-1252. What iconv
-calls CP932, CP936, CP949 and CP950 is shift_jis, gbk, euc-kr and big5. hz-gb-2312, iso-2022-cn and
-iso-2022-kr are replacement: any input but an empty one gives one U+FFFD. The encoding of the input
-is never guessed, and status 0 does not say that --from was right: in windows-1252 any bytes are
-text. An input is UTF-8 if \"recode --from utf-8 --to utf-8 --mark keep\" has status 0.
+Names: a label means what the standard says: iso-8859-1 and ascii are windows-1252. For iconv's
+CP932, CP936, CP949 and CP950, use shift_jis, gbk, euc-kr and big5. hz-gb-2312, iso-2022-cn and
+iso-2022-kr are replacement, which decodes any non-empty input to one U+FFFD. recode never guesses
+the encoding of the input. A file is UTF-8 if \"recode --from utf-8 --to utf-8 --mark keep\" exits
+with status 0.
 
-Index files: most encodings need one or two files index-NAME.txt, which are not built in. The
-program's repository has them in its folder \"indexes\", which its \"make install\" copies to
-PREFIX/share/recode/indexes; the standard's own are at
-https://encoding.spec.whatwg.org/index-NAME.txt.
+Index files: most encodings need one or two index files, index-NAME.txt, which are not built in.
+They are in the folder \"indexes\" of the source repository, and at
+https://encoding.spec.whatwg.org/index-NAME.txt. \"make install\" copies them to
+PREFIX/share/recode/indexes; the command that it installs uses that folder unless --indexes names
+another.
 
-Byte order mark at the start of the input (--mark):
-  sniff   a mark of UTF-8, UTF-16LE or UTF-16BE names the encoding, whatever --from says, and is
-          left out
-  remove  a mark of the encoding of --from is left out
-  keep    a mark is text: U+FEFF
+Byte order mark (BOM) at the start of the input (--mark):
+  sniff   a BOM of UTF-8, UTF-16LE or UTF-16BE overrides --from, and is removed
+  remove  a BOM of the encoding of --from is removed
+  keep    a BOM is kept as text: U+FEFF if --from is its encoding
 
-Character without bytes in the output's encoding (--unmappable):
-  decimal      the reference &#N; is written in its place, as &#26085;
-  hexadecimal  the reference &#xN; is written in its place, as &#x65E5;
-  stop         the first one ends the conversion, after its line of the log
+Unmappable characters, those that the output encoding lacks (--unmappable):
+  decimal      write the numeric character reference &#N;, such as &#26085;
+  hexadecimal  write the numeric character reference &#xN;, such as &#x65E5;
+  stop         log the first one, then stop with status 4
 
-Log, on standard error, a line for each malformed sequence and each character without bytes:
-  bad OFFSET LENGTH  these bytes of the input stand for no character; the text has U+FFFD in their
-                     place. UTF-8 and gb18030 have bytes for it; if the output is in another
-                     encoding, a line \"lost\" follows
-  lost INDEX SCALAR  the character with this index in the text, and with this number, has no bytes
-                     in the output's encoding; SCALAR is 65533 for U+000E, U+000F and U+001B to
-                     ISO-2022-JP
-The lines stand in the order of the text. Numbers are decimal. OFFSET counts bytes from the start of
-the input, a byte order mark among them; INDEX counts characters from 0. \"recode-places\" shows the
-line and column of each.
+Log, on standard error, a line for each invalid sequence and each unmappable character:
+  bad OFFSET LENGTH  LENGTH invalid bytes at offset OFFSET of the input, decoded to one U+FFFD. Only
+                     UTF-8 and gb18030 can encode U+FFFD: with another output encoding a line
+                     \"lost\" follows
+  lost INDEX SCALAR  the character at INDEX of the decoded text, whose code point is SCALAR, is
+                     unmappable; to ISO-2022-JP, SCALAR is 65533 for U+000E, U+000F and U+001B
+The lines are in the order of the text. Numbers are decimal. OFFSET counts bytes from the start of
+the input, including a BOM. INDEX counts characters of the text, from 0. \"recode-places\" shows the
+line and column of each loss.
 
 Exit status:
-  0  all was converted, and nothing was lost: no byte sequence was malformed, and the output reads
-     back as the text of the input; or help, version or list was asked for, whether or not it
-     could be written
-  1  all was converted, and something was lost. The log says what, except for a character that
-     was written as another, which has no line: Shift_JIS writes U+00A5 as the byte 5C.
-     Shift_JIS, EUC-JP, ISO-2022-JP, gb18030 and GBK have such characters, and
-     \"recode-places --folds\" shows where they stand
-  2  the command line was refused
-  3  an index file is missing or faulty, or memory was refused at the start
-  4  reading the input, or writing the output or the log, failed; the input is longer than the
-     limit; or with --unmappable stop a character has no bytes in the output's encoding
+  0  all was converted, and nothing was lost: the input has no invalid sequence, and the output
+     reads back as the text of the input. Also after --help, --version and --list, even if the text
+     could not be written
+  1  all was converted, and something was lost. The log lists it, except for one-way mappings:
+     characters that read back as others, such as U+00A5, which Shift_JIS writes as the byte 5C.
+     Shift_JIS, EUC-JP, ISO-2022-JP, gb18030 and GBK have one-way mappings;
+     \"recode-places --folds\" shows where they occur
+  2  the arguments are invalid, or standard output is the input file
+  3  an index file is missing or invalid, or memory ran out at the start
+  4  reading the input, or writing the output or the log, failed; the input is longer than --limit;
+     or --unmappable stop found an unmappable character
+Status 0 has two limits. It does not say that --from is right: in windows-1252, for example, any
+bytes are valid. \"jillapun which FILE\" shows in which encodings a file is valid. And the output is
+read back with byte order marks kept: text that begins with U+00EF U+00BB U+00BF converts to
+windows-1252 with status 0, although a reader that sniffs takes these bytes, EF BB BF, for the BOM
+of UTF-8.
 
-Message, at the end of standard error:
-  2  lines from \"error:\" on; \"recode: unknown label WORD\", with each control character in WORD
-     by its number, as <U+001B>; \"recode: a word is not UTF-8\"; \"recode: standard output is the
-     input file\"
-  3  \"recode: FILE: missing\" in the folder that --indexes names, the current one by default, also
-     if it can't be read or has more than 2^24 bytes;
-     \"recode: FILE: line N: KIND\" with Row, Order or Pointer; \"recode: FILE: table: KIND\" with
-     Entry, Reserved or Ranges; \"recode: out of memory\"
-  4  \"recode: read fault\"; \"recode: write fault\"; \"recode: log fault\";
-     \"recode: input too long\"; \"recode: unmappable INDEX SCALAR\", with the numbers of its line
-     in the log
-After these messages a second line \"recode: REASON\" explains an unknown label by its option, a
-missing index file by its path and the error of the system, and a read, write or log fault by its
-stream and the error of the system. A pipe whose reader has ended has no second line.";
+Messages, at the end of standard error:
+  error: TEXT                                status 2: the arguments are invalid; more lines follow
+  recode: unknown label WORD                 status 2: no encoding has this label; \"recode --list\"
+                                             prints all labels. A control character in WORD is shown
+                                             by its number, such as <U+001B>
+  recode: a word is not UTF-8                status 2: an argument is not valid UTF-8
+  recode: standard output is the input file  status 2: write to another file
+  recode: FILE: missing                      status 3: the index file is not in the folder
+                                             of --indexes (by default the current one), can't be
+                                             read or has more than 2^24 bytes; set --indexes
+  recode: FILE: line N: KIND                 status 3: the index file is invalid at this line: not a
+                                             row (Row), a pointer out of order (Order) or out of
+                                             range (Pointer); use the standard's file
+  recode: FILE: table: KIND                  status 3: the index has an invalid entry (Entry), one
+                                             at a pointer that Shift_JIS reserves (Reserved) or
+                                             invalid ranges (Ranges); use the standard's file
+  recode: out of memory                      status 3: memory ran out at the start
+  recode: read fault                         status 4: reading standard input failed
+  recode: write fault                        status 4: writing to standard output failed
+  recode: log fault                          status 4: writing to standard error failed
+  recode: input too long                     status 4: the input has more than --limit bytes
+  recode: unmappable INDEX SCALAR            status 4: with --unmappable stop, the character of the
+                                             last line \"lost\", which has the same numbers
+A second line, \"recode: REASON\", follows an unknown label (with its option), a missing index file
+(with its path and the cause), and a read, write or log fault (with the stream and the error of the
+system), but not a broken pipe.";
 
 // `--name VALUE`, which has to be there.
 fn required_option<'a>(alloc: Global, name: &'a str, value_name: &'a str, help: &'a str) -> Arg<'a>
@@ -157,21 +173,21 @@ pub(crate) fn command<'a>(alloc: Global) -> Result<Command<'a>, AllocError>
             "unmappable",
             "decimal",
             "POLICY",
-            "Lost characters: decimal, hexadecimal or stop",
+            "Unmappable characters: decimal, hexadecimal or stop",
         ))?
         .arg(default_option(
             alloc,
             "pivot",
             "utf8",
             "FORM",
-            "Form in between: utf8 or utf16, with the same output",
+            "Intermediate form: utf8 or utf16, with the same output",
         ))?
         .arg(default_option(
             alloc,
             "limit",
             "281474976710656",
             "N",
-            "Most input bytes, 0 to the default",
+            "Input limit in bytes, 0 to the default",
         ))?
         .arg(list_flag(alloc))
 }
