@@ -30,6 +30,7 @@ RESULTS = [
     jillapun.Report(3, 0, 1, False, 2),
     DONE,
     jillapun.Reading(["UTF-8"], 1, ["a"]),
+    jillapun.Which(3, 1, [jillapun.Reading(["UTF-8"], 1, ["a"])], None),
     _places.Place(1, 2, b"\xff", "UTF-8"),
 ]
 # One of each exception that is not made of a text alone.
@@ -62,7 +63,7 @@ def work(text):
     return jillapun.encode(text, "windows-1252", unmappable="stop")
 
 def convert(path):
-    return jillapun.convert_file(path, path, "utf-8", "windows-1252")
+    return jillapun.convert_file(path, path, "utf-8", "windows-1252", in_place=True)
 
 def told(call, *words):
     try:
@@ -88,7 +89,9 @@ PATIENCE = 60
 
 class Results(unittest.TestCase):
     def test_results(self) -> None:
-        """They are equal, of the same kind, and can be printed."""
+        """They are equal, of the same kind, and can be printed. No public one is left out."""
+        public = {kind for kind in map(jillapun.__dict__.get, jillapun.__all__) if hasattr(kind, "_fields")}
+        self.assertLessEqual(public, set(map(type, RESULTS)))
         for result in RESULTS:
             for way in WAYS:
                 with self.subTest(result=result):
