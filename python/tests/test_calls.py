@@ -3,6 +3,7 @@
 import ast
 import ctypes
 import doctest
+import inspect
 import io
 import os
 import re
@@ -87,6 +88,16 @@ class Errors(unittest.TestCase):
             jillapun.encode("", "utf-8", unmappable="no")
         self.assertRaises(ValueError, jillapun.part_encoding, b"", "utf-8", "utf-8", mark="no")
         self.assertRaises(UnicodeEncodeError, jillapun.encode, "\ud800", "utf-8")
+
+    def test_types_of_words(self) -> None:
+        """Each public call names the values of its words to type checkers."""
+        types = {"mark": jillapun._library.Mark, "unmappable": jillapun._library.Unmappable}
+        texts = jillapun.decode, jillapun.encode, jillapun.convert, jillapun.convert_file, jillapun.part_encoding
+        streams = jillapun.open, jillapun.Reader, jillapun.Writer, jillapun.Decoder, jillapun.Encoder, jillapun.Converter
+        for call in texts + streams:
+            found = {name: word.annotation for name, word in inspect.signature(call).parameters.items() if name in types}
+            self.assertTrue(found, call)
+            self.assertEqual(found, {name: types[name] for name in found}, call)
 
     def test_keep_losses(self) -> None:
         """The losses are counted, and only the first are kept, as of files."""
