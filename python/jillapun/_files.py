@@ -352,8 +352,11 @@ def convert_with(
     is_one_path = os.fspath(source_path) == os.fspath(target_path)
     place = _Place(os.fspath(target_path), backup, os.O_RDWR if is_one_path or backup else os.O_WRONLY)
     with contextlib.closing(place), contextlib.ExitStack() as stack:
-        is_open = is_one_path and place.old is not None
-        given = stack.enter_context(open(place.descriptor if is_open else source_path, "rb", closefd=not is_open))
+        if is_one_path and place.old is None:
+            # A name that comes to be from now on could be a link to any file.
+            raise _refused(errno.ENOENT, place.path)
+        opened = place.descriptor if is_one_path else source_path
+        given = stack.enter_context(open(opened, "rb", closefd=not is_one_path))
         before = os.fstat(given.fileno())
         is_in_place = place.old is not None and os.path.samestat(place.old, before)
         if in_place and not is_in_place:

@@ -304,6 +304,24 @@ class InPlace(Folder):
             self.assertLessEqual(set(found), {"a", "b", "a~"})
             self.assertIn(GOOD if GOOD in found.values() else GOOD_MADE, found.values())
 
+    def test_a_link_that_comes_to_be(self) -> None:
+        """There was no file of the name at first: what the link leads to is not read."""
+        self.put("secret", GOOD)
+        stat_of = os.stat
+
+        def found(*words: object, **options: object) -> os.stat_result:
+            try:
+                return stat_of(*words, **options)
+            except FileNotFoundError:
+                os.symlink("secret", self.path)
+                raise
+
+        for options in ({"in_place": True}, {"backup": "~"}):
+            with mock.patch("os.stat", found):
+                self.assertRaises(FileNotFoundError, self.convert, self.path, **options)
+            os.unlink(self.path)
+        self.holds(secret=GOOD)
+
     def test_attributes(self) -> None:
         """Permissions and extended attributes stay, and the time is that of the change."""
         self.put("a", GOOD)
