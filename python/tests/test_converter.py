@@ -7,7 +7,6 @@ import os
 import random
 import runpy
 import socket
-import textwrap
 import threading
 import unittest
 from pathlib import Path
@@ -221,11 +220,6 @@ class Calls(unittest.TestCase):
 
 class Documents(unittest.TestCase):
     path = Path(cases.TOP, "docs/examples/python/convert_stream.py")
-
-    def test_the_page(self) -> None:
-        """It shows the function of the example."""
-        function = self.path.read_text(encoding="utf-8").split("\n\n\n")[1]
-        self.assertIn(textwrap.indent(function, "    "), Path(cases.TOP, "docs/PYTHON.md").read_text(encoding="utf-8"))
 
     def test_the_example(self) -> None:
         """Its answer to a client that sends a byte at a time."""

@@ -9,7 +9,7 @@ import tempfile
 import threading
 import unittest
 from pathlib import Path
-from typing import Dict
+from typing import Dict, List
 
 import cases
 import installed
@@ -30,14 +30,14 @@ PRICES, PAGE = "name;price\nGröße;3 €\n".encode("cp1252"), "<title>日本</t
 FIRST = "import sys; sys.path.append(%r)\n" % installed.DEBIAN
 
 
-def blocks() -> Dict[str, str]:
+def blocks() -> Dict[str, List[str]]:
     """The lines, by the package that the first or second of them imports."""
     text = Path(cases.TOP, "docs/PYTHON.md").read_text(encoding="utf-8")
-    found = {}
+    found: Dict[str, List[str]] = {}
     for block in re.findall(r"(?m)(?:^    .*\n)+", text):
         names = set(re.findall(r"\bimport (\w+)", block)) & set(AFTER)
         if len(names) == 1 and ">>>" not in block:
-            found[names.pop()] = re.sub("(?m)^    ", "", block)
+            found.setdefault(names.pop(), []).append(re.sub("(?m)^    ", "", block))
     return found
 
 
@@ -54,10 +54,14 @@ class Page(http.server.BaseHTTPRequestHandler):
 
 class Documents(unittest.TestCase):
     def ran(self, name: str) -> None:
-        """Runs the lines in a folder with the files that they read."""
+        """Runs each example with the package."""
         if name != "csv":
             installed.package(name)
-        lines = blocks()[name]
+        for lines in blocks()[name]:
+            self.example(name, lines)
+
+    def example(self, name: str, lines: str) -> None:
+        """Runs the lines in a folder with the files that they read."""
         self.assertEqual(len(lines.splitlines()), 3)
         with http.server.ThreadingHTTPServer(("127.0.0.1", 0), Page) as server, tempfile.TemporaryDirectory() as folder:
             threading.Thread(target=server.serve_forever, daemon=True).start()
@@ -73,7 +77,7 @@ class Documents(unittest.TestCase):
             ran = subprocess.run(command, env=environment, cwd=folder, check=False, **streams)
             server.shutdown()
             self.assertEqual((ran.returncode, ran.stdout), (0, wanted), ran.stderr)
-            if name == "pandas":
+            if "new.csv" in lines:
                 made = Path(folder, "new.csv").read_bytes()
                 self.assertEqual(made, ",name,price\n0,Gr&#246;&#223;e,3 &#8364;\n".encode("ascii"))
 
