@@ -1,4 +1,4 @@
-"""Text between bytes and characters in the encodings of the Encoding Standard, with exactly what is lost.
+"""Converts between bytes and text in the encodings of the Encoding Standard, and reports exactly what was lost.
 
     >>> import jillapun
     >>> jillapun.decode(b"A\\x83\\x6e\\xff", "shift_jis")
@@ -6,20 +6,20 @@
     >>> jillapun.convert("a¥b".encode(), "utf-8", "shift_jis")
     Converted(output=b'a\\\\b', losses=[], faithful=False)
 
-The second is what no count of losses shows: the yen sign is written as a byte that reads back as a backslash. The work
-is done by a library that is proved, `libjillapun.so`; this package needs nothing else but the standard library.
+The second call has no losses in its list and is not faithful: the yen sign is written as a byte that reads back as a
+backslash. The package calls the shared library `libjillapun.so`, and otherwise needs only Python's standard library.
 
-- `decode`, `encode`, `convert`: whole texts and inputs in memory.
-- `convert_file`: a file into another, or in its own place.
-- `open`, `Reader`, `Writer`: files of text. `Decoder`, `Encoder`, `Converter`: streams, chunk by chunk.
-- `register`: codecs for Python's own `open`, `bytes.decode` and all else that is handed a name of an encoding.
+- `decode`, `encode`, `convert`: texts and bytes in memory.
+- `convert_file`: a file into another, or in place.
+- `open`, `Reader`, `Writer`: text files. `Decoder`, `Encoder`, `Converter`: streams, chunk by chunk.
+- `register`: codecs for Python's own `open`, `bytes.decode` and everything else that takes the name of an encoding.
 - `which`: how each encoding reads an input, without a guess.
-- `Indexes`: other indexes of encodings than those of the library, from a folder. `name`, `output_name`: labels.
-- `part_encoding`: whether an input can be converted in parts, and as what. `join_losses`, `join_reports`: losses and
-  reports of the parts, as those of the whole.
+- `Indexes`: indexes other than those in the library, from a folder. `name`, `output_name`: labels.
+- `part_encoding`: whether an input can be converted in parts, and from which encoding. `join_losses`, `join_reports`:
+  the losses and reports of the parts as those of the whole.
 
-A label that no encoding has raises `UnknownLabel`, which is a `LookupError`. Calls from several threads at once are
-made at once: Python's lock is let go while the library works, unless it decodes or encodes at most 1 KiB.
+An unknown label raises `UnknownLabel`, which is a `LookupError`. Calls of several threads run in parallel: Python's lock
+is released while the library works, except in `decode` and `encode` of at most 1 KiB.
 """
 
 from ._files import AlreadyUtf8, convert_file
@@ -50,7 +50,7 @@ from ._which import Reading, Which, which
 
 
 def register() -> None:
-    """Gives the encodings to Python as codecs, under names that begin with `web-`: `open(path, encoding="web-shift_jis")`.
+    """Registers each encoding as a codec of Python, under its labels after `web-`: `open(path, encoding="web-shift_jis")`.
     See `jillapun.codecs`."""
     from . import codecs  # noqa: F401
 

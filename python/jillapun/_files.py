@@ -19,7 +19,7 @@ _UTF_8, _MARK = "UTF-8", b"\xef\xbb\xbf"
 
 
 class AlreadyUtf8(JillapunError):
-    """A file was to be replaced by its conversion to UTF-8, and is well-formed UTF-8 already. It is as it was."""
+    """The file is well-formed UTF-8 already and would be encoded twice. It stays as it was."""
 
 
 def _refused(number: int, path: str, words: Optional[str] = None) -> OSError:
@@ -399,30 +399,30 @@ def convert_file(
     threads: int = 1,
     progress: Optional[Callable[[int], object]] = None,
 ) -> ConvertedFile:
-    """Converts a file into another, which is there whole or not at all: the output is written beside its place, synced
-    to disk and then moved there. However long the file is, and whatever is lost, only a chunk of it is in memory.
+    """Converts a file into another, chunk by chunk. The target appears whole or not at all: the output is written to a
+    temporary file in its folder, synced to disk and then renamed.
 
-    A new file has the permissions of the source; what came from a pipe or a device only its owner can read. If there is
-    a file at `target_path`, the output replaces it and keeps its owner (if that can be set), its permissions and its
-    extended attributes. If `backup`, a suffix, is given, the replaced file is kept as the name with that suffix, which
-    no file may have yet. A symbolic link at `target_path` is refused.
+    A new file gets the permissions of the source; if that is a pipe or a device, only the owner can read it. A file at
+    `target_path` is replaced. The new one keeps its owner (if that can be set), permissions and extended attributes.
+    With `backup`, a suffix, the replaced file is kept under its name with that suffix, which must not exist yet. A
+    symbolic link at `target_path` is refused.
 
-    To convert a file in its own place, pass its path twice, and `in_place=True` or `backup`. It is replaced only if
-    nothing is lost, or with `lossy` or `backup`. Otherwise it stays as it was, and `NotReplaced` is raised, which has
-    the counts. A file that is well-formed UTF-8 beyond ASCII already is not converted to UTF-8 from another encoding,
-    which would encode it twice, unless `force` is given: `AlreadyUtf8` is raised. Other hard links of the file keep
-    what it was.
+    To convert a file in place, pass its path twice, and `in_place=True` or `backup`. It is replaced only if nothing is
+    lost, or with `lossy` or `backup`. Otherwise it stays as it was, and `NotReplaced` is raised, which has the counts. A
+    file that is well-formed UTF-8 already, and not all ASCII, is not converted from another encoding to UTF-8, which
+    would encode it twice: `AlreadyUtf8` is raised, unless `force` is given. Other hard links keep the old content.
 
-    Each loss, a `Bad` or a `Lost`, is counted and handed to `on_loss` as it comes, in the order of the text; the first
-    `keep_losses` of them are kept. `progress` is called after each chunk, with how many bytes have been read.
+    Each loss, a `Bad` or a `Lost`, is counted and passed to `on_loss` in the order of the text; the first `keep_losses`
+    are kept. `progress` is called after each chunk with the number of bytes read so far.
 
-    `threads` is how many threads convert at once, each a part of 2 MiB or more. Output, losses and result are those of
-    one. An input is one part if it is no regular file, if it is in UTF-16, ISO-2022-JP or replacement, or if the output
-    is in ISO-2022-JP.
+    With `threads`, several threads convert parts of 2 MiB or a little more. The output, the losses and the result are
+    the same; the losses of a part are passed to `on_loss` together, so if writing fails, it may have seen a few more. An
+    input is one part if it is not a regular file, if it is in UTF-16, ISO-2022-JP or replacement, or if the output is in
+    ISO-2022-JP.
 
-    Raises what `convert` does, `OSError`, what `on_loss` or `progress` raise, and `JillapunError` if source or target
-    change in the meantime. After an exception the target is as it was, unless it is an `OSError` that says that the
-    output is in its place. A `Stopped` has no output."""
+    Raises what `convert` raises, `OSError`, what `on_loss` or `progress` raise, and `JillapunError` if source or target
+    change in the meantime. After an exception the target is as it was, unless an `OSError` says that the output is in
+    its place. A `Stopped` has no output."""
     job = Job(source, target, mark, unmappable, c.limit_of(limit), indexes)
     return convert_with(
         Losses(keep_losses, on_loss), source_path, target_path, job, in_place=in_place, lossy=lossy, force=force,

@@ -9,7 +9,7 @@ class Bad(NamedTuple):
     """A malformed sequence of the input."""
 
     offset: int
-    """How many bytes of the input stand before it."""
+    """How many bytes of the input precede it."""
     length: int
     """How many bytes it has, 1 to 4."""
 
@@ -18,10 +18,10 @@ class Bad(NamedTuple):
 
 
 class Lost(NamedTuple):
-    """A character that the output encoding has no bytes for."""
+    """An unmappable character: the output encoding does not have it."""
 
     index: int  # type: ignore[assignment]
-    """How many characters of the text stand before it."""
+    """How many characters of the text precede it."""
     character: str
     """The character, or U+FFFD where ISO-2022-JP refuses a control."""
 
@@ -33,7 +33,7 @@ Loss = Union[Bad, Lost]
 
 
 class Decoded(NamedTuple):
-    """A text, and what was malformed in its bytes."""
+    """What `decode` returns."""
 
     text: str
     """The text, with U+FFFD for each malformed sequence."""
@@ -42,12 +42,12 @@ class Decoded(NamedTuple):
 
 
 class Encoded(NamedTuple):
-    """The bytes of a text, and what has none."""
+    """What `encode` returns."""
 
     data: bytes
     """The bytes, with a reference, as `&#26085;`, for each character that has none."""
     losses: List[Lost]
-    """The characters without bytes, in their order."""
+    """The unmappable characters, in their order."""
     faithful: bool
     """Whether the bytes, read again, are the text."""
 
@@ -69,15 +69,15 @@ class EncodedKept(NamedTuple):
     data: bytes
     """The bytes, with a reference, as `&#26085;`, for each character that has none."""
     kept_losses: List[Lost]
-    """The first characters without bytes, as many as the call was asked to keep."""
+    """The first unmappable characters, as many as the call was asked to keep."""
     lost: int
-    """How many characters have no bytes."""
+    """How many characters are unmappable."""
     faithful: bool
     """Whether the bytes, read again, are the text."""
 
 
 class Converted(NamedTuple):
-    """The output of a conversion, and what was lost."""
+    """What `convert` returns."""
 
     output: bytes
     """The bytes in the output encoding."""
@@ -89,29 +89,30 @@ class Converted(NamedTuple):
 
 
 class ConvertedPart(NamedTuple):
-    """What a part of a stream gives, and what was lost in it."""
+    """What a call of a `Converter` returns."""
 
     output: bytes
-    """The bytes in the output encoding that the part decides; what is undecided waits for more."""
+    """The output for the input so far, without what earlier calls returned; an incomplete character waits for more."""
     losses: List[Loss]
     """What was malformed, and which characters have no bytes, in their order. Offsets and indexes count from the start
     of the stream."""
 
 
 class Report(NamedTuple):
-    """What is reported of a stream that was converted to its end. `Report()` is that of no bytes."""
+    """The counts and the verdict of a whole conversion. `Report()` is that of an empty input."""
 
     read: int = 0
     """How many bytes were read."""
     bad: int = 0
     """How many sequences of the input were malformed."""
     lost: int = 0
-    """How many characters have no bytes in the output encoding."""
+    """How many characters are unmappable."""
     faithful: bool = True
     """Whether nothing was malformed, and the output, read again, is the text of the input. It can be false where both
     counts are 0: some encodings write a character as bytes that read back as another."""
     characters: int = 0
-    """How many characters the text has, with U+FFFD for each malformed sequence, and without a mark that was taken."""
+    """How many characters the text has, with U+FFFD for each malformed sequence, without a byte order mark that was
+    removed."""
 
     @property
     def summary(self) -> str:
@@ -123,14 +124,14 @@ class Report(NamedTuple):
 
 
 class ConvertedFile(NamedTuple):
-    """What is reported of a file that was converted: the members of its `Report`, and what was kept of its losses."""
+    """What `convert_file` returns: the members of a `Report`, and the losses that were kept."""
 
     read: int
     bad: int
     lost: int
     faithful: bool
     kept_losses: List[Loss]
-    """The first of what was malformed or has no bytes, in their order: as many as the call was asked to keep."""
+    """The first losses, in their order: as many as the call was asked to keep."""
     characters: int
 
     @property
@@ -159,24 +160,24 @@ class TooLong(JillapunError):
 
 
 class Stopped(JillapunError):
-    """The policy is `stop`, and a character has no bytes in the output encoding."""
+    """With `unmappable="stop"`: a character is unmappable."""
 
     def __init__(self, lost: Lost, output: bytes = b"", losses: List[Loss] = []):
         super().__init__("no bytes for U+%04X, before which %d characters stand" % (ord(lost.character), lost.index))
         self.lost = lost
         """The character."""
         self.output = output
-        """What was written before it, of a stream by the last call; empty where a file is converted."""
+        """The output before it; of a stream, that of the last call; of `convert_file`, empty."""
         self.losses = list(losses)
-        """What was lost up to it, with it: of a `Converter` in the last call, of other streams and of a file what was
-        kept of that, and it."""
+        """The losses up to and including it: of a `Converter`, those of the last call; of other streams and of files,
+        those that were kept, and it."""
 
     def __reduce__(self) -> Tuple[Any, ...]:
         return type(self), (self.lost, self.output, self.losses), self.__dict__
 
 
 class NotReplaced(JillapunError):
-    """A file was to be replaced by its own conversion, which would have lost something. It is as it was."""
+    """Converting the file in place would lose something. It stays as it was."""
 
     def __init__(self, done: ConvertedFile):
         remedy = "lossy=True replaces it all the same, and backup=SUFFIX keeps the original"

@@ -6,14 +6,21 @@
     >>> b"A\\xff".decode("web-shift_jis", "backslashreplace")
     'A\\\\xff'
 
-To import this module registers them, as `jillapun.register()` does. After it `open(path, encoding="web-gb18030")`, `csv`,
-`pandas` and all else that hands a name of an encoding to Python has them, with Python's handlers of errors.
+Importing this module registers them, as `jillapun.register()` does. Then `open(path, encoding="web-gb18030")`, `csv`,
+`pandas` and everything else that takes the name of an encoding can use them, with Python's error handlers. Each process
+has to register them, also each worker of a cluster.
 
-- A byte order mark of the encoding itself is left out at the start of an input, as `jillapun.decode` does; no mark is written.
-- Each malformed sequence of the Encoding Standard is an error of its own, and so is each character without bytes.
-- UTF-16BE, UTF-16LE and replacement, which the standard has no encoders for, only decode.
-- What is still open when a text in ISO-2022-JP ends is the caller's to close: the last call of an incremental encoder has
-  `final=True`, as with Python's own codec. `open` makes no such call; a line feed closes it, too.
+- A byte order mark of the encoding itself is skipped at the start of an input, as by `jillapun.decode`; none is written.
+- Each malformed sequence of the Encoding Standard is one error, and so is each unmappable character. An input that ends
+  within a character is malformed, also in the readers of `codecs.open`, where Python's own codecs are silent.
+- All error handlers work but `surrogatepass`, which knows only Python's own codecs.
+- UTF-16BE, UTF-16LE and replacement only decode, since the standard has no encoders for them. Encoding is a `LookupError`.
+- `tell`, `seek`, `getstate` and `setstate` work: the state is the few undecided bytes, and the mode of ISO-2022-JP.
+- The end of a text in ISO-2022-JP has to be marked, as with Python's own codec: pass `final=True` in the last call of an
+  incremental encoder. `str.encode`, `codecs.iterencode` and `jillapun.open` do this, Python's `open` does not: unless
+  the text ends with a line feed, its last escape is missing. Therefore text that is appended (`a`) or written after a
+  `seek` begins with an escape; if the text before it was ended, the second of these two escapes is malformed. Do not
+  write into the middle of a text (`r+`).
 """
 
 import codecs

@@ -1,13 +1,13 @@
 """The interface of the package `webencodings` 0.5, over this library.
 
-html5lib, tinycss2 and what stands on them run over it, if it takes that package's place before they are imported:
+html5lib, tinycss2 and packages that use them run over it, if it replaces that package before they are imported:
 
     import sys, jillapun.webencodings
     sys.modules["webencodings"] = jillapun.webencodings
 
-Labels and what bytes become are those of the Encoding Standard of today: `hz-gb-2312` and `iso-2022-kr` are labels of
-replacement, and 14 labels more are known. Text is written in UTF-16 by Python's own codecs, since the standard has no encoder
-of it.
+Labels and malformed sequences are those of today's Encoding Standard: `hz-gb-2312` and `iso-2022-kr` are labels of
+replacement, 14 more labels are known, and `\\x81` in windows-1252 is U+0081, not an error. Text is encoded to UTF-16 by
+Python's own codecs, since the standard has no encoder for it.
 
 >>> decode(b"\\x83\\x6e", "shift_jis")
 ('ハ', <Encoding shift_jis>)
