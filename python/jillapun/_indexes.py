@@ -56,23 +56,23 @@ def name_of(number: int) -> str:
 
 
 def name(label: str) -> str:
-    """The Encoding Standard's name of the encoding that has this label, as `Shift_JIS` of `sjis`. White space around it
-    and the case of letters do not matter. Python's name of a codec is taken for a label if it is one but for `_` in place
-    of `-`, or if the codec has the same index, as `cp932`. Raises `UnknownLabel`."""
+    """Returns the Encoding Standard's name of the encoding with this label: `Shift_JIS` for `sjis`. White space around the
+    label and the case of letters do not matter. A Python name is accepted if it is a label but for `_` in place of `-`,
+    or if Python's codec has the same index, as `cp932` has. Raises `UnknownLabel`."""
     return name_of(number_of(label))
 
 
 def output_name(label: str) -> str:
-    """The name of the encoding that text is written in where this one is asked for: UTF-8 for UTF-16 and replacement,
-    and itself for all others."""
+    """Returns the name of the encoding that is used for output if this one is asked for: UTF-8 for UTF-16 and replacement,
+    the encoding itself for all others."""
     return name_of(c.library.jillapun_output_encoding(number_of(label)))
 
 
 def part_encoding(head: bytes, source: str, target: str, *, mark: c.Mark = "sniff") -> Optional[str]:
-    """The name of the encoding that each part of an input but the first is converted from, with `mark="keep"`, or `None`
-    if the input can't be cut. It is cut behind bytes below 30, hexadecimal, as a line feed is. `head` is how it begins:
-    three bytes or more, or all that it has. The first part is converted as the whole would be. `join_losses` and
-    `join_reports` join losses and reports of the parts."""
+    """Returns the name of the encoding to convert each part of an input but the first from, with `mark="keep"`; `None` if
+    the input cannot be cut. Cut it after bytes below 30 (hexadecimal), such as a line feed, and convert the first part
+    as you would the whole. `head` is the beginning of the input: three bytes or more, or all of it. `join_losses` and
+    `join_reports` join the losses and reports of the parts."""
     begin = c.bytes_of(head)
     words = number_of(source), number_of(target), c.MARKS[mark], begin, len(begin)
     number: int = c.streams().jillapun_part_encoding(*words)
@@ -80,7 +80,7 @@ def part_encoding(head: bytes, source: str, target: str, *, mark: c.Mark = "snif
 
 
 def default_folder() -> Optional[Path]:
-    """The folder of index texts that the variable JILLAPUN_INDEXES names. Without one there is none: the texts in the
+    """Returns the folder of index files that the environment variable JILLAPUN_INDEXES names, or `None`: then those in the
     library are used."""
     named = os.environ.get("JILLAPUN_INDEXES")
     return Path(named) if named else None
@@ -96,13 +96,13 @@ def _texts_in(folder: Path) -> Dict[str, bytes]:
 class Indexes:
     """Indexes of encodings, from a folder of index texts or from texts in memory.
 
-    They are loaded once and stay as long as the process: make one, and hand it to each call. A call with none has those
-    of the library, or of `default_folder()`. Threads may share one.
+    They are loaded once and never freed: make one object, and pass it to each call. Without one, a call uses the indexes
+    of `default_folder()` or those in the library. Threads can share one.
     """
 
     def __init__(self, folder: Optional[PathLike] = None, *, texts: Optional[Mapping[str, bytes]] = None):
-        """Loads the texts of a folder, whose names are `index-*.txt`, or `texts`, by those names. Raises
-        `IndexesMissing`, which says which text is faulty, and in which line, if it is in one."""
+        """Loads the files `index-*.txt` of a folder, or `texts` with those names. Raises `IndexesMissing`, which names the
+        faulty file, and the line if there is one."""
         if texts is None:
             place = Path(folder) if folder is not None else default_folder()
             texts = _texts_in(place) if place is not None else c.index_texts()

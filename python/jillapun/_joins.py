@@ -9,11 +9,11 @@ from ._results import Bad, Loss, Lost, Report
 
 
 def join_losses(before: Report, losses: Iterable[Loss]) -> List[Loss]:
-    """The losses of a part, which count from its start, as losses of the whole input: the bytes of what stands before the
-    part are added to the offset of a `Bad`, its characters to the index of a `Lost`. `before` is the report on all
-    parts before it (`join_reports`); before the first it is `Report()`.
+    """Turns the losses of a part, which count from its start, into losses of the whole input: adds the bytes of the earlier
+    parts to the offset of a `Bad`, and their characters to the index of a `Lost`. `before` is the report on all earlier
+    parts (`join_reports`), `Report()` for the first part.
 
-    Raises `OverflowError` if a number is below 0, or a sum 2^64 or more, which is so of no conversion."""
+    Raises `OverflowError` if a number is negative, or a sum is 2^64 or more; no conversion has such numbers."""
     told, join = _record_of(before), c.streams().jillapun_join_loss
     joined: List[Loss] = []
     for loss in losses:
@@ -25,10 +25,10 @@ def join_losses(before: Report, losses: Iterable[Loss]) -> List[Loss]:
 
 
 def join_reports(before: Report, part: Report) -> Report:
-    """The report on a part, added to that on all parts before it, which is `Report()` before the first.
-    `faithful` is true if it is true of both.
+    """Adds the report on a part to that on all earlier parts, `Report()` for the first part. `faithful` is true if it is
+    true of both.
 
-    Raises `OverflowError` if a number is below 0, or a sum 2^64 or more, which is so of no conversion."""
+    Raises `OverflowError` if a number is negative, or a sum is 2^64 or more; no conversion has such numbers."""
     told = _record_of(before)
     _check(c.streams().jillapun_join_reports(ctypes.byref(told), ctypes.byref(_record_of(part))))
     return Report(told.read, told.bad, told.lost, before.faithful and part.faithful, told.characters)

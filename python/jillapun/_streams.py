@@ -14,10 +14,10 @@ _UTF_8 = "utf-8"
 
 
 class Decoder:
-    """Decodes a stream chunk by chunk, wherever it is cut. Calls of several threads wait for one another.
+    """Decodes a stream chunk by chunk, however it is split. Calls of several threads wait for one another.
 
-    What is malformed is counted, and handed to `on_loss` as it comes: a `Bad`, with its offset from the start of the
-    stream. The first `keep_losses` of them are kept. What `on_loss` raises, `decode` raises, and the stream has ended.
+    Malformed sequences are counted and passed to `on_loss`, each a `Bad` with its offset from the start of the stream.
+    The first `keep_losses` are kept. If `on_loss` raises, so does `decode`, and the stream has ended.
     """
 
     def __init__(
@@ -43,17 +43,15 @@ class Decoder:
         return list(self._losses.kept)
 
     def decode(self, data: bytes, last: bool = False) -> str:
-        """The text that these bytes decide; what is undecided waits for more. `last` ends the stream, and after it no
-        more can be decoded."""
+        """Decodes the next bytes; an incomplete sequence waits for more. `last` ends the stream."""
         return self._conversion.put(c.bytes_of(data), last, self._losses).decode()
 
 
 class Encoder:
     """Encodes a text chunk by chunk. Calls of several threads wait for one another.
 
-    Characters that have no bytes are counted, and handed to `on_loss` as they come: a `Lost`, with how many characters
-    of the text stand before it. The first `keep_losses` of them are kept. What `on_loss` raises, `encode` raises, and
-    the text has ended.
+    Unmappable characters are counted and passed to `on_loss`, each a `Lost` with the number of characters before it.
+    The first `keep_losses` are kept. If `on_loss` raises, so does `encode`, and the text has ended.
     """
 
     def __init__(
@@ -70,7 +68,7 @@ class Encoder:
 
     @property
     def lost(self) -> int:
-        """How many characters so far have no bytes."""
+        """How many characters were unmappable so far."""
         return self._losses.lost
 
     @property
@@ -80,19 +78,19 @@ class Encoder:
 
     @property
     def faithful(self) -> Optional[bool]:
-        """Whether the bytes, read again, are the text; `None` before its end is encoded."""
+        """Whether the bytes, read again, are the text; `None` before the end of the text."""
         report = self._conversion.report
         return report.faithful if report else None
 
     def encode(self, text: str, last: bool = False) -> bytes:
-        """The bytes of these characters. `last` ends the text, and after it no more can be encoded. For a character
-        without bytes its reference is written, or, with "stop", `Stopped` is raised, which has what was written."""
+        """Encodes the next characters. `last` ends the text. An unmappable character is written as a reference; with
+        "stop" it raises `Stopped`, which has the output before it."""
         return self._conversion.put(str.encode(text), last, self._losses)
 
 
 class Converter:
-    """Converts a stream from one encoding to another chunk by chunk, wherever it is cut: together the calls give what
-    `convert` gives of all at once. Calls of several threads wait for one another.
+    """Converts a stream from one encoding to another chunk by chunk, however it is split: the outputs together are that
+    of `convert` for the whole input. Calls of several threads wait for one another.
 
     `mark`, `unmappable` and `limit` are as for `convert`.
 
@@ -119,20 +117,20 @@ class Converter:
 
     @property
     def report(self) -> Optional[Report]:
-        """The counts of what was lost, and the verdict; `None` before the last bytes are converted."""
+        """The counts and the verdict; `None` before the last bytes are converted."""
         return self._conversion.report
 
     def convert(self, data: bytes, last: bool = False) -> ConvertedPart:
-        """The output that these bytes decide, and what is found lost in it; what is undecided waits for more. `last`
-        ends the stream, and after it no more can be converted. Raises `TooLong` if the stream has more than `limit`
-        bytes, and what this call made is gone then; and `Stopped`, which has what this call wrote and found."""
+        """Converts the next bytes, and returns the output and the losses in it; an incomplete sequence waits for more.
+        `last` ends the stream. Raises `TooLong` if the stream has more than `limit` bytes, without the output of this
+        call, and `Stopped`, which has the output and the losses of this call."""
         losses = Losses(keep=sys.maxsize)
         return ConvertedPart(self._conversion.put(c.bytes_of(data), last, losses), losses.kept)
 
 
 class Reader(io.TextIOBase):
-    """A text that is read from a binary file as it is asked for. Ends of lines stay as they are, and a line ends at a
-    line feed. What is malformed is counted, handed on and kept as by `Decoder`, ahead of the text that is asked for."""
+    """Reads text from a binary file. Line ends are not translated, and a line ends at a line feed. Malformed sequences are
+    counted, passed on and kept as by `Decoder`, ahead of the text that was returned."""
 
     def __init__(
         self,
@@ -150,7 +148,7 @@ class Reader(io.TextIOBase):
 
     @property
     def bad(self) -> int:
-        """How many sequences were malformed in the bytes that were read so far: they are read ahead of the text."""
+        """How many sequences were malformed in the bytes that were read so far, ahead of the text that was returned."""
         return self._decoder.bad
 
     @property
@@ -174,7 +172,7 @@ class Reader(io.TextIOBase):
         return text
 
     def read(self, size: Optional[int] = -1) -> str:
-        """So many characters, or fewer at the end; all that is left, if it is below 0."""
+        """Reads `size` characters, or fewer at the end; all that is left if `size` is negative or `None`."""
         left = sys.maxsize if size is None or size < 0 else size
         parts: List[str] = []
         while left and self._is_left():
@@ -183,7 +181,7 @@ class Reader(io.TextIOBase):
         return "".join(parts)
 
     def readline(self, size: Optional[int] = -1) -> str:  # type: ignore[override]
-        """The next line, with its line feed, or at most so many characters of it; nothing at the end."""
+        """Reads the next line with its line feed, or at most `size` characters of it; an empty string at the end."""
         left = sys.maxsize if size is None or size < 0 else size
         parts: List[str] = []
         while left and self._is_left():
@@ -202,9 +200,8 @@ class Reader(io.TextIOBase):
 
 
 class Writer(io.TextIOBase):
-    """A text that is written to a binary file. Ends of lines stay as they are. The text ends where the file is closed:
-    until then an encoding may owe some bytes. Characters without bytes are counted, handed on and kept as by `Encoder`.
-    """
+    """Writes text to a binary file. Line ends are not translated. Close the file to end the text: only then some encodings
+    write their last bytes. Unmappable characters are counted, passed on and kept as by `Encoder`."""
 
     def __init__(
         self,
@@ -224,7 +221,7 @@ class Writer(io.TextIOBase):
 
     @property
     def lost(self) -> int:
-        """How many characters so far have no bytes."""
+        """How many characters were unmappable so far."""
         return self._encoder.lost
 
     @property
@@ -241,8 +238,8 @@ class Writer(io.TextIOBase):
         return True
 
     def write(self, text: str) -> int:
-        """Writes the text, and returns how many characters it has. Where `Stopped` is raised, what stands before its
-        character is written."""
+        """Writes the text, and returns how many characters it has. If `Stopped` is raised, the text before its character
+        was written."""
         try:
             self._file.write(self._encoder.encode(text))
         except Stopped as stop:
@@ -307,7 +304,7 @@ def open(
     on_loss: Optional[Callable[[Any], object]] = None,
     keep_losses: int = 0,
 ) -> Union[Reader, Writer]:
-    """A file of text in an encoding, to read (`"r"`) as a `Reader` or to write (`"w"`, `"a"`, `"x"`) as a `Writer`."""
+    """Opens a text file in an encoding: a `Reader` for mode `"r"`, a `Writer` for `"w"`, `"a"` and `"x"`."""
     if mode not in ("r", "w", "a", "x"):
         raise ValueError("mode %r is none of r, w, a and x" % mode)
     if mode != "r":

@@ -88,14 +88,14 @@ def decode(
     indexes: Optional[Indexes] = None,
     keep_losses: Optional[int] = None,
 ) -> Union[Decoded, DecodedKept]:
-    """The text of bytes in an encoding, and what was malformed.
+    """Decodes bytes, and reports each malformed sequence.
 
-    Each malformed sequence is U+FFFD in the text, and has its offset and length in `losses`. `mark` says what becomes
-    of a byte order mark at the start: "remove" leaves out that of the encoding, "sniff" lets one of UTF-8 or UTF-16
-    decide the encoding, "keep" takes it for text.
+    A malformed sequence becomes U+FFFD in the text; `losses` has its offset and length. `mark` is for a byte order mark
+    at the start: "remove" removes that of the encoding, "sniff" lets one of UTF-8 or UTF-16 decide the encoding, "keep"
+    treats it as text.
 
-    The list takes up to 110 bytes for each byte of the input. With `keep_losses` the losses are counted, and so many of
-    the first are kept: use it for input from strangers.
+    The list can take 110 bytes for each byte of the input. With `keep_losses` the losses are counted, and only that many
+    are kept, the first: use it for input from strangers.
 
     >>> decode(b"A\\x83\\x6e\\xff", "shift_jis")
     Decoded(text='Aハ�', losses=[Bad(offset=3, length=1)])
@@ -157,10 +157,10 @@ def encode(
     indexes: Optional[Indexes] = None,
     keep_losses: Optional[int] = None,
 ) -> Union[Encoded, EncodedKept]:
-    """The bytes of a text in an encoding, which characters have none, and whether the bytes read back as the text.
+    """Encodes a text, and reports each unmappable character and whether the bytes decode to the text again.
 
-    For a character without bytes its reference is written, "decimal" or "hexadecimal", or, with "stop", `Stopped` is
-    raised. A text with a lone surrogate is none: `UnicodeEncodeError` is raised. `keep_losses` is as for `decode`.
+    An unmappable character is written as a numeric character reference, "decimal" or "hexadecimal"; with "stop" it
+    raises `Stopped`. A lone surrogate raises `UnicodeEncodeError`. `keep_losses` is as for `decode`.
 
     >>> encode("é 日", "windows-1252")
     Encoded(data=b'\\xe9 &#26085;', losses=[Lost(index=2, character='日')], faithful=False)
@@ -196,10 +196,10 @@ def convert(
     limit: Optional[int] = None,
     indexes: Optional[Indexes] = None,
 ) -> Converted:
-    """Bytes from one encoding in another, with exactly what was lost.
+    """Converts bytes from one encoding to another, and reports exactly what was lost.
 
-    `mark` and `unmappable` are as for `decode` and `encode`. Raises `UnknownLabel`, `IndexesMissing`, `TooLong` where
-    the input has more than `limit` bytes, and `Stopped`.
+    `mark` and `unmappable` are as for `decode` and `encode`. Raises `UnknownLabel`, `IndexesMissing`, `TooLong` if the
+    input has more than `limit` bytes, and `Stopped`.
 
     >>> convert(b"caf\\xe9", "windows-1252", "utf-8")
     Converted(output=b'caf\\xc3\\xa9', losses=[], faithful=True)

@@ -122,11 +122,11 @@ def which(
     indexes: Optional[Indexes] = None,
     progress: Optional[Callable[[int], object]] = None,
 ) -> Which:
-    """How each of the 40 encodings reads an input: bytes, the path of a file, or a file. However long it is, a chunk of
-    it is in memory. `progress` is called after each chunk, with how many bytes have been read.
+    """Tells how each of the 40 encodings reads an input: bytes, a path or a binary file, of which only a chunk is in memory.
+    `progress` is called after each chunk with the number of bytes read so far.
 
-    Encodings that read the input alike, the same text with as many malformed sequences, are one `Reading`. A count of 0
-    is no proof that the text was written in an encoding: in some, as windows-1252, any bytes are a text.
+    Encodings that decode the input to the same text with the same number of malformed sequences are one `Reading`. A
+    count of 0 does not prove that the text was written in an encoding: in windows-1252 and others any bytes are text.
 
     >>> found = which("é 日本".encode())
     >>> [reading.encodings for reading in found.readings if reading.lines == ["é 日本"]]
