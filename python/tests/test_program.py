@@ -429,8 +429,13 @@ class Streams(Programs):
 
     def is_begun(self, process: int) -> bool:
         """Whether the program writes a file beside the one that it waits at."""
-        names = (os.path.join("/proc/%d/fd" % process, name) for name in os.listdir("/proc/%d/fd" % process))
-        return sum(os.path.exists(name) and ".jillapun-" in os.readlink(name) for name in names) > 0
+        folder = "/proc/%d/fd" % process
+        for name in os.listdir(folder):
+            # It may be closed meanwhile.
+            with contextlib.suppress(FileNotFoundError):
+                if ".jillapun-" in os.readlink(os.path.join(folder, name)):
+                    return True
+        return False
 
     def test_a_batch_that_is_interrupted(self) -> None:
         """Those that are done are listed; those that stay as they are do not count as done."""
