@@ -201,7 +201,7 @@ def limit_of(limit: Optional[int]) -> int:
     if limit is None:
         return NO_LIMIT
     if limit < 0:
-        raise ValueError("a limit of %d bytes" % limit)
+        raise ValueError("limit=%d: it must not be negative" % limit)
     return min(limit, NO_LIMIT)
 
 

@@ -152,7 +152,7 @@ class UnknownLabel(JillapunError, LookupError):
 
 
 class IndexesMissing(JillapunError):
-    """An index that an encoding needs is not there, or an index text is faulty."""
+    """An index that an encoding needs is missing, or an index file is faulty."""
 
 
 class TooLong(JillapunError):
@@ -163,7 +163,7 @@ class Stopped(JillapunError):
     """With `unmappable="stop"`: a character is unmappable."""
 
     def __init__(self, lost: Lost, output: bytes = b"", losses: List[Loss] = []):
-        super().__init__("no bytes for U+%04X, before which %d characters stand" % (ord(lost.character), lost.index))
+        super().__init__("no bytes for U+%04X, the character at index %d" % (ord(lost.character), lost.index))
         self.lost = lost
         """The character."""
         self.output = output
@@ -226,7 +226,7 @@ class Losses:
 def refuse(status: int) -> None:
     """Raises what a status says that is neither `OK`, `LOSSY` nor `STOPPED`."""
     if status == c.NOT_READY:
-        raise IndexesMissing("an index that the encoding needs is not loaded: Indexes() says from where")
+        raise IndexesMissing("an index that the encoding needs is not loaded: pass indexes=Indexes(FOLDER)")
     if status == c.NO_MEMORY:
         raise MemoryError
     if status == c.TOO_LONG:

@@ -81,7 +81,7 @@ if __name__ == "__main__":
         told(lambda: list(pool.map(work, texts)))
         told(lambda: list(pool.map(work, texts[:1])))
 """
-STOPPED = "Stopped no bytes for U+65E5, before which 1 characters stand\n"
+STOPPED = "Stopped no bytes for U+65E5, the character at index 1\n"
 ENCODED = "[Encoded(data=b'a', losses=[], faithful=True)]\n"
 # It takes no longer, in seconds.
 PATIENCE = 60
