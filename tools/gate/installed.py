@@ -107,6 +107,17 @@ def places_faults(top, folder):
         wanted, found = ran([program, *named, *words], b"bad 2 1\n", "/"), ran([path, *words], b"bad 2 1\n", "/")
         if found != wanted or found[0] != status:
             yield "recode-places %r: %r and not %r" % (words, found, wanted)
+    # A file whose name is not UTF-8 is shown by its descriptor; one that is not there, or whose name is UTF-8, as it is.
+    other, missing, accented = (os.path.join(os.fsencode(folder), name) for name in (b"caf\xe9", b"no \xe9", b"caf\xc3\xa9"))
+    shutil.copyfile(given, other)
+    shutil.copyfile(given, accented)
+    status, output, said = ran([path, *JAPANESE, given], b"bad 2 1\n", "/")
+    refused = 2, b"", b"recode-places: a word is not UTF-8\n"
+    for name, shown in ((other, b"/dev/fd/3"), (accented, accented), (missing, None)):
+        found = ran([path, *JAPANESE, name], b"bad 2 1\n", "/")
+        wanted = (status, output.replace(given.encode(), shown), said) if shown else refused
+        if found != wanted:
+            yield "recode-places %r: %r and not %r" % (name, found, wanted)
 
 
 # What is typed, a word in each place where bash breaks it, and the ways to complete the last.

@@ -70,11 +70,25 @@ COMMAND = """#!/bin/sh
 self=$0
 [ -h "$self" ] && self=$(readlink -f -- "$self")
 case $self in */*) top=${{self%/*}}/.. ;; *) top=.. ;; esac
-for word; do
+{names}for word; do
     case $word in --indexes | --indexes=*) exec "$top/{program}" "$@" ;; esac
 done
 exec "$top/{program}" --indexes "$top/{indexes}" "$@"
 """
+
+# The program takes words in UTF-8 only. A file with another name is opened here, and the program is given its descriptor.
+NAMES = """for word; do
+    shift
+    case $word in *[!\\ -~]*)
+        if [ -f "$word" ] && [ -r "$word" ] && ! printf %s "$word" |
+            "$top/{recode}" --from utf-8 --to utf-8 --mark keep > /dev/null 2>&1; then
+            exec 3< "$word"
+            word=/dev/fd/3
+        fi ;;
+    esac
+    set -- "$@" "$word"
+done
+""".format(recode=PROGRAMS[0][1])
 
 # What a command has in its second line.
 OURS = COMMAND.split("\n")[1].split("{")[0]
@@ -178,7 +192,9 @@ def install(folder, prefix):
     """Puts all into a folder, which will stand at a prefix."""
     for source, target in PROGRAMS:
         copied(source, os.path.join(folder, target), 0o755)
-        text = COMMAND.format(name=os.path.basename(target), program=target, indexes=INDEXES)
+        name = os.path.basename(target)
+        names = NAMES if name == "recode-places" else ""
+        text = COMMAND.format(name=name, program=target, indexes=INDEXES, names=names)
         written(text, os.path.join(folder, command(target)), 0o755)
     for source, target in [*FILES, *((licence, DOCUMENTS + "/" + licence) for licence in LICENCES)]:
         copied(source, os.path.join(folder, target), 0o644)
