@@ -43,6 +43,9 @@ CONVERSIONS = [
     (["--from", "utf-8", "--to", "replacement"], "aé".encode(), 0, "aé".encode(), b""),
     (["--to=utf-8", "--from=utf-8"], b"a", 0, b"a", b""),
     (["--from", " UTF8\t", "--to", "Unicode-1-1-UTF-8"], b"a", 0, b"a", b""),
+    # 0: the two limits of the verdict: a wrong --from, and a mark that the output only seems to begin with.
+    (FROM_WESTERN, b"\x83\x6e", 0, "ƒn".encode(), b""),
+    (TO_WESTERN, "ï»¿é".encode(), 0, b"\xef\xbb\xbf\xe9", b""),
     # 0: marks, sniffed unless something else is asked for.
     (FROM_WESTERN, b"\xef\xbb\xbf\xc3\xa9", 0, b"\xc3\xa9", b""),
     (FROM_WESTERN + ["--mark", "sniff"], b"\xff\xfea\0", 0, b"a", b""),
@@ -60,6 +63,7 @@ CONVERSIONS = [
     (TO_WESTERN + ["--unmappable", "stop"], "é".encode(), 0, b"\xe9", b""),
     # 1: something is lost.
     (FROM_JAPANESE, b"A\x83\x6e\xffB", 1, "Aハ\ufffdB".encode(), b"bad 3 1\n"),
+    (FROM_WESTERN, b"\xef\xbb\xbf\xe9", 1, REPLACED, b"bad 3 1\n"),
     (UTF_8, b"\xe2\x82", 1, REPLACED, b"bad 0 2\n"),
     (UTF_16, b"\0\xd8A", 1, REPLACED, b"bad 0 3\n"),
     (TO_WESTERN, "café 日".encode(), 1, b"caf\xe9 &#26085;", b"lost 5 26085\n"),

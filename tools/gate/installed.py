@@ -4,9 +4,10 @@ A file of someone else's has to stay as it is, and all can be read by others wha
 
     python3 tools/gate/installed.py
 
-The commands find the installed index texts from any folder, by any way to them, and hand all words on as they are: each must
-do what the program does with the same words and the folder named. bash completes their words. What README.md shows is so,
-also of `make try`, which compiles the program without a proof. The other targets that it shows have to be there.
+The commands find the installed index texts from any folder, by any way to them, and hand all words on as they are, but for
+a file name that is not UTF-8: each must do what the program does with the same words and the folder named. bash completes
+their words. What README.md shows is so, also of `make try`, which compiles the program without a proof. The other targets that
+it shows have to be there.
 """
 
 import os
