@@ -3,9 +3,9 @@
 
     python3 tools/gate/rust_crate.py
 
-It runs `cargo test --offline` there, with what Debian's package librust-serde-dev has, and the example on a short input. For
-another processor the build script must refuse, and say why. If something that it needs is not here, it says so, and nothing
-is wrong.
+It runs `cargo test --offline` there, with what Debian's package librust-serde-dev has, the example on a short input, and the
+program that docs/RUST.md begins with, which must print what the page says. For another processor the build script must refuse,
+and say why. If something that it needs is not here, it says so, and nothing is wrong.
 
 `make lint` compares what the crate declares of the library with `include/jillapun.h`: functions, types and numbers.
 """
@@ -43,6 +43,10 @@ EXAMPLE = ["cargo", "run", "--quiet", *FLAGS, "--example", "losses", "shift_jis"
 READ = b"A\x83\x6e\xff\n\x83"
 WRITTEN = "A\u30cf\ufffd\n\ufffd", "malformed: 1 from offset 3 on\nmalformed: 1 from offset 5 on\n"
 
+# The page for its users, the program that it begins with, and how it says what that prints.
+GUIDE = os.path.join(TOP, "docs", "RUST.md")
+FIRST = ["cargo", "run", "--quiet", *FLAGS, "--example", "first"]
+PRINTS = re.compile(r"^It prints `([^`]*)`", re.M)
 
 # A target that the library is no code for, and what the build script says of it.
 OTHER = ["cargo", "check", *OFFLINE, "--target", "aarch64-unknown-linux-gnu"]
@@ -103,6 +107,20 @@ def header_faults():
             yield "%s: %s is %s, and in the header %s" % (os.path.relpath(DECLARED, TOP), name, declared, header.get(name))
 
 
+def read(*path):
+    with open(os.path.join(*path), encoding="utf-8") as file:
+        return file.read()
+
+
+def guide_faults():
+    """What the page says otherwise than it is. Settings of cargo in the crate's folder would hold for its users, too."""
+    program = "".join("    " + line for line in read(CRATE, "examples", "first.rs").splitlines(keepends=True))
+    if program not in read(GUIDE):
+        yield "docs/RUST.md does not have examples/first.rs"
+    if os.path.exists(os.path.join(CRATE, ".cargo")):
+        yield "rust/encoding_rs has settings of cargo"
+
+
 def compiler():
     """The version of the compiler, as two numbers."""
     said = subprocess.run(["rustc", "--version"], cwd=CRATE, capture_output=True, text=True, check=False).stdout
@@ -133,17 +151,17 @@ def run(words, given=b""):
 
 def faults():
     """What is wrong with the crate."""
-    why = missing()
+    wrong, why = list(guide_faults()), missing()
     if why:
         print("left out: the tests of the crate for Rust, since %s" % why)
-        return []
+        return wrong
     status, said, errors = run(["cargo", "test", *FLAGS])
     print("%d tests of the crate for Rust" % sum(map(int, re.findall(r"^test result: ok\. (\d+) passed", said, re.M))))
     if status:
-        return ["cargo test: status %d\n%s%s" % (status, said[-4000:], errors[-4000:])]
-    wrong = []
-    if (ran := run(EXAMPLE, READ)) != (0, *WRITTEN):
-        wrong.append("%s: %r" % (" ".join(EXAMPLE), ran))
+        return [*wrong, "cargo test: status %d\n%s%s" % (status, said[-4000:], errors[-4000:])]
+    for words, given, wanted in ((EXAMPLE, READ, WRITTEN), (FIRST, b"", (PRINTS.search(read(GUIDE))[1] + "\n", ""))):
+        if (ran := run(words, given)) != (0, *wanted):
+            wrong.append("%s: %r" % (" ".join(words), ran))
     status, said, errors = run(OTHER)
     if not status or REFUSED not in errors:
         wrong.append("%s: status %d\n%s%s" % (" ".join(OTHER), status, said, errors[-4000:]))
