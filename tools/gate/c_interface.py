@@ -10,8 +10,9 @@ If there is a C compiler (`CC`, or cc), it and a C++ compiler (`CXX`, or c++) re
 NAME.c of docs/examples/c is compiled, linked with the archive and with the shared library, and once more with the
 sanitizers if the compiler has them. Run in the top folder on NAME.in with the words of NAME.args, if these are there, it must
 write NAME.out, and NAME.err to standard error, and end with the status of NAME.status, 0 if there is none. Then all is packed
-as `make dist` does, unpacked, and a program is built from what pkg-config says of it. The wheel for Python is packed and
-installed (`python_wheel.py`), and what `make install` puts in place is run and removed (`installed.py`).
+as `make dist` does, unpacked, and programs are built over it by the command of docs/C.md, and started as it says. The wheel
+for Python is packed and installed (`python_wheel.py`), and what `make install` puts in place is run and removed
+(`installed.py`).
 The names that the archives show to a linker are looked at, too: none may be one that a program could have.
 What was left out is said. The status is 1 if something was wrong.
 """
@@ -51,6 +52,13 @@ NAMES = {
     "libjillapun_encoding_c.a": ("encoding_",),
 }
 
+# Programs that are compiled by the command of docs/C.md: with what package for pkg-config, and what is linked before.
+LINKED = [("first", "jillapun", ""), ("encode", "jillapun", ""), ("linked", "jillapun-indexes", "-ljillapun_encoding_c")]
+
+# The page for its users, the command that it shows, and what its program prints.
+GUIDE = os.path.join(TOP, "docs", "C.md")
+SHOWN = re.compile(r"^    \$ (cc first\.c .*)\n    \$ \./first\n((?:    .*\n)+)", re.M)
+
 WARNINGS = ["-Wall", "-Wextra", "-pedantic", "-Werror"]
 SANITIZERS = ["-g", "-fsanitize=address,undefined", "-fno-sanitize-recover=all"]
 # No build or run of a program takes longer, in seconds.
@@ -80,8 +88,8 @@ def compiler(variable, default):
     return name if shutil.which(name) else None
 
 
-def run(words, **more):
-    return subprocess.run(words, capture_output=True, timeout=PATIENCE, check=False, cwd=TOP, **more)
+def run(words, folder=TOP, **more):
+    return subprocess.run(words, capture_output=True, timeout=PATIENCE, check=False, cwd=folder, **more)
 
 
 def compiled(words):
@@ -160,6 +168,23 @@ def examples(archive, shared, folder):
         print("example: %s.c, with %s" % (name, ", ".join(how for how, _ in ways)))
 
 
+def linked(cc, top, folder):
+    """What is wrong with the programs of `LINKED` over what is installed in a folder, and with what docs/C.md shows."""
+    there = {**os.environ, "PKG_CONFIG_PATH": os.path.join(top, "lib", "pkgconfig")}
+    there.pop("LD_LIBRARY_PATH", None)
+    command, printed = SHOWN.search(read(GUIDE).decode()).groups()
+    if printed.replace("    ", "").encode() != read(os.path.join(EXAMPLES, "first.out")):
+        yield "docs/C.md says that first.c prints %r" % printed
+    for name, package, more in LINKED:
+        shutil.copy(os.path.join(EXAMPLES, name + ".c"), folder)
+        script = command.replace("--libs jillapun", "--libs " + package).replace("first.c", "first.c " + more)
+        ran = run(["sh", "-c", script.replace("first", name).replace("cc", '"$0"', 1), cc], folder, env=there)
+        if not ran.returncode:
+            ran = run(["./" + name], folder, env=there)
+        if (ran.returncode, ran.stdout) != (0, read(os.path.join(EXAMPLES, name + ".out"))):
+            yield "%s.c over what `make dist` packs: status %d, %r, %r" % (name, ran.returncode, ran.stdout, ran.stderr[-2000:])
+
+
 def unpacked(folder):
     """What `make dist` packs, where it was unpacked: a program finds the header and the library there."""
     cc, programs = compiler("CC", "cc"), [os.path.join(TOP, source) for source, _ in install.PROGRAMS]
@@ -172,20 +197,7 @@ def unpacked(folder):
     if not cc or not shutil.which("pkg-config"):
         print("left out: a program over what `make dist` packs, since there is no C compiler (cc) or no pkg-config here")
         return
-    there = {**os.environ, "PKG_CONFIG_PATH": os.path.join(top, "lib", "pkgconfig")}
-    there.pop("LD_LIBRARY_PATH", None)
-    # The words of docs/C.md; `linked.c` also calls a name of encoding_c_mem.
-    start = "-Wl,-rpath,$(pkg-config --variable=libdir jillapun)"
-    plain = "$(pkg-config --cflags --libs jillapun)"
-    linked = "-ljillapun_encoding_c $(pkg-config --cflags --libs jillapun-indexes)"
-    for name, flags in (("first", plain), ("linked", linked)):
-        program = os.path.join(folder, name)
-        words = 'exec "$0" "$1" %s %s -o "$2"' % (flags, start)
-        ran = run(["sh", "-c", words, cc, os.path.join(EXAMPLES, name + ".c"), program], env=there)
-        if not ran.returncode:
-            ran = run([program], env=there)
-        if (ran.returncode, ran.stdout) != (0, read(os.path.join(EXAMPLES, name + ".out"))):
-            yield "%s.c over what `make dist` packs: status %d, %r, %r" % (name, ran.returncode, ran.stdout, ran.stderr[-2000:])
+    yield from linked(cc, top, folder)
     print("packed, unpacked and linked with: %s" % os.path.basename(top))
 
 

@@ -124,8 +124,8 @@ typedef uint16_t jillapun_char16;
 typedef uint8_t jillapun_status;"""
 
 FILES = """/**
- * All index files of the Encoding Standard, for `jillapun_tables_new`, and their number. Link
- * `libjillapun_indexes.a` before `libjillapun.a`.
+ * All index files of the Encoding Standard, for `jillapun_tables_new`, and their number. The
+ * shared library has them; with the archive, link `libjillapun_indexes.a` before `libjillapun.a`.
  */
 extern const jillapun_index_file jillapun_index_files[];
 extern const size_t jillapun_index_files_len;"""
