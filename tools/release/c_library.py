@@ -94,9 +94,18 @@ def beside(folder):
         os.remove(built)
 
 
-def build(folder=OUT, *flags):
+def prove(*flags, is_shown=False):
+    """Proves and builds the crate. What `rt` says meanwhile is shown as it comes, or only if it fails."""
+    words = ["rt", "lib", *flags]
+    if not is_shown:
+        run(words, CRATE)
+    elif status := subprocess.run(words, cwd=CRATE, check=False).returncode:
+        raise NotBuilt("%s: status %d" % (" ".join(words), status))
+
+
+def build(folder=OUT, *flags, is_shown=False):
     """Builds both into a folder, and returns their paths. `--backend rattle` has the kit's own compiler build."""
-    run(["rt", "lib", *flags], CRATE)
+    prove(*flags, is_shown=is_shown)
     os.makedirs(folder, exist_ok=True)
     beside(folder)
     return archive(folder), shared(folder)
@@ -112,7 +121,7 @@ def main():
         return
     print("proving and building the library for C: 5 GB of memory, and 8 minutes the first time", flush=True)
     try:
-        paths = build()
+        paths = build(is_shown=True)
     except NotBuilt as fault:
         sys.exit(str(fault))
     made.keep()
