@@ -256,6 +256,22 @@ def readme_faults(top, folder):
                 yield "README.md: %s: %r and not %r" % (command, found, wanted)
 
 
+# The check that README.md shows: module, function, crate; then the words that are changed, their replacement, the file.
+CHECK = re.compile(r"`rt check --only (\w+)::(\w+)` in `(crates/\w+)`.*Change `([^`]+)` to `([^`]+)` in `(src/\w+\.rt)`")
+
+
+def prover_faults():
+    """Whether the function that README.md has checked is there, and the words that it has changed. `rt` is not run."""
+    found = CHECK.search(read("README.md"))
+    if not found:
+        yield "README.md does not show the prover at work"
+        return
+    module, function, crate, old, _, source = found.groups()
+    text = read(os.path.join(crate, source))
+    if source != "src/%s.rt" % module or not re.search(r"\bfn %s\(" % function, text) or text.count(old) != 1:
+        yield "README.md: %s has not %s and, once, %s" % (source, function, old)
+
+
 def sources_faults():
     """Which files are packed from a clone alone, or from files that were unpacked alone."""
     for place in install.SOURCES:
@@ -290,6 +306,7 @@ def faults():
     """What is wrong with what is installed."""
     yield from sources_faults()
     yield from fresh_faults()
+    yield from prover_faults()
     sources = [os.path.join(TOP, source) for source, _ in [*install.PROGRAMS, *install.FILES]]
     if not all(map(os.path.isfile, sources)):
         print("left out: the installed commands, since not all is built (make build, make c)")
