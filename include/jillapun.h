@@ -76,7 +76,7 @@ typedef uint16_t jillapun_char16;
 /** The status that a call returns: `JILLAPUN_OK` or another constant below. */
 typedef uint8_t jillapun_status;
 
-/* What a call returns: its status. */
+/* Statuses of calls. */
 enum {
     /** Success. For a conversion: nothing was lost. */
     JILLAPUN_OK = 0,
@@ -141,7 +141,7 @@ enum {
     JILLAPUN_UNMAPPABLE = 3
 };
 
-/* What becomes of a byte order mark at the start of an input. */
+/* Handling of a BOM at the start of an input. */
 enum {
     /** The BOM of UTF-8, UTF-16BE or UTF-16LE selects the encoding and is removed. */
     JILLAPUN_SNIFF = 0,
@@ -151,7 +151,7 @@ enum {
     JILLAPUN_KEEP = 2
 };
 
-/* What is written for a character that the output encoding has no bytes for. */
+/* What is written for an unmappable character. */
 enum {
     /** A decimal numeric character reference: `&#26085;`. */
     JILLAPUN_DECIMAL = 0,
@@ -161,7 +161,7 @@ enum {
     JILLAPUN_STOP = 2
 };
 
-/* What an entry of the list of losses is of. */
+/* Kinds of losses. */
 enum {
     /** A malformed sequence of the input: its offset and its length in bytes. */
     JILLAPUN_BAD = 0,
@@ -169,7 +169,7 @@ enum {
     JILLAPUN_LOST = 1
 };
 
-/* What a text is, for layout. */
+/* Kinds of text, for layout. */
 enum {
     /** No character is above U+00FF. */
     JILLAPUN_LATIN1 = 0,
@@ -179,7 +179,7 @@ enum {
     JILLAPUN_BIDI = 2
 };
 
-/* What stands in place of a number if there is none. */
+/* Values for no encoding and no length. */
 enum {
     /** No encoding. Encodings are numbered from 0 in the order of their names. */
     JILLAPUN_NO_ENCODING = 255
@@ -1038,10 +1038,10 @@ jillapun_status jillapun_converter_new(jillapun_tables tables, uint8_t from, uin
  * four. Keep the report of that call: this one is 0.
  *
  * At `JILLAPUN_OK`, `JILLAPUN_LOSSY` and `JILLAPUN_STOPPED` the outputs of all calls,
- * concatenated, are the output of `jillapun_convert` for the input passed, and so are the
- * records, however the input is split and however long the buffers are. Before that, and at
- * `JILLAPUN_TOO_LONG`, they are the beginning of its output without a limit, whatever bytes
- * follow, and the report is 0.
+ * concatenated, are the output of `jillapun_convert` for the input passed, without a limit, and
+ * so are the records, however the input is split and however long the buffers are. Before that,
+ * and at `JILLAPUN_TOO_LONG`, they are the beginning of that output, whatever bytes follow, and
+ * the report is 0.
  *
  * Space for one byte and one record suffices to continue. Records need space even if nobody
  * reads them.

@@ -4,7 +4,7 @@
 /// What a call returns: one of the numbers that follow.
 pub type Status = u8;
 
-// What a call returns: its status.
+// Statuses of calls.
 
 /// Success. For a conversion: nothing was lost.
 pub const OK: u8 = 0;
@@ -52,7 +52,7 @@ pub const MALFORMED: u8 = 2;
 /// An unmappable character was read, and nothing was written for it.
 pub const UNMAPPABLE: u8 = 3;
 
-// What becomes of a byte order mark at the start of an input.
+// Handling of a BOM at the start of an input.
 
 /// The BOM of UTF-8, UTF-16BE or UTF-16LE selects the encoding and is removed.
 pub const SNIFF: u8 = 0;
@@ -61,7 +61,7 @@ pub const REMOVE: u8 = 1;
 /// No BOM is looked for; one is decoded as text.
 pub const KEEP: u8 = 2;
 
-// What is written for a character that the output encoding has no bytes for.
+// What is written for an unmappable character.
 
 /// A decimal numeric character reference: `&#26085;`.
 pub const DECIMAL: u8 = 0;
@@ -70,14 +70,14 @@ pub const HEXADECIMAL: u8 = 1;
 /// Nothing: the conversion stops.
 pub const STOP: u8 = 2;
 
-// What an entry of the list of losses is of.
+// Kinds of losses.
 
 /// A malformed sequence of the input: its offset and its length in bytes.
 pub const BAD: u8 = 0;
 /// An unmappable character: its index in the text, in characters, and its code point.
 pub const LOST: u8 = 1;
 
-// What a text is, for layout.
+// Kinds of text, for layout.
 
 /// No character is above U+00FF.
 pub const LATIN1: u32 = 0;
@@ -86,7 +86,7 @@ pub const LEFT_TO_RIGHT: u32 = 1;
 /// Some character may be right-to-left, or the bytes are not UTF-8.
 pub const BIDI: u32 = 2;
 
-// What stands in place of a number if there is none.
+// Values for no encoding and no length.
 
 /// No encoding. Encodings are numbered from 0 in the order of their names.
 pub const NO_ENCODING: u8 = 255;

@@ -23,19 +23,26 @@ fn main(rt: HostRuntime) -> ExitCode {
     }
     let mut indexes = SystemFiles::new(&rt);
     let status = answer(&rt, &mut indexes, &mut reader, &mut writer, &mut log);
-    let reason = match status {
-        REFUSED => match Asked::of_line(&rt) {
-            Asked::UnknownLabel(option) => Some(Reason::Label(option)),
-            _ => None,
-        },
-        NOT_STARTED => indexes.missing.as_ref().map(Reason::Index),
-        FAULT => Reason::of_stream("standard input", &reader)
-            .or(Reason::of_stream("standard output", &writer))
-            .or(Reason::of_stream("standard error", &log)),
-        _ => None,
-    };
-    if let Some(reason) = reason {
-        reason.explain(rt.alloc(), &mut log);
+    match status {
+        REFUSED => {
+            if let Asked::UnknownLabel(option) = Asked::of_line(&rt) {
+                Reason::Label(option).explain(rt.alloc(), &mut log);
+            }
+        }
+        NOT_STARTED => {
+            if let Some(missing) = &indexes.missing {
+                Reason::Index(missing).explain(rt.alloc(), &mut log);
+            }
+        }
+        FAULT => {
+            let reason = Reason::of_stream("standard input", &reader)
+                .or(Reason::of_stream("standard output", &writer))
+                .or(Reason::of_stream("standard error", &log));
+            if let Some(reason) = reason {
+                reason.explain(rt.alloc(), &mut log);
+            }
+        }
+        _ => {}
     }
     ExitCode::from(status)
 }

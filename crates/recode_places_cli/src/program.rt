@@ -134,7 +134,7 @@ fn run<F: Files, L: Read + Drop, W: Write + Drop>(
     // The log is read before the input is opened, which would take the place of a standard input
     // that is closed.
     let log = if words.has_log {
-        Some(LogMatch::new(log)?)
+        Some(LogMatch::new(&mut *log)?)
     } else {
         None
     };

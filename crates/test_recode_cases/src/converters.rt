@@ -99,18 +99,20 @@ fn convert_all(
     given: &mut Given,
 ) -> anyhow::Result<Result<Report, Fault>> {
     let mut rest = input;
-    let mut is_end = false;
-    while !is_end {
+    for _ in 0..=input.len() {
         let (part, more) = rest.split_at(calls.part.min(rest.len()));
-        is_end = more.is_empty() && (calls.ends_with_bytes || part.is_empty());
+        let is_end = more.is_empty() && (calls.ends_with_bytes || part.is_empty());
         if let Some(fault) = convert_part(converter, part, is_end, calls.room, given)? {
             return Ok(Err(fault));
         }
+        if is_end {
+            let report = converter.report().context("no report at the end")?;
+            ensure!(report.calls > 0, "no calls of codecs are reported");
+            return Ok(Ok(report));
+        }
         rest = more;
     }
-    let report = converter.report().context("no report at the end")?;
-    ensure!(report.calls > 0, "no calls of codecs are reported");
-    Ok(Ok(report))
+    bail!("no byte comes")
 }
 
 // Converts by these calls, and compares all that comes of it.

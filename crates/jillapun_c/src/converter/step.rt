@@ -75,9 +75,9 @@ impl Converter<'_> {
 /// that call: this one is 0.
 ///
 /// At `OK`, `LOSSY` and `STOPPED` the outputs of all calls, concatenated, are the output of
-/// `jillapun_convert` for the input passed, and so are the records, however the input is split and
-/// however long the buffers are. Before that, and at `TOO_LONG`, they are the beginning of its
-/// output without a limit, whatever bytes follow, and the report is 0.
+/// `jillapun_convert` for the input passed, without a limit, and so are the records, however the
+/// input is split and however long the buffers are. Before that, and at `TOO_LONG`, they are the
+/// beginning of that output, whatever bytes follow, and the report is 0.
 ///
 /// Space for one byte and one record suffices to continue. Records need space even if nobody reads
 /// them.
