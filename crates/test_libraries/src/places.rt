@@ -49,11 +49,18 @@ fn told_by_log(alloc: Global, input: &[u8], log: &[u8]) -> Result<Vec<Entry>, St
     let mut whole = input;
     let mut single = Single { rest: input };
     let entries = told_of_reads(alloc, &mut whole, log);
-    match (entries, told_of_reads(alloc, &mut single, log)) {
-        (Ok(entries), Ok(again)) if entries.as_slice() == again.as_slice() => Ok(entries),
-        (Err(stop), Err(again)) if stop == again => Err(stop),
-        _ => Err(Stop::TooLong),
-    }
+    let again = told_of_reads(alloc, &mut single, log);
+    let is_same = match &entries {
+        Ok(entries) => match &again {
+            Ok(again) => entries.as_slice() == again.as_slice(),
+            Err(_) => false,
+        },
+        Err(stop) => match &again {
+            Ok(_) => false,
+            Err(again) => *stop == *again,
+        },
+    };
+    if is_same { entries } else { Err(Stop::TooLong) }
 }
 
 // Returns how many entries there are for an input in UTF-8 and a log, or why the search for places
