@@ -59,6 +59,17 @@ LINKED = [("first", "jillapun", ""), ("encode", "jillapun", ""), ("linked", "jil
 GUIDE = os.path.join(TOP, "docs", "C.md")
 SHOWN = re.compile(r"^    \$ (cc first\.c .*)\n    \$ \./first\n((?:    .*\n)+)", re.M)
 
+# What the examples of the header use and do not declare.
+SHOWN_BEFORE = """#include <jillapun.h>
+#include <stdio.h>
+static jillapun_tables tables;
+static uint8_t chunk[4096], text[8192], output[4096];
+static size_t at, len;
+static bool last;
+static jillapun_status status;
+static jillapun_loss losses[256];
+static jillapun_report report;
+"""
 WARNINGS = ["-Wall", "-Wextra", "-pedantic", "-Werror"]
 SANITIZERS = ["-g", "-fsanitize=address,undefined", "-fno-sanitize-recover=all"]
 # No build or run of a program takes longer, in seconds.
@@ -118,11 +129,22 @@ def names(folder):
             yield "%s has %d names, of which these begin otherwise: %s" % (archive, len(found), " ".join(others))
 
 
+def shown():
+    """A program with the examples of the header, each in a function of its own."""
+    blocks = re.findall(r"^ \*\n((?: \*     .*\n)+)", read(os.path.join(INCLUDE, "jillapun.h")).decode(), re.M)
+    functions = [
+        "static int example_%d(void) {\n%sreturn 0;\n}\n" % (at, block.replace(" *     ", ""))
+        for at, block in enumerate(blocks)
+    ]
+    calls = " + ".join("example_%d()" % at for at in range(len(blocks)))
+    return SHOWN_BEFORE + "".join(functions) + "int main(void) { return %s; }\n" % calls
+
+
 def headers(folder):
-    """The header, read by a C and a C++ compiler."""
+    """The header, read by a C and a C++ compiler, by that for C with its examples."""
     path = os.path.join(folder, "header.c")
     with open(path, "w", encoding="ascii") as file:
-        file.write("#include <jillapun.h>\nint main(void) { return 0; }\n")
+        file.write("#ifdef __cplusplus\n#include <jillapun.h>\nint main() { return 0; }\n#else\n%s#endif\n" % shown())
     cases = [("CC", "cc", ["-std=c99"]), ("CC", "cc", ["-std=c11"]), ("CXX", "c++", ["-x", "c++", "-std=c++98"])]
     for variable, default, flags in [*cases, ("CXX", "c++", ["-x", "c++", "-std=c++17"])]:
         name = compiler(variable, default)
