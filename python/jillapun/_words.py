@@ -36,8 +36,10 @@ Each loss is a line, NAME: bad OFFSET LENGTH or NAME: lost INDEX SCALAR, as in t
 standard output, or on standard error if the conversion goes to standard output. Control characters
 and invisible characters in a name are printed by number, as <U+001B>.
 
-Status 0 does not mean that --from was right: in windows-1252 and others any bytes are text. Ask
-jillapun which FILE first.
+Status 0 has two limits. It does not mean that --from was right: in windows-1252 and others any bytes
+are text; ask jillapun which FILE first. And the output is read back with byte order marks kept: text
+that begins with U+00EF U+00BB U+00BF converts to windows-1252 with status 0, although a reader that
+looks for marks takes its first bytes for the mark of UTF-8.
 
 Exit status, the greatest of all files:
   0  all files were converted, and nothing was lost
