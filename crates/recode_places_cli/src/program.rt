@@ -122,7 +122,7 @@ fn run<F: Files, L: Read + Drop, W: Write + Drop>(
     alloc: Global,
     words: Words<'_>,
     files: &F,
-    log: &mut Log<L>,
+    log: L,
     output: W,
     has_colour: bool,
 ) -> Result<bool, Fault> {
@@ -134,7 +134,7 @@ fn run<F: Files, L: Read + Drop, W: Write + Drop>(
     // The log is read before the input is opened, which would take the place of a standard input
     // that is closed.
     let log = if words.has_log {
-        Some(LogMatch::new(&mut *log)?)
+        Some(LogMatch::new(log)?)
     } else {
         None
     };
