@@ -11,8 +11,8 @@ none left to refuse, or every one. No test can hand in an allocator that refuses
 
 `recode` must end with status 3, write `recode: out of memory` to standard error, and write nothing to standard output.
 Only for two requests may it end as it does with memory: std, before it collects the words of the command line and their
-slices, asks for the room of all of them, and if that is refused it asks word by word. After a message it can also leave
-out the second line, which explains it: for this it reads the words again if they were refused.
+slices, asks for the room of all of them, and if that is refused it asks word by word. It can also leave out the second
+line of a message, which explains it, or write `recode: out of memory` in place of the first.
 
 `test_refusals` must print its stored output, with `refused, then` in one line, that of the call whose request was
 refused; it compares the tables itself, before and after. Each call must have been refused, but for those that take no
@@ -176,9 +176,11 @@ def shown(place, ended):
     return "%s: status %d, %r, %r" % (place, status, out[:200], error[:200])
 
 
-def without_second_line(ended):
-    status, out, log = ended
-    return status, out, log.split(b"\n")[0] + b"\n"
+def may_end(ended, wanted):
+    """Whether a run may end so if memory was refused: of its two lines, the first can be replaced, and the second missing."""
+    first, second = OUT_OF_MEMORY[2], b"".join(wanted[2].splitlines(True)[1:2])
+    short = *wanted[:2], wanted[2].split(b"\n")[0] + b"\n"
+    return ended in (OUT_OF_MEMORY, (*OUT_OF_MEMORY[:2], first + second), short)
 
 
 def sweep(words, given, wanted, allocator):
@@ -194,7 +196,7 @@ def sweep(words, given, wanted, allocator):
         request += 1
         if ended == wanted:
             spared += 1
-        elif ended not in (OUT_OF_MEMORY, without_second_line(wanted)):
+        elif not may_end(ended, wanted):
             wrong.append(shown("at request %d" % request, ended))
     if spared > SPARED and wanted[0] != REFUSED_WORDS or request <= SPARED:
         wrong.append("%d of %d refusals are without effect" % (spared, request))
