@@ -37,6 +37,13 @@ MULTIBYTE = ("UTF-8", "GBK", "gb18030", "Big5", "EUC-JP", "ISO-2022-JP", "Shift_
 MOST_CALLS = 100000
 
 
+def is_zero(value):
+    """Whether all members of a struct are 0. What lies between them may be anything."""
+    if isinstance(value, ctypes.Structure):
+        return all(is_zero(getattr(value, member)) for member, *_ in value._fields_)
+    return not any(map(bool, value)) if isinstance(value, ctypes.Array) else not value
+
+
 class Wrong(Exception):
     """A call that returned what it must not."""
 
@@ -298,33 +305,28 @@ class Streams:
         self.copied("jillapun_encoder_encode_from_utf8", self.handle_of(job.target), progress, data, cut, 14, replaced)
 
     def without_tables(self):
-        """A decoder or an encoder is made without tables if its encoding needs no index. If none is made, what was in its place
-        stays."""
+        """A decoder or an encoder is made without tables if its encoding needs no index. If none is made, its handle is empty."""
         new_decoder, new_encoder = self.library.jillapun_decoder_new, self.library.jillapun_encoder_new
         none = self.library.struct("TablesHandle")()
         for name, number in self.numbers.items():
             handle = self.used_decoder()
-            before = bytes(handle)
             needs_none = self.needs_no_index(number)
             self.must("decoder_new of %s" % name, new_decoder(none, number, 0, handle), "OK" if needs_none else "NOT_READY")
             is_ready = self.library.jillapun_tables_is_ready(none, number)
             self.must("is_ready of %s" % name, is_ready, "OK" if needs_none else "NOT_READY")
-            self.same("decoder_new", name, bytes(handle) == before, not needs_none)
+            self.same("decoder_new", name, is_zero(handle), not needs_none)
             handle, output = self.handle_of("ISO-2022-JP"), self.library.jillapun_output_encoding(number)
-            before = bytes(handle)
             needs_none = self.needs_no_index(output)
             self.must("encoder_new of %s" % name, new_encoder(none, number, handle), "OK" if needs_none else "NOT_READY")
-            self.same("encoder_new", name, bytes(handle) == before, not needs_none)
+            self.same("encoder_new", name, is_zero(handle), not needs_none)
             self.converted_without_tables(none, number, name)
         for number, mark in ((len(self.numbers), 0), (0, len(MARKS))):
             handle = self.used_decoder()
-            before = bytes(handle)
             self.must("decoder_new", new_decoder(self.tables, number, mark, handle), "UNKNOWN")
-            self.same("decoder_new", (number, mark), bytes(handle), before)
+            self.same("decoder_new", (number, mark), is_zero(handle), True)
         handle = self.handle_of("Big5")
-        before = bytes(handle)
         self.must("encoder_new", new_encoder(self.tables, len(self.numbers), handle), "UNKNOWN")
-        self.same("encoder_new", len(self.numbers), bytes(handle), before)
+        self.same("encoder_new", len(self.numbers), is_zero(handle), True)
         progress, room = self.library.struct("Progress")(), bytearray(40)
         for name, data in (("UTF-8", b"\xef\xbb\xbf\xe6\x97"), ("UTF-16LE", b"\xff\xfe\xe5\x65\x0d"), ("UTF-8", b"\xfe\xff\x65\xe5")):
             handle = self.library.struct("DecoderHandle")()
@@ -340,9 +342,8 @@ class Streams:
         room, losses, report = bytearray(9), (self.library.struct("Loss") * 1)(), self.library.struct("Report")()
         self.must("convert from %s" % name, self.library.jillapun_convert(*words, b"", room, losses, report), wanted)
         handle = self.library.struct("ConverterHandle")()
-        before = bytes(handle)
         self.must("converter_new from %s" % name, self.library.jillapun_converter_new(*words, handle), wanted)
-        self.same("converter_new", name, bytes(handle) != before, wanted == "OK")
+        self.same("converter_new", name, is_zero(handle), wanted != "OK")
 
     def needs_no_index(self, number):
         return self.library.jillapun_needs(number, 0, bytearray(40)) == 0
