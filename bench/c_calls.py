@@ -1,5 +1,5 @@
 #!/usr/bin/env python3
-"""Measures calls of the library for C that take a little of what is handed in, beside encoding_rs: see bench/README.md.
+"""Measures calls of the C library that use a small part of a long input, beside encoding_rs: see bench/README.md.
 
     python3 bench/c_calls.py [--rounds N] [--write]
 
