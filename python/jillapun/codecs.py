@@ -47,7 +47,7 @@ _UNDECIDED = 8
 # An input or a text so short is tried by one call first.
 _SHORT = 1 << 10
 
-# So many characters of a text are handed in at a time, and so many after a loss, since each call looks whether all are UTF-8.
+# Characters of a text for each call, and after a loss: each call checks that all of them are UTF-8.
 _BLOCK, _SMALL = 1 << 14, 1 << 8
 
 
@@ -94,9 +94,9 @@ def _handled(errors: str, error: UnicodeError, size: int) -> Tuple[Union[str, by
 class Coding:
     """An encoding as Python's codecs need it: decoded and encoded by parts, each from a state on.
 
-    A state is a number, `start` at the start of a stream. A decoder decides as many bytes of a part as it can; the others
-    are handed in again, before those that follow. So a part, a state and the bytes that are left say all that is to be said
-    of a stream, and no decoder is kept between two calls.
+    A state is a number, `start` at the start of a stream. A decoder decides as many bytes of a part as it can; pass the
+    others again, before those that follow. A state and the undecided bytes are all that a stream needs, so no decoder is
+    kept between two calls.
     """
 
     # For each state the bytes that bring a new decoder into it, and the text that brings a new encoder into it. What
@@ -282,7 +282,7 @@ class _Decoding:
             self._open()
 
     def _undecided(self) -> int:
-        """How many bytes at the end are not decided: so many are malformed if the input ends here."""
+        """The number of undecided bytes at the end, which are malformed if the input ends here."""
         size = 0
         if self._step(coders.decode_stopping, True) == coders.MALFORMED:
             size = self._progress.malformed_length + self._progress.malformed_after
@@ -361,7 +361,7 @@ class _Encoding:
 
 
 def _state_of(coding: Coding, state: Any, count: int) -> int:
-    """The number of a state, of which there are so many. Raises `TypeError` and `UnicodeError`, as Python's codecs do."""
+    """Returns a state, if it is below `count`. Raises `TypeError` or `UnicodeError` otherwise, as Python's codecs do."""
     number = operator.index(state)
     if not 0 <= number < count:
         raise UnicodeError("%s has no state %d" % (coding.name, number))
@@ -432,7 +432,7 @@ class _StreamReader(codecs.StreamReader):
         self._left, self._state = 0, self.coding.start
 
     def read(self, size: Optional[int] = -1, chars: Optional[int] = -1, firstline: bool = False) -> str:
-        """As every reader, and `None` stands for all, as with files."""
+        """Reads as every reader does. `None` means everything, as with files."""
         return super().read(-1 if size is None else size, -1 if chars is None else chars, firstline)
 
     def decode(self, input: Any, errors: str = "strict") -> Tuple[str, int]:

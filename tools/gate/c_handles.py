@@ -1,4 +1,4 @@
-"""Calls with what only C can hand in: NULL for no elements, a handle after a refusal, and a handle with any content. For
+"""Calls with what only C can pass: NULL for no elements, a handle after a refusal, and a handle with any content. For
 `c_interface.py`, which runs this in a process of its own, so a call that reads or writes where it must not ends that process.
 """
 
@@ -18,7 +18,7 @@ BYTES = b"\xef\xbb\xbfA\x1b$B0l\x83\x6e\xff\xfe\x81\x30\x89" * 40
 
 
 class Guarded:
-    """Memory of so many bytes that ends where a page without access begins."""
+    """Memory that ends where a page without access begins."""
 
     def __init__(self, size):
         self.size, self.pages = size, -(-size // PAGE) + 1

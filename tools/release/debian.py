@@ -51,7 +51,7 @@ PACKAGES = {
         "Depends: libc6 (>= 2.{glibc}), jillapun-data (= {version})\nConflicts: recode\n",
         "convert text between the encodings of the web, and tell what is lost",
         "The program recode converts its standard input between the 40 encodings of the Encoding Standard, and logs each "
-        "malformed sequence and each character that has no bytes; its status says whether the output, read back with byte order "
+        "malformed sequence and each unmappable character; its status says whether the output, read back with byte order "
         "marks kept, is the text of the input. The program recode-places shows line and column of what was lost. What recode "
         "writes and reports is proved to be what definitions made after the standard say.",
     ),
