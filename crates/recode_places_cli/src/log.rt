@@ -38,7 +38,7 @@ impl<L: Read> Log<L> {
         }
     }
 
-    // Reads until so many bytes are at hand, or the end.
+    // Reads until `count` bytes are buffered, or to the end of the log.
     fn fill(&mut self, count: usize) -> io::Result<()> {
         if self.len - self.at >= count {
             return Ok(());
