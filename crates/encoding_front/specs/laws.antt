@@ -10,3 +10,4 @@ pub mod RoomRules
 pub mod ReportedCharacter
 pub mod SavedDecoders
 pub mod Ready
+pub mod Stable

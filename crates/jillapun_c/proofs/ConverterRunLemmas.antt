@@ -295,7 +295,7 @@ all_told j x y records p characters report status made through r counted t = rec
 
 -- what is known of a policy that stops: the character is the first that is lost
 abbrev pub FirstLaw : Type 0
-FirstLaw = (j : Job) (x : List ℕ) (index scalar : ℕ) (taken : List TaggedByte) → StopsAtLoss j.policy index scalar taken (trace j x)
+FirstLaw = (j : Job) (x : List ℕ) (index scalar : ℕ) (taken : List TaggedByte) → StopsAtLoss index scalar taken (trace j x)
     → take 1 (lost_log_lines (target_of j) 0 (input_text j x)) ≡ Lost index scalar ∷ []
 
 -- what a policy writes that stops at a character
@@ -327,9 +327,7 @@ stop_told law j last x rest y records v items index scalar report status taken s
       stopped = λ e. record {
         policy = stops.policy;
         first = law j x report.index report.scalar (tagged (trace j x)) (record {
-          policy = stops.policy;
           items = stops.before;
-          first = stops.first;
           last = all ∙ ap (λ i. stops.before ++ (LostAt i scalar ∷ [])) (sym told.index_) ∙ ap (λ u. stops.before ++ (LostAt report.index u ∷ [])) (sym told.scalar_);
           whole = refl;
         });

@@ -22,7 +22,9 @@ use Rattle.encoding_mem.specs.laws.Utf8.{pieces_utf8-text}
 use Rattle.encoding_mem.specs.laws.Pieces.{pieces_by-nil}
 use Rattle.recode.specs.Policy.{reference_form, written_under}
 use Rattle.recode.specs.TaggedByte.{tagged, output_bytes}
-use Rattle.recode.specs.Session.{Completes, Fails, IsConverted, IsReport}
+use Rattle.recode.specs.Session.{Completes, Fails, IsConverted, IsReport, at_end, input_of}
+use Rattle.recode.proofs.LossLemmas.{stops_policy}
+use Rattle.recode.proofs.ReadLemmas.{gave_to_end, input_ended, input_front}
 use Rattle.recode.specs.Step.{WrotePrefix}
 use Rattle.recode.specs.Devices.{Devices, IsOf, Grew, Written, Failures}
 use Rattle.recode.specs.declared.job.Fault.{Fault}
@@ -112,19 +114,20 @@ known_completes x s t j p is k = subst (λ y. IsConverted s.written t.written j 
 
 pub known_fails : (x : List ℕ) (s t : Devices) (j : Job) (f : Fault) → IsOf s.reads t.reads x → Fails s t j f → WrotePrefix s.written t.written j.policy f (trace j x)
 known_fails x s t j f is k =
-    let input : List ℕ = k.read.input in
-    let refused : List ℕ = k.read.refused in
-    let front = is.front (input ++ refused) k.read.given in
-    let more : List ℕ = refused ++ front.0 in
-    let all : x ≡ input ++ more = front.1 ∙ append_assoc input refused front.0 in
-    let none : k.read.ended ≡ true → more ≡ [] = λ h. append_cancel_left input more [] (sym all ∙ sym (is.whole input (k.read.end h)) ∙ sym (append-nil input)) in
+    let input : List ℕ = input_of f k.reads in
+    let refused = input_front f k.reads in
+    let front = is.front (concat k.reads) (k.reads, k.given, refl) in
+    let more : List ℕ = refused.0 ++ front.0 in
+    let all : x ≡ input ++ more = front.1 ∙ ap (λ l. l ++ front.0) refused.1 ∙ append_assoc input refused.0 front.0 in
+    let none : at_end k.reads ≡ true → more ≡ [] =
+    λ h. append_cancel_left input more [] (sym all ∙ sym (is.whole (concat k.reads) (gave_to_end s.reads t.reads k.reads k.given h)) ∙ sym (input_ended f k.reads h) ∙ sym (append-nil input)) in
     let prefix = k.prefix more none in
-    record { taken = k.taken; wrote = k.wrote; prefix = (prefix.0, ap (λ t. tagged (trace j t)) all ∙ prefix.1); stopped = subst (λ t. IsStop j.policy f k.taken (trace j t)) (sym all) (k.stopped more none) }
+    record { taken = k.taken; wrote = k.wrote; prefix = (prefix.0, ap (λ t. tagged (trace j t)) all ∙ prefix.1); stopped = subst (λ t. IsStop f k.taken (trace j t)) (sym all) (k.stopped more none) }
 
 pub known_too_long : (x : List ℕ) (s t : Devices) (j : Job) → IsOf s.reads t.reads x → Fails s t j Fault.TooLong → j.limit < length x
 known_too_long x s t j is k =
-    let front = is.front (k.read.input ++ k.read.refused) k.read.given in
-    omega (arith, ap length front.1, length-append (k.read.input ++ k.read.refused) front.0, k.limited refl)
+    let front = is.front (concat k.reads) (k.reads, k.given, refl) in
+    omega (arith, ap length front.1, length-append (concat k.reads) front.0, k.limited refl)
 
 -- The output, read back.
 pub valid_back : (j : Job) → IsValidJob j → IsValidJob (back j) × IsValidJob (in_utf8 j)
@@ -237,7 +240,7 @@ module _ (j : Job) (s s' : Devices) (quiet : s'.failures ≡ s.failures) where
   pub well_or_ended : (answer : Result Report Fault) → RunReturns s s' j answer → IsOk answer ⊎ ((answer ≡ Err TooLong) ⊎ IsStopped j.policy answer)
   well_or_ended (Ok p) a = inl refl
   well_or_ended (Err TooLong) a = inr (inl refl)
-  well_or_ended (Err (Unmappable i c)) a = inr (inr (a.fails.stopped [] (λ last. refl) i c refl).policy)
+  well_or_ended (Err (Unmappable i c)) a = let stop = a.fails.stopped [] (λ last. refl) i c refl in inr (inr (stops_policy j (input_of (Unmappable i c) a.fails.reads ++ []) stop.items i c stop.last))
   well_or_ended _ a = absurd (omega (arith, a.counts, ap (λ (n : Failures). n.reader) quiet, ap (λ (n : Failures). n.writer) quiet, ap (λ (n : Failures). n.log) quiet))
 
 -- and whose reader's contract says its bytes
@@ -257,7 +260,7 @@ module _ (j : Job) (x : List ℕ) (s s' : Devices) (quiet : s'.failures ≡ s.fa
   lost_where_stopped (Err (Unmappable i c)) is a h through =
       let k = (known_fails x s s' j (Unmappable i c) is a.fails).stopped i c refl in
       let spared = runs_through j x through in
-      omega (arith, spared k.policy, ap lost_line_count (sym (trace_where_spared j x spared)), ap lost_line_count k.last, lost_line_count-append k.items (LostAt i c ∷ []))
+      omega (arith, spared (stops_policy j x k.items i c k.last), ap lost_line_count (sym (trace_where_spared j x spared)), ap lost_line_count k.last, lost_line_count-append k.items (LostAt i c ∷ []))
   lost_where_stopped _ is a h through = absurd h
 
   pub well_where_through : (answer : Result Report Fault) → IsOf s.reads s'.reads x → RunReturns s s' j answer → IsOk answer ↔ ((length x ≤ j.limit) × RunsThrough j x)

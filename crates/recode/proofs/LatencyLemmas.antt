@@ -1,5 +1,5 @@
 -- What was taken while the input goes on, and what that says of the output and the log.
-use Rattle.std.proofs.Common.{◌≡◌, ◌⊎◌, ℕ, suc, ◌+◌, ◌-◌, ◌≤◌, ◌<◌, Bool, true, false, List, [], ◌∷◌, ◌++◌, length, Some, refl, sym, ◌∙◌, ap, subst, arith, append_assoc, append-nil, length-append, add-zero, inl, inr, rules}
+use Rattle.std.proofs.Common.{◌≡◌, ◌⊎◌, ℕ, suc, ◌+◌, ◌-◌, ◌≤◌, ◌<◌, Bool, true, false, List, [], ◌∷◌, ◌++◌, length, take, Some, refl, sym, ◌∙◌, ap, subst, arith, append_assoc, append-nil, length-append, add-zero, inl, inr, rules}
 use Rattle.std.specs.List.{flat_map}
 use Rattle.recode.proofs.TraceLemmas.{Gave-nil, Gave-trans, Grew-nil, Grew-trans, output_bytes-trace, whole_from-append}
 use Rattle.std.proofs.lemmas.Bool.{false≢true}
@@ -9,7 +9,7 @@ use Rattle.encoding_mem.specs.declared.codec.reference.Reference.{Reference}
 use Rattle.encoding_mem.specs.Piece.{ArePieces, Piece, well_formed, malformed, sizes, text, head_piece}
 use Rattle.encoding_mem.specs.calls.Decoding.{DecoderState}
 use Rattle.encoding_mem.specs.Coding.{Coding, last_set, open_from, whole_from}
-use Rattle.encoding_mem.specs.Items.{Item, trace_from}
+use Rattle.encoding_mem.specs.Items.{Item, MalformedAt, closing, open_items, trace_from}
 use Rattle.encoding_mem.specs.declared.codec.form.EscapeState.{EscapeState}
 use Rattle.encoding_mem.specs.declared.codec.form.EscapeState.TheVariants.{Ascii}
 use Rattle.encoding_mem.specs.Decided.{AreBytes, IsDecided, IsFixed}
@@ -18,10 +18,11 @@ use Rattle.encoding_mem.specs.laws.EncoderCalls.{last_set-append, open_from-appe
 use Rattle.recode_log.specs.Line.{line_bytes}
 use Rattle.recode_log.specs.declared.line.LogLine.{LogLine}
 use Rattle.recode_log.specs.declared.line.LogLine.TheVariants.{Bad}
-use Rattle.recode.specs.Job.{input_pieces, log_lines, lost_log_lines, target_of}
+use Rattle.recode.specs.Job.{input_pieces, input_text, log_lines, lost_log_lines, target_of, whole_trace}
 use Rattle.recode.specs.calls.Chunk.{ConvertsChunk}
-use Rattle.recode.specs.Latency.{HasReached, WroteDecided}
-use Rattle.recode.specs.Policy.{reference_form}
+use Rattle.recode.specs.Latency.{HasReached, WroteDecided, open_trace}
+use Rattle.recode.specs.Policy.{reference_form, written_under}
+use Rattle.std.proofs.Math.Seq.{take-append_seam}
 use Rattle.recode.specs.State.{State, characters_with, to_write}
 use Rattle.recode.specs.Step.{Advances, Finishes, HasRun, IsNearlyDecided, StepsOn}
 use Rattle.recode.specs.Devices.{Devices, Gave, GaveToEnd, Grew, KeepsWritten, Written}
@@ -237,7 +238,7 @@ soon t t1 j s x y ps qs more k settled is early =
     ]
 
 -- A session that has read nothing has nothing pending.
-no_pieces : (ps : List Piece) → ArePieces ps → sizes ps ≡ 0 → ps ≡ []
+pub no_pieces : (ps : List Piece) → ArePieces ps → sizes ps ≡ 0 → ps ≡ []
 no_pieces [] h is = refl
 no_pieces (p ∷ ps) h is = absurd (omega (arith, h.0.some, is))
 
@@ -273,6 +274,67 @@ stands_run a b j v s n p =
       output = subst (Grew a.written.output b.written.output) (paid_output (reference_form j.policy) e Ascii s.set 0 0 offset s.counts.index taken qs p.pays.written_items set_is offset_is index_is is) p.pays.wrote.output;
       logged = subst (Grew a.written.log b.written.log) (paid_lines (reference_form j.policy) e Ascii s.set 0 0 offset s.counts.index taken qs p.pays.written_items set_is offset_is index_is is) p.pays.wrote.lined;
     }
+
+-- the items of the first pieces of an input, from an offset, an index and a set in force on: those of a trace without the
+-- escape with which it ends
+abbrev pub items_from : Reference → Coding → EscapeState → (offset i : ℕ) → List Piece → List Item
+items_from ref e s offset i [] = []
+items_from ref e s offset i (well_formed n cs ∷ ps) =
+    open_items ref e s i cs ++ items_from ref e (last_set e s cs) (offset + n) (i + length cs) ps
+items_from ref e s offset i (malformed n ∷ ps) =
+    MalformedAt offset n ∷ (open_items ref e s i (0xFFFD ∷ []) ++ items_from ref e (e.set s 0xFFFD) (offset + n) (i + 1) ps)
+
+-- what a job writes for the first pieces of an input, as items
+abbrev pub items_of : Job → List Piece → List Item
+items_of j ps = items_from (reference_form j.policy) (target_of j) Ascii 0 0 ps
+
+-- The items of pieces in a row, without the escape at the end, and what is to be written behind them.
+pub items_then : (ref : Reference) (e : Coding) (s : EscapeState) (offset i : ℕ) (s1 : EscapeState) (offset1 i1 : ℕ) (ps qs : List Piece) → s1 ≡ last_set e s (text ps) → offset1 ≡ offset + sizes ps → i1 ≡ i + length (text ps)
+    → trace_from ref e s offset i (ps ++ qs) ≡ items_from ref e s offset i ps ++ trace_from ref e s1 offset1 i1 qs
+items_then ref e s offset i s1 offset1 i1 [] qs set_is offset_is index_is =
+    let at : offset1 ≡ offset = omega (arith, offset_is) in
+    let index : i1 ≡ i = omega (arith, index_is) in
+    rw (set_is, at, index) refl
+items_then ref e s offset i s1 offset1 i1 (well_formed n cs ∷ ps) qs set_is offset_is index_is =
+    let s2 = last_set e s cs in
+    let rest = items_then ref e s2 (offset + n) (i + length cs) s1 offset1 i1 ps qs (set_is ∙ last_set-append e s cs (text ps)) (omega (arith, offset_is)) (omega (arith, index_is, length-append cs (text ps))) in
+    ap (λ l. open_items ref e s i cs ++ l) rest ∙ sym (append_assoc (open_items ref e s i cs) (items_from ref e s2 (offset + n) (i + length cs) ps) (trace_from ref e s1 offset1 i1 qs))
+items_then ref e s offset i s1 offset1 i1 (malformed n ∷ ps) qs set_is offset_is index_is =
+    let s2 = e.set s 0xFFFD in
+    let own = open_items ref e s i (0xFFFD ∷ []) in
+    let rest = items_then ref e s2 (offset + n) (i + 1) s1 offset1 i1 ps qs set_is (omega (arith, offset_is)) (omega (arith, index_is)) in
+    ap (λ l. MalformedAt offset n ∷ (own ++ l)) rest ∙ ap (λ l. MalformedAt offset n ∷ l) (sym (append_assoc own (items_from ref e s2 (offset + n) (i + 1) ps) (trace_from ref e s1 offset1 i1 qs)))
+
+-- a trace is the items of its pieces, and then the escape to ASCII
+pub trace_closes : (ref : Reference) (e : Coding) (s : EscapeState) (offset i : ℕ) (ps : List Piece) → trace_from ref e s offset i ps ≡ items_from ref e s offset i ps ++ closing e (last_set e s (text ps))
+trace_closes ref e s offset i ps = ap (trace_from ref e s offset i) (sym (append-nil ps)) ∙ items_then ref e s offset i (last_set e s (text ps)) (offset + sizes ps) (i + length (text ps)) ps [] refl refl refl
+
+-- without which it is what is written for the pieces
+pub open_trace_is : (j : Job) (x : List ℕ) → open_trace j x ≡ written_under j.policy (items_of j (input_pieces j x))
+open_trace_is j x =
+    let items : List Item = items_of j (input_pieces j x) in
+    let ends : List Item = closing (target_of j) (last_set (target_of j) Ascii (input_text j x)) in
+    let all : whole_trace j x ≡ items ++ ends = trace_closes (reference_form j.policy) (target_of j) Ascii 0 0 (input_pieces j x) in
+    let size : length (items ++ ends) - length ends ≡ length items = omega (arith, length-append items ends) in
+    ap (written_under j.policy) (ap (λ l. take (length l - length ends) l) all ∙ ap (λ n. take n (items ++ ends)) size ∙ take-append_seam items ends)
+
+-- The items that a new session wrote that has run are those of the pieces that it took.
+pub ran_items : (a b : Devices) (j : Job) (v : View) (s : State) → IsNewSession v j → (p : HasRun a b j.limit v.state s) → p.pays.written_items ≡ items_of j p.advances.taken
+ran_items a b j v s n p =
+    let e = target_of j in
+    let ref = reference_form j.policy in
+    let k = stands_run a b j v s n p in
+    let taken : List Piece = p.advances.taken in
+    let qs : List Piece = s.decoder.pieces [] in
+    let offset : ℕ = s.counts.read - s.decoder.pending in
+    let rest : List Item = trace_from ref e s.set offset s.counts.index qs in
+    let is : trace_from ref e Ascii 0 0 (taken ++ qs) ≡ p.pays.written_items ++ rest =
+    ap (trace_from ref e Ascii 0 0) (sym (p.advances.rest []) ∙ n.pieces (p.chunk ++ []))
+    ∙ sym (n.owes_trace (p.chunk ++ [])) ∙ p.pays.equals [] (λ _. refl)
+    ∙ ap (λ (q : Coding). p.pays.written_items ++ trace_to_write (reference_form s.policy) s.decoder q s.set s.counts []) k.coding
+    ∙ ap (λ (f : Policy). p.pays.written_items ++ trace_to_write (reference_form f) s.decoder e s.set s.counts []) k.policy in
+    append_cancel_right p.pays.written_items (items_of j taken) rest
+    (sym is ∙ items_then ref e Ascii 0 0 s.set offset s.counts.index taken qs k.set (omega (arith, k.read, k.passed)) (omega (arith, k.index)))
 
 -- All that the bytes read decide was written, and stays so if nothing is written after.
 pub wrote_decided : (a b : Devices) (after : Written) (j : Job) (s : State) (x : List ℕ) (ps : List Piece)

@@ -1,3 +1,8 @@
+pub mod LossLemmas
+pub mod CertainLemmas
+pub mod DeterminedLemmas
+pub mod StatusLemmas
+pub mod ReadLemmas
 pub mod WriterLemmas
 pub mod TraceLemmas
 pub mod TellLemmas

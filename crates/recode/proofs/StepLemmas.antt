@@ -1,14 +1,14 @@
 -- How a step's parts make its clauses, how steps make a run, how a run and flushes make a conversion, and what its
 -- status says.
-use Rattle.std.proofs.Common.{Result, OnOk, IfErr, Err, Ok, ◌⊎◌, ◌≡◌, ℕ, ◌+◌, ◌≤◌, ◌<◌, add-zero, arith, length-append, append_assoc, List, [], ◌∷◌, ◌++◌, length, Bool, true, false, refl, sym, ap, ◌∙◌, subst, append-nil, inl, inr, ◌*◌, ◌≢◌, IfOk}
+use Rattle.std.proofs.Common.{Result, OnOk, IfErr, Err, Ok, ◌⊎◌, ◌≡◌, ℕ, ◌+◌, ◌≤◌, ◌<◌, add-zero, arith, length-append, append_assoc, List, [], ◌∷◌, ◌++◌, take, length, Bool, true, false, refl, sym, ap, ◌∙◌, subst, append-nil, inl, inr, ◌*◌, ◌≢◌, IfOk}
 use Rattle.std.specs.Prelude.{if◌then◌else◌}
-use Rattle.recode.proofs.TraceLemmas.{Gave-nil, Gave-one, Gave-trans, GaveThen-after, GaveToEnd-is, WritesItemsFor-start, Wrote-nil, Wrote-trans, left_behind, items_split}
+use Rattle.recode.proofs.TraceLemmas.{Gave-nil, Gave-one, Gave-trans, GaveThen-after, WritesItemsFor-start, Wrote-nil, Wrote-trans, left_behind, items_split}
 use Rattle.encoding_mem.specs.Items.{Item}
 use Rattle.encoding_mem.specs.Piece.{text, AreWellFormed}
 use Rattle.encoding_mem.specs.laws.Piece.{text-append}
 use Rattle.recode.specs.State.{State, to_write}
 use Rattle.recode.specs.Devices.{Devices, Failures, Gave, GaveToEnd, KeepsWritten, Ports, Written, devices_of, reads_of}
-use Rattle.recode.specs.TaggedByte.{Wrote, tagged, TaggedByte}
+use Rattle.recode.specs.TaggedByte.{IsPrefix, Line, Out, Wrote, log_bytes, output_bytes, tagged, TaggedByte}
 use Rattle.recode.specs.Policy.{written_under, reference_form}
 use Rattle.recode.specs.WrittenItems.{IsLeft, IsStop, WritesPrefixFor, IsSpared, bad_line_count, lost_line_count}
 use Rattle.recode.specs.Step.{Finishes, HasRun, IsNearlyDecided, RunCalls, StepsOn, Stops, WasRead}
@@ -16,14 +16,14 @@ use Rattle.recode.specs.Runs.{RunReturns}
 use Rattle.recode.specs.Fault.{of_other}
 use Rattle.recode.specs.declared.job.Fault.{Fault}
 use Rattle.recode.specs.declared.job.Fault.TheVariants.{Read, Write, Log, TooLong, Unmappable}
-use Rattle.recode.proofs.LatencyLemmas.{advances_more, stands_run, wrote_decided}
+use Rattle.recode.proofs.LatencyLemmas.{advances_more, ran_items, stands_run, wrote_decided}
 use Rattle.recode.proofs.VerdictLemmas.{both_ways}
 use Rattle.recode.specs.laws.Items.{tagged-append, AreCounted-trans, spared_append}
 use Rattle.recode_log.specs.Counted.{TellsMessage, history_of, passed_of}
 use Rattle.recode_log.specs.declared.counted.Counted.{Counted}
-use Rattle.recode.specs.Conversion.{Converts, IsConversion, IsFlushed, message_of, after_flushes, status_of}
+use Rattle.recode.specs.Conversion.{Converts, EndsInFault, IsConversion, IsFlushed, message_of, after_flushes, status_of}
 use Rattle.recode.specs.Job.{trace, IsValidJob, Faithful, input_pieces, output_pieces, input_text, target_of, log_of, output_of, whole_trace}
-use Rattle.recode.specs.Session.{Completes, Fails, View, IsNewSession, Tells}
+use Rattle.recode.specs.Session.{Completes, Fails, View, IsNewSession, Tells, at_end, input_of}
 use Rattle.recode.specs.declared.job.Job.{Job}
 use Rattle.recode.specs.declared.job.Policy.{Policy}
 use Rattle.recode.specs.declared.job.Report.{Report}
@@ -35,12 +35,20 @@ use Rattle.encoding_front.specs.laws.Encodings.{reads_back_exactly}
 use Rattle.encoding_front.specs.laws.Input.{marked_scalars}
 use Rattle.encoding_mem.specs.ReadBack.{ReadsAs}
 use Rattle.recode.specs.Work.{ReportsFewCalls}
-use Rattle.recode.specs.Latency.{WroteDecided}
+use Rattle.recode.specs.Latency.{KeepsPace, TookCertain, WroteDecided}
+use Rattle.recode.specs.RunsTold.{FailsDecided}
+use Rattle.recode.proofs.CertainLemmas.{certain}
+use Rattle.std.proofs.lemmas.List.Folds.{concat-append}
+use Rattle.recode.proofs.ReadLemmas.{at_end_after, end_is, input_all, input_is}
 use Rattle.recode.proofs.StopLemmas.{bads_of, losts_of, mapped_where_faithful, output_where_mapped, quiet_where_kept, trace_where_spared, whole_within}
 use Rattle.recode_log.specs.laws.Calls.{passed_flush}
 
-nothing_under : (w : Written) (p : Policy) (f : Fault) (last : Bool) (to_write : List ℕ → List Item) → ((written : List Item) → IsStop p f [] written) → WritesPrefixFor w w p f last to_write
-nothing_under w p f last to_write stop = record { taken = []; wrote = Wrote-nil w; left = λ r h. record { prefix = (tagged (written_under p (to_write r)), refl); stopped = stop (written_under p (to_write r)) } }
+nothing_under : (w : Written) (p : Policy) (f : Fault) (last : Bool) (to_write : List ℕ → List Item) → ((index scalar : ℕ) → f ≡ Unmappable index scalar → ⊥) → WritesPrefixFor w w p f last to_write
+nothing_under w p f last to_write other = record {
+  taken = [];
+  wrote = Wrote-nil w;
+  left = λ r h. record { prefix = (tagged (written_under p (to_write r)), refl); policy = λ i c is. absurd (other i c is); stopped = λ i c is. absurd (other i c is) };
+}
 
 keeps_all : (w : Written) → KeepsWritten w w
 keeps_all w = record { output = refl; log = refl }
@@ -51,7 +59,7 @@ stops_unread a b w n m limit s p within = record {
   read = record { input = []; refused = []; ended = false; given = ([], p ∙ sym (append-nil a), refl); end = λ h. cc; spared = λ h. refl; last = λ is. absurd (cc) };
   within = omega (arith, within);
   limited = λ is. absurd (cc);
-  pays = nothing_under w s.policy Read false (to_write s) (λ t i c is. absurd (cc));
+  pays = nothing_under w s.policy Read false (to_write s) (λ i c is. cc);
   untouched = λ h. (refl, keeps_all w);
 }
 
@@ -61,7 +69,7 @@ stops_refused a b w n m limit s chunk p within past = record {
   read = record { input = []; refused = chunk; ended = false; given = Gave-one a b chunk p; end = λ h. cc; spared = λ h. absurd (h refl); last = λ is. ([], p, refl) };
   within = omega (arith, within);
   limited = λ is. past;
-  pays = nothing_under w s.policy TooLong false (to_write s) (λ t i c is. absurd (cc));
+  pays = nothing_under w s.policy TooLong false (to_write s) (λ i c is. cc);
   untouched = λ h. (refl, keeps_all w);
 }
 
@@ -83,7 +91,19 @@ pub record HasStopped (before after : Devices) (limit : ℕ) (s : State) (fault 
   pub limited : fault ≡ TooLong → limit < s.counts.read + length (read.input ++ read.refused)
   pub pays : WritesPrefixFor before.written after.written s.policy fault read.ended (λ r. to_write s (read.input ++ r))
   -- if no writer failed, what was written is what the steps before wrote
-  pub latest : (fault ≡ Read) ⊎ (fault ≡ TooLong) → (t : Devices) × (s' : State) × (ran : HasRun before t limit s s') × (ran.chunk ≡ read.input) × KeepsWritten t.written after.written
+  pub latest : (fault ≡ Read) ⊎ (fault ≡ TooLong) → (t : Devices) × (s' : State) × (ran : HasRun before t limit s s') × (ran.chunk ≡ read.input) × (pays.taken ≡ tagged ran.pays.written_items) × KeepsWritten t.written after.written
+
+-- nothing was taken if nothing was written
+none_grew : (a b bytes : List ℕ) → b ≡ a ++ bytes → b ≡ a → bytes ≡ []
+none_grew a b bytes grew same = append_cancel_left a bytes [] (sym grew ∙ same ∙ sym (append-nil a))
+
+pub none_tagged : (t : List TaggedByte) → output_bytes t ≡ [] → log_bytes t ≡ [] → t ≡ []
+none_tagged [] h k = refl
+none_tagged (Out b ∷ t) h k = absurd (cc)
+none_tagged (Line b ∷ t) h k = absurd (cc)
+
+none_taken : (w w' : Written) (t : List TaggedByte) → Wrote w w' t → KeepsWritten w w' → t ≡ []
+none_taken w w' t h k = none_tagged t (none_grew w.output w'.output (output_bytes t) h.output k.output) (none_grew w.log w'.log (log_bytes t) h.lined k.log)
 
 pub goes_on_start : (a : Devices) (limit : ℕ) (s : State) → s.counts.read ≤ limit → IsNearlyDecided s.decoder → HasRun a a limit s s
 goes_on_start a limit s within settled = record {
@@ -176,7 +196,15 @@ goes_on_stop a b c limit s s1 f p q = record {
     left = λ r h. left_behind s.policy f p.pays.written_items q.pays.taken _ (to_write s1 (q.read.input ++ r)) p.pays.spared
         (ap (to_write s) (append_assoc p.chunk q.read.input r) ∙ p.pays.equals (q.read.input ++ r) (λ k. cc)) (subst (λ (k : Policy). IsLeft k f q.pays.taken (to_write s1 (q.read.input ++ r))) p.policy (q.pays.left r h));
   };
-  latest = λ h. let kept = q.untouched h in (b, s1, p, sym (append-nil p.chunk) ∙ ap (λ x. p.chunk ++ x) (sym kept.0), kept.1);
+  latest = λ h.
+      let kept = q.untouched h in (
+        b,
+        s1,
+        p,
+        sym (append-nil p.chunk) ∙ ap (λ x. p.chunk ++ x) (sym kept.0),
+        ap (λ t. tagged p.pays.written_items ++ t) (none_taken b.written c.written q.pays.taken q.pays.wrote kept.1) ∙ append-nil (tagged p.pays.written_items),
+        kept.1,
+      );
 }
 
 -- From steps to runs.
@@ -242,25 +270,50 @@ pub counts_text : (before after : Devices) (j : Job) (v : View) (w : State) → 
 counts_text before after j v w b f x given =
     omega (arith, f.characters, b.index, ap (λ ps. length (text ps)) (b.pieces f.chunk), ap (λ y. length (input_text j y)) (given_once before.reads after.reads f.chunk x f.given given))
 
-pub fails : (before after : Devices) (j : Job) (v : View) (f : Fault) → IsNewSession v j → HasStopped before after j.limit v.state f → Fails before after j f
-fails before after j v f b s =
+-- what steps that went on have written is all that is certain
+ran_certain : (a b : Devices) (j : Job) (v : View) (s : State) → IsValidJob j → IsNewSession v j → (p : HasRun a b j.limit v.state s) → TookCertain j p.chunk (tagged p.pays.written_items)
+ran_certain a b j v s valid n p =
+    let items = ran_items a b j v s n p in
+    let spared : IsSpared j.policy p.pays.written_items = subst (λ (q : Policy). IsSpared q p.pays.written_items) n.policy p.pays.spared in
+    certain a b j s p.chunk p.advances.taken valid (stands_run a b j v s n p) p.settled (tagged p.pays.written_items) (subst (IsSpared j.policy) items spared) (ap tagged items)
+
+pub keeps_pace : (a b : Devices) (j : Job) (v : View) (s : State) → IsValidJob j → IsNewSession v j → HasRun a b j.limit v.state s → KeepsPace a b j
+keeps_pace a b j v s valid n p = record { input = p.chunk; given = p.given; taken = tagged p.pays.written_items; wrote = p.pays.wrote; certain = ran_certain a b j v s valid n p }
+
+pub fails : (before after : Devices) (j : Job) (v : View) (f : Fault) → IsValidJob j → IsNewSession v j → HasStopped before after j.limit v.state f → Fails before after j f
+fails before after j v f valid b s =
     let left : (r : List ℕ) → (s.read.ended ≡ true → r ≡ []) → IsLeft j.policy f s.pays.taken (whole_trace j (s.read.input ++ r)) =
     λ r h. subst (λ (p : Policy). IsLeft p f s.pays.taken (whole_trace j (s.read.input ++ r))) b.policy
     (subst (IsLeft v.state.policy f s.pays.taken) (b.owes_trace (s.read.input ++ r)) (s.pays.left r h)) in
+    let reads : List (List ℕ) = s.read.given.0 in
+    let same : input_of f reads ≡ s.read.input = input_is before.reads after.reads f s.read in
+    let none : (r : List ℕ) → (at_end reads ≡ true → r ≡ []) → s.read.ended ≡ true → r ≡ [] = λ r h e. h (end_is before.reads after.reads f s.read e) in
     record {
-      read = s.read;
-      within = omega (arith, s.within, b.read);
-      limited = λ is. omega (arith, s.limited is, b.read);
+      reads = reads;
+      given = s.read.given.1;
+      within = omega (arith, s.within, b.read, ap length same);
+      limited = λ is. omega (arith, s.limited is, b.read, ap length s.read.given.2);
       taken = s.pays.taken;
       wrote = s.pays.wrote;
-      prefix = λ r h. (left r h).prefix;
-      stopped = λ r h. (left r h).stopped;
+      prefix = λ r h. subst (λ x. IsPrefix s.pays.taken (tagged (trace j (x ++ r)))) (sym same) (left r (none r h)).prefix;
+      stopped = λ r h. subst (λ x. IsStop f s.pays.taken (trace j (x ++ r))) (sym same) (left r (none r h)).stopped;
       latest = λ h.
+          let k = s.latest h in
+          subst (λ x. TookCertain j x s.pays.taken) (k.3 ∙ sym same) (subst (TookCertain j k.2.chunk) (sym k.4) (ran_certain before k.0 j v k.1 valid b k.2));
+    }
+
+-- and the pieces that it is of
+pub fails_decided : (before after : Devices) (j : Job) (v : View) (f : Fault) → IsValidJob j → IsNewSession v j → HasStopped before after j.limit v.state f → FailsDecided before after j f
+unfolding fails
+fails_decided before after j v f valid b s =
+    record {
+      fails = fails before after j v f valid b s;
+      decided = λ h.
           let k = s.latest h in
           let ran = k.2 in (
             ran.advances.taken,
-            subst (λ x. WroteDecided before.written after.written j x ran.advances.taken) k.3
-                (wrote_decided before k.0 after.written j k.1 ran.chunk ran.advances.taken (stands_run before k.0 j v k.1 b ran) ran.settled k.4),
+            subst (λ x. WroteDecided before.written after.written j x ran.advances.taken) (k.3 ∙ sym (input_is before.reads after.reads f s.read))
+                (wrote_decided before k.0 after.written j k.1 ran.chunk ran.advances.taken (stands_run before k.0 j v k.1 b ran) ran.settled k.5),
           );
     }
 
@@ -272,13 +325,16 @@ module _ (before ran : Devices) (j : Job) where
   whole_fails p f writing unstopped k =
       let w = k.converted.whole in
       let all : List TaggedByte = tagged (trace j k.input) in
+      let reads : List (List ℕ) = k.given.0 ++ ([] ∷ []) in
+      let same : input_of f reads ≡ k.input = input_all f reads (λ is. omega (arith, rw is at writing)) ∙ concat-append k.given.0 ([] ∷ []) ∙ append-nil (concat k.given.0) ∙ k.given.2 in
       record {
-        read = record { input = k.input; refused = []; ended = true; given = subst (Gave before.reads ran.reads) (sym (append-nil k.input)) (GaveToEnd-is before.reads ran.reads k.input k.given); end = λ h. k.given; spared = λ h. refl; last = λ is. absurd (omega (arith, rw is at writing)) };
-        within = w.within;
+        reads = reads;
+        given = k.given.1;
+        within = omega (arith, w.within, ap length same);
         limited = λ is. absurd (omega (arith, rw is at writing));
         taken = all;
         wrote = record { output = w.output; lined = w.logged };
-        prefix = λ r h. ([], ap (λ t. tagged (trace j t)) (ap (λ t. k.input ++ t) (h refl) ∙ append-nil k.input) ∙ sym (append-nil all));
+        prefix = λ r h. ([], ap (λ t. tagged (trace j t)) (ap (λ t. t ++ r) same ∙ ap (λ t. k.input ++ t) (h (at_end_after k.given.0)) ∙ append-nil k.input) ∙ sym (append-nil all));
         stopped = λ r h i c is. absurd (unstopped i c is);
         latest = λ h. absurd (elim h [ inl is ↦ omega (arith, rw is at writing) | inr is ↦ omega (arith, rw is at writing) ]);
       }
@@ -352,6 +408,34 @@ quiet_of (Ok p) came_to false false status first is whole = record { report = p;
 -- a flush passes nothing
 flushed_nothing : {W : Type 0} (before after : Counted W) (failed : Bool) → IsFlushed before after failed → passed_of after ≡ passed_of before
 flushed_nothing before after failed h = ap concat (passed_flush (history_of before) (history_of after) failed h.once)
+
+-- what came to a fault
+module _ {R W L : Type 0} (before after : Ports R W L) (j : Job) (room status : ℕ) (c : IsConversion before after j room status) (four : status ≡ 4) where
+  pub faults_of : EndsInFault (devices_of before) (devices_of after) j
+  faults_of = by c.came_to refl
+    where
+      never : (b : Bool) (n : ℕ) → n ≡ 4 → n ≡ (if b then 0 else 1) → ⊥
+      never true n is one = omega (arith, is, one)
+      never false n is one = omega (arith, is, one)
+
+      by : (r : Result Report Fault) → c.came_to ≡ r → EndsInFault (devices_of before) (devices_of after) j
+      by (Ok p) is = absurd (never p.faithful status four (c.answered ∙ ap status_of is))
+      by (Err f) is =
+          let t : TellsMessage c.flushed after.log (message_of f) = subst (λ (r : Result Report Fault). IfErr r (λ g. TellsMessage c.flushed after.log (message_of g))) is c.tells in
+          let kept : passed_of c.flushed ≡ passed_of c.ran.log = flushed_nothing c.ran.log c.flushed c.log_failed c.log in
+          record {
+            fault = f;
+            ran = devices_of c.ran;
+            fails = subst (λ (r : Result Report Fault). IfErr r (Fails (devices_of before) (devices_of c.ran) j)) is c.fails;
+            unread = ap reads_of c.unread;
+            unwritten = flushed_nothing c.ran.writer after.writer c.writer_failed c.writer;
+            told = t.told;
+            message = t.passed ∙ ap (λ l. l ++ take t.told (message_of f)) kept;
+            whole = elim t.whole [
+              | inl all ↦ inl all.1
+              | inr cut ↦ inr (omega (arith, cut.0, c.log.counted))
+            ];
+          }
 
 module _ {R W L : Type 0} (before after : Ports R W L) (j : Job) (room status : ℕ) (c : IsConversion before after j room status) (whole : status ≢ 4) where
   q : IsQuiet c.answer c.came_to c.writer_failed c.log_failed

@@ -1,6 +1,6 @@
 -- What the devices of a conversion say of their bytes after calls in a row, which call was the last, and what the clauses of
 -- a run say of devices that do.
-use Rattle.std.proofs.Common.{◌≡◌, ◌<◌, ◌+◌, ℕ, is_err, List, [], ◌∷◌, ◌++◌, Option, Some, None, Result, Ok, Err, OnOk, OnErr, IfErr, IsErrAnd, sym, ap, subst, ◌∙◌, append_assoc, append-nil, length, arith, rules}
+use Rattle.std.proofs.Common.{◌≡◌, ◌<◌, ◌+◌, ℕ, is_err, List, [], ◌∷◌, ◌++◌, Option, Some, None, Result, Ok, Err, OnOk, OnErr, IfErr, IsErrAnd, refl, sym, ap, subst, ◌∙◌, append_assoc, append-nil, length, arith, rules}
 use Rattle.std.specs.Io.KnownBytes.{Appends, Consumes, IsAtEnd}
 use Rattle.std.specs.List.{All, concat}
 use Rattle.std.proofs.lemmas.List.{append_cancel_left, same_from_push}
@@ -19,6 +19,7 @@ use Rattle.recode_log.specs.laws.Told.{NoneYet, flushed_none, taken_kept, reads_
 use Rattle.recode.specs.Told.{Told, TellWhatPassed}
 use Rattle.recode.specs.declared.job.Fault.{Fault}
 use Rattle.recode.proofs.TraceLemmas.{GaveToEnd-is}
+use Rattle.recode.proofs.ReadLemmas.{gave_to_end}
 use Rattle.recode.specs.Job.{log_of, output_of}
 use Rattle.recode.specs.RunsTold.{CompletesTold, FailsTold}
 use Rattle.recode.specs.Session.{Completes, Fails}
@@ -163,8 +164,8 @@ module _ (d e : Devices) (t u : Told) (tells : TellWhatPassed d e t u) (j : Job)
   pub fails_told : (f : Fault) → Fails d e j f → FailsTold d e t u j f
   fails_told f k = record {
     fails = k;
-    consumed = reads_are d.reads e.reads t.input u.input (k.read.input ++ k.read.refused) tells.input k.read.given;
-    end = λ h. reads_end d.reads e.reads t.input u.input k.read.input tells.input (k.read.end h);
+    consumed = reads_are d.reads e.reads t.input u.input (concat k.reads) tells.input (k.reads, k.given, refl);
+    end = λ h. reads_end d.reads e.reads t.input u.input (concat k.reads) tells.input (gave_to_end d.reads e.reads k.reads k.given h);
     output = taken_is d.written.output e.written.output t.output u.output (output_bytes k.taken) tells.output k.wrote.output;
     logged = taken_is d.written.log e.written.log t.log u.log (log_bytes k.taken) tells.log k.wrote.lined;
   }

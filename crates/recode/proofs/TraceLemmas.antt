@@ -14,6 +14,7 @@ use Rattle.recode.specs.TaggedByte.{TaggedByte, Line, output_bytes, log_bytes, W
 use Rattle.recode.specs.Parts.{noted}
 use Rattle.recode.specs.Policy.{up_to_loss, written_under, reference_form}
 use Rattle.recode.specs.WrittenItems.{WritesPrefix, WritesItemsFor, WritesPrefixFor, IsLeft, IsSpared, bad_line_count, lost_line_count, StopsAtLoss}
+use Rattle.recode.proofs.LossLemmas.{stops_first, stops_policy}
 use Rattle.recode.specs.declared.job.Fault.{Fault}
 use Rattle.recode.specs.declared.job.Fault.TheVariants.{Write, Log}
 use Rattle.recode.specs.declared.job.Policy.{Policy}
@@ -82,7 +83,7 @@ cut_front [] t = (up_to_loss t, refl)
 cut_front (LostAt i c ∷ s) t = ([], refl)
 cut_front (x ∷ s) t = let k = cut_front s t in (k.0, ap (λ l. x ∷ l) k.1)
 
-written_front : (p : Policy) (s t : List Item) → (rest : List Item) × (written_under p (s ++ t) ≡ written_under p s ++ rest)
+pub written_front : (p : Policy) (s t : List Item) → (rest : List Item) × (written_under p (s ++ t) ≡ written_under p s ++ rest)
 written_front Policy.Stop s t = cut_front s t
 written_front _ s t = (t, refl)
 
@@ -101,12 +102,11 @@ left_behind p f s taken a b h e k =
     let is : written_under p a ≡ s ++ written_under p b = ap (written_under p) e ∙ written_spared p s b h in
     record {
       prefix = (k.prefix.0, ap tagged is ∙ tagged-append s (written_under p b) ∙ ap (λ l. tagged s ++ l) k.prefix.1 ∙ sym (append_assoc (tagged s) taken k.prefix.0));
+      policy = k.policy;
       stopped = λ i c lost.
           let stop = k.stopped i c lost in
           rw is (record {
-            policy = stop.policy;
             items = s ++ stop.items;
-            first = omega (arith, lost_line_count-append s stop.items, h stop.policy, stop.first);
             last = ap (λ l. s ++ l) stop.last ∙ sym (append_assoc s stop.items (LostAt i c ∷ []));
             whole = ap (λ l. tagged s ++ l) stop.whole ∙ sym (tagged-append s (written_under p b));
           });
@@ -118,9 +118,10 @@ left_front p f taken total rest a e k =
     let is : written_under p a ≡ written_under p (total ++ rest) = ap (written_under p) e in
     record {
       prefix = (k.prefix.0 ++ tagged more.0, ap tagged (is ∙ more.1) ∙ tagged-append (written_under p total) more.0 ∙ ap (λ l. l ++ tagged more.0) k.prefix.1 ∙ append_assoc taken k.prefix.0 (tagged more.0));
+      policy = k.policy;
       stopped = λ i c lost.
           let stop = k.stopped i c lost in
-          rw (is, written_once p total rest stop.policy (omega (arith, ap lost_line_count stop.last, lost_line_count-append stop.items (LostAt i c ∷ [])))) stop;
+          rw (is, written_once p total rest (k.policy i c lost) (omega (arith, ap lost_line_count stop.last, lost_line_count-append stop.items (LostAt i c ∷ [])))) stop;
     }
 
 -- n of the bytes
@@ -134,6 +135,7 @@ under_bytes w w' l p f bs n a b writer h e =
       wrote = wrote_bytes w w' l (take n bs) h;
       left = record {
         prefix = (tagged (written_under p more), ap tagged (ap (written_under p) is ∙ written_spared p (map Byte (take n bs)) more (spared_bytes p (take n bs))) ∙ tagged-append (map Byte (take n bs)) (written_under p more));
+        policy = λ i c is. absurd (cc);
         stopped = λ i c is. absurd (cc);
       };
     }
@@ -156,6 +158,7 @@ under_lines w l l' p f lines n items a more log e begins h = record {
       ap tagged begins ∙ tagged-append items more ∙ ap (λ x. x ++ tagged more) (e ∙ ap (map Line) (sym (take-append-drop n lines)) ∙ map-append Line (take n lines) (drop n lines))
           ∙ append_assoc (map Line (take n lines)) (map Line (drop n lines)) (tagged more),
     );
+    policy = λ i c is. absurd (cc);
     stopped = λ i c is. absurd (cc);
   };
 }
@@ -274,11 +277,11 @@ one_loss [] i c h = refl
 one_loss (LostAt index scalar ∷ s) i c h = absurd (omega (arith, h))
 one_loss (x ∷ s) i c h = one_loss s i c h
 
-pub first_lost : (j : Job) (x : List ℕ) (i c : ℕ) (taken : List TaggedByte) → StopsAtLoss j.policy i c taken (trace j x) → take 1 (lost_log_lines (target_of j) 0 (input_text j x)) ≡ Lost i c ∷ []
+pub first_lost : (j : Job) (x : List ℕ) (i c : ℕ) (taken : List TaggedByte) → StopsAtLoss i c taken (trace j x) → take 1 (lost_log_lines (target_of j) 0 (input_text j x)) ≡ Lost i c ∷ []
 first_lost j x i c taken k =
     let all : List Item = whole_trace j x in
-    let cut : up_to_loss all ≡ k.items ++ (LostAt i c ∷ []) = ap (λ (p : Policy). written_under p all) (sym k.policy) ∙ k.last in
+    let cut : up_to_loss all ≡ k.items ++ (LostAt i c ∷ []) = ap (λ (p : Policy). written_under p all) (sym (stops_policy j x k.items i c k.last)) ∙ k.last in
     ap (take 1) (sym (ap losses (noted-trace (reference_form j.policy) (target_of j) Ascii 0 0 (input_pieces j x)) ∙ losses-lines (target_of j) 0 0 (input_pieces j x)))
     ∙ first_is_left all
     ∙ ap (λ s. losses (noted s)) cut
-    ∙ one_loss k.items i c k.first
+    ∙ one_loss k.items i c (stops_first j x k.items i c k.last)

@@ -247,10 +247,11 @@ stops_as w w' p f i c b fault stops h none =
       wrote = rw all h.wrote;
       left = record {
         prefix = ([], ap tagged cut ∙ sym (append-nil (tagged (held_items w ++ (LostAt i c ∷ [])))));
+        policy = λ index scalar is. stops;
         stopped = λ index scalar is.
             let first : i ≡ index = cc in
             let second : c ≡ scalar = cc in
-            rw (sym first, sym second) (record { policy = stops; items = held_items w; first = held_spared w; last = cut; whole = ap tagged (sym cut) });
+            rw (sym first, sym second) (record { items = held_items w; last = cut; whole = ap tagged (sym cut) });
       };
     }
 

@@ -1,5 +1,5 @@
 -- What a whole conversion did, and what it says by its status.
-use Rattle.std.specs.Prelude.{if◌then◌else◌, ◌≡◌, ℕ, ◌+◌, ◌⊎◌, List, [], ◌∷◌, ◌++◌, Bool, true, false, Result, Ok, Err, OnOk, IfErr, codes}
+use Rattle.std.specs.Prelude.{if◌then◌else◌, ◌≡◌, ℕ, ◌+◌, ◌<◌, ◌⊎◌, List, [], ◌∷◌, ◌++◌, take, Bool, true, false, Result, Ok, Err, OnOk, IfErr, codes}
 use Rattle.recode_log.specs.Call.{Flush, failed_write}
 use Rattle.recode_log.specs.Counted.{TellsMessage, failures_of, history_of}
 use Rattle.recode_log.specs.declared.counted.Counted.{Counted}
@@ -43,6 +43,19 @@ after_flushes (Ok p) false false = Ok p
 abbrev pub status_of : Result Report Fault → ℕ
 status_of (Ok p) = if p.faithful then 0 else 1
 status_of (Err f) = 4
+
+-- A fault ended the conversion: of its run, or of the first flush behind that which failed. `ran` is what had passed before
+-- its message: what a run leaves that ends with this fault. Of the message the log took the first bytes: all, or a call of
+-- the log failed.
+pub record EndsInFault (before after : Devices) (j : Job) : Type 0 where
+  pub fault : Fault
+  pub ran : Devices
+  pub fails : Fails before ran j fault
+  pub unread : after.reads ≡ ran.reads
+  pub unwritten : after.written.output ≡ ran.written.output
+  pub told : ℕ
+  pub message : after.written.log ≡ ran.written.log ++ take told (message_of fault)
+  pub whole : (take told (message_of fault) ≡ message_of fault) ⊎ (ran.failures.log < after.failures.log)
 
 -- a writer was flushed once, and its count rose by one if that failed
 pub record IsFlushed {W : Type 0} (before after : Counted W) (failed : Bool) : Type 0 where

@@ -1,5 +1,5 @@
 -- What the program does and returns for its words.
-use Rattle.std.specs.Prelude.{◌≡◌, ◌≢◌, ◌⊎◌, ℕ, List, [], ◌++◌, Option, Some, None, IfSome, false, true}
+use Rattle.std.specs.Prelude.{◌≡◌, ◌≢◌, ◌≤◌, ◌⊎◌, ℕ, List, [], ◌++◌, Option, Some, None, IfSome, false, true}
 use Rattle.std.specs.Bool.{MatchBool}
 use Rattle.encoding_front.specs.Encodings.{HasLabel, needs_of, output_encoding_of}
 use Rattle.encoding_front.specs.declared.encoding.Encoding.{Encoding}
@@ -17,9 +17,10 @@ use Rattle.recode_words.specs.declared.request.Request.TheVariants.{Run, Help, V
 use Rattle.recode_words.specs.declared.words.MarkWord.{MarkWord}
 use Rattle.recode_words.specs.declared.words.PolicyWord.{PolicyWord}
 use Rattle.recode_words.specs.declared.words.Words.{Words}
-use Rattle.recode.specs.Conversion.{Converts, IsConversion}
-use Rattle.recode.specs.Devices.{Ports, devices_of}
-use Rattle.recode.specs.Job.{IsValidJob}
+use Rattle.recode.specs.Conversion.{Converts, EndsInFault, IsConversion}
+use Rattle.recode.specs.Devices.{Devices, GaveToEnd, Ports, devices_of}
+use Rattle.recode.specs.Job.{Faithful, IsValidJob}
+use Rattle.recode.specs.Session.{WroteWhole}
 use Rattle.recode.specs.Told.{TellWhatPassed, told_in}
 use Rattle.recode.specs.declared.job.Job.{Job}
 use Rattle.recode.specs.declared.job.Policy.{Policy}
@@ -130,6 +131,7 @@ pub record AddsFromFiles (holds holds' : FileTexts) (dir : List ℕ) (old new : 
 pub record IsConversionOn {R W L : Type 0} (remaining : R → Option (List ℕ)) (contents : W → Option (List ℕ)) (logged : L → Option (List ℕ)) (before after : Ports R W L) (j : Job) (status : ℕ) : Type 0 where
   pub conversion : IsConversion before after j 4096 status
   pub converts : status ≢ 4 → Converts (devices_of before) (devices_of after) j status
+  pub faults : status ≡ 4 → EndsInFault (devices_of before) (devices_of after) j
   pub quiet : status ≢ 4 → (devices_of after).failures ≡ (devices_of before).failures
   pub told : TellWhatPassed (devices_of before) (devices_of after)
       (told_in remaining contents logged before.reader before.writer before.log) (told_in remaining contents logged after.reader after.writer after.log)
@@ -189,3 +191,31 @@ AnswersProgram holds remaining contents logged before after words status =
     ⊎ (FailsToStart before after status
     ⊎ (TellsText before after words status
     ⊎ RunsJob holds remaining contents logged before after words status))
+
+-- An input was read to its end, and output and log are exactly those of it.
+pub record IsRecodedWhole (before after : Devices) (j : Job) (x : List ℕ) : Type 0 where
+  pub given : GaveToEnd before.reads after.reads x
+  pub wrote : WroteWhole before.written after.written j x
+
+-- the words ask for a run, and this was done of its job, with the indexes of the folder's files
+pub record Ran (holds : FileTexts) (words : List (List ℕ)) (IsDone : Job → Type 0) : Type 0 where
+  pub w : Words
+  pub meant : AsksFor words (Run w)
+  pub j : Job
+  pub job : IsJobOf w j
+  pub files : AreOfFiles holds w.indexes.now j.tables.now
+  pub done : IsDone j
+
+-- What each exit status of the program says.
+-- 0: all was written, and nothing was lost; or help, version or list was asked for.
+-- 1: all was written, and something was lost.
+-- 2: the words were refused. 3: the start failed. Nothing was read.
+-- 4: a fault ended the run.
+pub record StatusSays {R W L : Type 0} (holds : FileTexts) (before after : Ports R W L) (words : List (List ℕ)) (status : ℕ) : Type 0 where
+  pub zero : status ≡ 0 → TellsText before after words status
+      ⊎ Ran holds words (λ j. (x : List ℕ) × IsRecodedWhole (devices_of before) (devices_of after) j x × Faithful j x)
+  pub one : status ≡ 1 → Ran holds words (λ j. (x : List ℕ) × IsRecodedWhole (devices_of before) (devices_of after) j x × ¬ (Faithful j x))
+  pub two : status ≡ 2 → RefusesWords before after words status
+  pub three : status ≡ 3 → FailsToStart before after status
+  pub four : status ≡ 4 → Ran holds words (EndsInFault (devices_of before) (devices_of after))
+  pub known : status ≤ 4

@@ -1,14 +1,14 @@
 -- A session as its callers know it, and what a run of it says.
-use Rattle.std.specs.Prelude.{◌<◌, ◌≡◌, ℕ, ◌≤◌, ◌⊎◌, ◌↔◌, IsTrue, List, [], ◌++◌, length, true, Result, Ok, Err}
-use Rattle.encoding_mem.specs.Piece.{Piece, malformed_count}
+use Rattle.std.specs.Prelude.{◌<◌, ◌≡◌, ℕ, ◌≤◌, ◌==◌, ◌⊎◌, ◌↔◌, Bool, IsTrue, List, [], ◌∷◌, ◌++◌, length, true, false, Result, Ok, Err}
+use Rattle.std.specs.List.{concat}
+use Rattle.encoding_mem.specs.Piece.{malformed_count}
 use Rattle.encoding_mem.specs.Coding.{lost_count}
 use Rattle.encoding_mem.specs.declared.codec.form.EscapeState.TheVariants.{Ascii}
 use Rattle.recode.specs.Job.{trace, whole_trace, target_of, output_of, log_of, source_in, input_pieces, input_text, Faithful, RunsThrough}
-use Rattle.recode.specs.Latency.{WroteDecided}
+use Rattle.recode.specs.Latency.{TookCertain}
 use Rattle.recode.specs.State.{State, WillBeFaithful, to_write}
 use Rattle.recode.specs.Devices.{Devices, GaveToEnd, Written}
 use Rattle.recode.specs.TaggedByte.{TaggedByte, Wrote, IsPrefix, tagged}
-use Rattle.recode.specs.Step.{WasRead}
 use Rattle.recode.specs.WrittenItems.{IsStop}
 use Rattle.recode.specs.declared.job.Fault.{Fault}
 use Rattle.recode.specs.declared.job.Fault.TheVariants.{Read, TooLong}
@@ -102,16 +102,29 @@ pub record Completes (reads reads' : List (List ℕ)) (before after : Written) (
   pub given : GaveToEnd reads reads' input
   pub converted : IsConverted before after j input p
 
--- A run that a fault ended. What was written is a prefix of what any continuation of the bytes read gives (none if the
--- end was read), output and log in their one order. If the policy stopped the run, what was written is all that any
--- continuation gives, and ends with the line of the lost character. Bytes that are refused pass the limit. If the fault
--- is `Read` or `TooLong`, all that the bytes decide that were counted was written.
+-- what was converted of these reads up to a fault: the bytes of all, but, if the input is too long, of all but the last
+abbrev pub input_of : Fault → List (List ℕ) → List ℕ
+input_of TooLong (last ∷ []) = []
+input_of f [] = []
+input_of f (read ∷ reads) = read ++ input_of f reads
+
+-- whether these reads came to the end of the input: the last of them gave no byte
+abbrev pub at_end : List (List ℕ) → Bool
+at_end [] = false
+at_end (last ∷ []) = length last == 0
+at_end (read ∷ next ∷ reads) = at_end (next ∷ reads)
+
+-- A run that a fault ended. What was written is a prefix of what any continuation of the input gives (none if the end was
+-- read), output and log in their one order. If the policy stopped the run, what was written is all that any continuation
+-- gives, and ends with the line of the lost character. Reads that are too long pass the limit with the last. If the fault
+-- is `Read` or `TooLong`, all was written that is certain, whatever bytes follow the input.
 pub record Fails (before after : Devices) (j : Job) (f : Fault) : Type 0 where
-  pub read : WasRead before.reads after.reads f
-  pub within : length read.input ≤ j.limit
-  pub limited : f ≡ TooLong → j.limit < length (read.input ++ read.refused)
+  pub reads : List (List ℕ)
+  pub given : after.reads ≡ before.reads ++ reads
+  pub within : length (input_of f reads) ≤ j.limit
+  pub limited : f ≡ TooLong → j.limit < length (concat reads)
   pub taken : List TaggedByte
   pub wrote : Wrote before.written after.written taken
-  pub prefix : (r : List ℕ) → (read.ended ≡ true → r ≡ []) → IsPrefix taken (tagged (trace j (read.input ++ r)))
-  pub stopped : (r : List ℕ) → (read.ended ≡ true → r ≡ []) → IsStop j.policy f taken (trace j (read.input ++ r))
-  pub latest : (f ≡ Read) ⊎ (f ≡ TooLong) → (ps : List Piece) × WroteDecided before.written after.written j read.input ps
+  pub prefix : (r : List ℕ) → (at_end reads ≡ true → r ≡ []) → IsPrefix taken (tagged (trace j (input_of f reads ++ r)))
+  pub stopped : (r : List ℕ) → (at_end reads ≡ true → r ≡ []) → IsStop f taken (trace j (input_of f reads ++ r))
+  pub latest : (f ≡ Read) ⊎ (f ≡ TooLong) → TookCertain j (input_of f reads) taken

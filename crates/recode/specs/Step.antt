@@ -117,7 +117,7 @@ pub record WrotePrefix (before after : Written) (p : Policy) (f : Fault) (given 
   pub taken : List TaggedByte
   pub wrote : Wrote before after taken
   pub prefix : IsPrefix taken (tagged given)
-  pub stopped : IsStop p f taken given
+  pub stopped : IsStop f taken given
 
 -- a call is a read with room for so many bytes
 abbrev pub IsReadInto : ℕ → Call → Type 0

@@ -41,24 +41,23 @@ pub record WritesItems (before after : Written) (c c' : Counts) (p : Policy) (to
   pub spared : IsSpared p written_items
   pub equals : to_write ≡ written_items ++ to_write'
 
--- The policy stopped the conversion at this lost character: the bytes that were taken are all that is written under the
--- policy, and the last is the line feed of this character's line.
-pub record StopsAtLoss (p : Policy) (index scalar : ℕ) (taken : List TaggedByte) (written : List Item) : Type 0 where
-  pub policy : p ≡ Policy.Stop
+-- The bytes that were taken are all that is written, and the last of it is the line of this lost character: there the
+-- policy stopped.
+pub record StopsAtLoss (index scalar : ℕ) (taken : List TaggedByte) (written : List Item) : Type 0 where
   pub items : List Item
-  pub first : lost_line_count items ≡ 0
   pub last : written ≡ items ++ (LostAt index scalar ∷ [])
   pub whole : taken ≡ tagged written
 
--- if the fault is `Unmappable`, the policy stopped at that lost character, and all up to its line was written
-abbrev pub IsStop : Policy → Fault → List TaggedByte → List Item → Type 0
-IsStop p f taken written = (index scalar : ℕ) → f ≡ Unmappable index scalar → StopsAtLoss p index scalar taken written
+-- if the fault is `Unmappable`, all that is written was taken, and it ends in the line of that lost character
+abbrev pub IsStop : Fault → List TaggedByte → List Item → Type 0
+IsStop f taken written = (index scalar : ℕ) → f ≡ Unmappable index scalar → StopsAtLoss index scalar taken written
 
 -- what a fault leaves: these bytes are a prefix of what was still to be written under the policy, and all of it if that
--- stopped the conversion
+-- stopped the conversion, which `Stop` alone does
 pub record IsLeft (p : Policy) (f : Fault) (taken : List TaggedByte) (to_write : List Item) : Type 0 where
   pub prefix : IsPrefix taken (tagged (written_under p to_write))
-  pub stopped : IsStop p f taken (written_under p to_write)
+  pub policy : (index scalar : ℕ) → f ≡ Unmappable index scalar → p ≡ Policy.Stop
+  pub stopped : IsStop f taken (written_under p to_write)
 
 -- the writers took so much of what was still to be written
 pub record WritesPrefix (before after : Written) (p : Policy) (f : Fault) (to_write : List Item) : Type 0 where

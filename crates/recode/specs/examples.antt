@@ -1,5 +1,6 @@
 -- Worked rows: what the definitions of `specs/` come to on inputs that a reader can work by hand.
 pub mod Devices
+pub mod Certain
 pub mod Jobs
 pub mod Parts
 pub mod WrittenItems

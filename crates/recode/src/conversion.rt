@@ -6,7 +6,8 @@ ghost use Rattle.recode_log.specs.Told.{TellsTaken};
 ghost use Rattle.recode.specs.Job.{IsValidJob};
 ghost use Rattle.recode.specs.calls.Buffers.{AreEnough, KeepSizes};
 ghost use Rattle.recode.specs.Devices.{HaveFailedAtMost, devices_in, ports};
-ghost use Rattle.recode.specs.Conversion.{Converts, IsConversion, IsFlushed, after_flushes};
+ghost use Rattle.recode.specs.Conversion.{Converts, EndsInFault, IsConversion, IsFlushed};
+ghost use Rattle.recode.specs.Conversion.{after_flushes};
 ghost use Rattle.recode.specs.Conversion.{message_of};
 ghost use Rattle.recode.specs.Told.{TellWhatPassed, told_in};
 
@@ -122,6 +123,8 @@ pub fn convert<R: Read, W: Write, L: Write>(
         (ports reader.new writer.new log.new) job.entry (length buffers.old.input.now) result }
     ensures converts { result ≢ 4 → Converts (devices_in reader.old writer.old log.old)
         (devices_in reader.new writer.new log.new) job.entry result }
+    ensures faults { result ≡ 4 → EndsInFault (devices_in reader.old writer.old log.old)
+        (devices_in reader.new writer.new log.new) job.entry }
     ensures quiet { result ≢ 4 → (devices_in reader.new writer.new log.new).failures
         ≡ (devices_in reader.old writer.old log.old).failures }
     ensures told { TellWhatPassed

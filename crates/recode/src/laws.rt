@@ -20,7 +20,7 @@ ghost use Rattle.encoding_mem.specs.declared.codec.form.Form.TheVariants.{Unmapp
 ghost use Rattle.encoding_mem.specs.declared.codec.reference.Reference.TheVariants.{Decimal};
 ghost use Rattle.encoding_mem.specs.Decided.{IsDecided, IsFixed};
 ghost use Rattle.encoding_front.specs.Encodings.{IsUtf8Encoding, KeepsCharacters, coding_of};
-ghost use Rattle.encoding_front.specs.Encodings.{output_encoding_of};
+ghost use Rattle.encoding_front.specs.Encodings.{is_ascii_compatible_of, output_encoding_of};
 ghost use Rattle.encoding_front.specs.Marks.{marked_pieces, marked_text};
 ghost use Rattle.encoding_front.specs.declared.mark.Mark.{Mark};
 ghost use Rattle.recode.specs.Devices.{Devices, Gave, GaveToEnd, Grew, IsOf, Written};
@@ -52,6 +52,9 @@ ghost use Rattle.recode.specs.TaggedByte.{IsPrefix, TaggedByte};
 ghost use Rattle.recode.specs.Told.{TellWhatPassed, Told};
 ghost use Rattle.recode_log.specs.Told.{TellsReads, TellsTaken};
 ghost use Rattle.recode.specs.Work.{ReportsFewCalls};
+ghost use Rattle.recode.specs.Devices.{Ports};
+ghost use Rattle.recode.specs.Latency.{KeepsPace, open_trace};
+ghost use Rattle.recode.specs.Program.{AnswersProgram, FileTexts, StatusSays};
 ghost use Rattle.recode.specs.WrittenItems.{StopsAtLoss, bad_line_count, lost_line_count};
 ghost use Rattle.recode.specs.declared.job.Fault.{Fault};
 ghost use Rattle.recode.specs.declared.job.Job.{Job};
@@ -113,8 +116,10 @@ pub fn stops_at_first_loss()
         ((target_of j).set (last_set (target_of j) Ascii before) c) }
     ensures log { (j : Job) (x : List ℕ) → j.policy ≡ Policy.Stop → log_of j x
         ≡ flat_map line_bytes (lines_up_to_loss (log_lines (target_of j) 0 0 (input_pieces j x))) }
+    ensures policy { (j : Job) (x : List ℕ) (index scalar : ℕ) (taken : List TaggedByte)
+        → StopsAtLoss index scalar taken (trace j x) → j.policy ≡ Policy.Stop }
     ensures fault { (j : Job) (x : List ℕ) (index scalar : ℕ) (taken : List TaggedByte)
-        → StopsAtLoss j.policy index scalar taken (trace j x)
+        → StopsAtLoss index scalar taken (trace j x)
         → take 1 (lost_log_lines (target_of j) 0 (input_text j x)) ≡ Lost index scalar ∷ [] }
 {}
 
@@ -326,7 +331,9 @@ pub fn steps_add_up()
 /// them, are a run. At the start there are none, and each that returns `More` is added. With one
 /// that returns `Done`, and with the session's report, they are a run that came to its end; with
 /// one that returns a fault, a run that it ended. The report says as few calls as one of `run`. At
-/// the end the session has counted the characters of the text of what was read.
+/// the end the session has counted the characters of the text of what was read. After each step
+/// that went on, what was written is all that is certain of what was read, output and log in one
+/// order.
 pub fn steps_are_a_run()
     ensures begins { (t : Devices) (j : Job) (v : View) → IsNewSession v j
         → HasRun t t j.limit v.state v.state }
@@ -337,8 +344,10 @@ pub fn steps_are_a_run()
         → Finishes t1 t2 j.limit s w.state → Tells w p
         → Completes t.reads t2.reads t.written t2.written j p × ReportsFewCalls p }
     ensures fails { (t t1 t2 : Devices) (j : Job) (v : View) (s : State) (f : Fault)
-        → IsNewSession v j → HasRun t t1 j.limit v.state s
+        → IsValidJob j → IsNewSession v j → HasRun t t1 j.limit v.state s
         → Stops t1 t2 j.limit s f → Fails t t2 j f }
+    ensures so_far { (t t1 : Devices) (j : Job) (v : View) (s : State)
+        → IsValidJob j → IsNewSession v j → HasRun t t1 j.limit v.state s → KeepsPace t t1 j }
     ensures characters { (t t1 t2 : Devices) (j : Job) (v : View) (s w : State) (x : List ℕ)
         → IsNewSession v j → HasRun t t1 j.limit v.state s → Finishes t1 t2 j.limit s w
         → GaveToEnd t.reads t2.reads x → w.counts.index ≡ length (input_text j x) }
@@ -464,4 +473,35 @@ pub fn runs_on_parts_are_a_run()
         → IsConverted unwritten v j x p → characters ≡ length (input_text j x)
         → IsConverted unwritten w (later j x) y q
         → AreOfWhole j x y v w p q characters }
+{}
+
+/// What the exit status of the program says, whatever it was asked for. 0: an input was read to its
+/// end, output and log are exactly those of it, and nothing was lost; or help, version or the list
+/// was asked for. 1: the same of an input of which something was lost. 2: the words were refused.
+/// 3: the start failed. 4: a fault ended the run; what it leaves, then the log has the message.
+pub fn statuses_say_what_was_done<R, W, L>()
+    ensures { (holds : FileTexts) (remaining : R → Option (List ℕ)) (contents : W → Option (List ℕ))
+        (logged : L → Option (List ℕ)) (before after : Ports R W L) (words : List (List ℕ))
+        (status : ℕ)
+        → AnswersProgram holds remaining contents logged before after words status
+        → StatusSays holds before after words status }
+{}
+
+/// What is certain (`TookCertain`) is told of what is written without the escape at its end. It is
+/// the front of the trace, and all of it in an output encoding that is compatible with ASCII: there
+/// no escape is written.
+pub fn certain_is_of_the_trace()
+    ensures front { (j : Job) (x : List ℕ) → IsPrefix (open_trace j x) (trace j x) }
+    ensures same { (j : Job) (x : List ℕ)
+        → is_ascii_compatible_of (output_encoding_of j.to) ≡ true
+        → open_trace j x ≡ trace j x }
+{}
+
+/// What a run that a fault ended says that there is, is determined by what passed through the
+/// devices: the reads, and what was taken, in one order.
+pub fn what_a_fault_leaves_is_determined()
+    ensures reads { (s s' : Devices) (j : Job) (f : Fault) (p q : Fails s s' j f)
+        → p.reads ≡ q.reads }
+    ensures taken { (s s' : Devices) (j : Job) (f : Fault) (p q : Fails s s' j f)
+        → p.taken ≡ q.taken }
 {}

@@ -12,7 +12,7 @@ ghost use Rattle.recode.specs.Session.{View, IsOver, IsNewSession, IsStepped, Te
 ghost use Rattle.recode.specs.Session.{Fails};
 ghost use Rattle.recode.specs.declared.session.Phase.TheVariants.{Open};
 ghost use Rattle.recode.specs.Step.{Finishes, RunCalls, StepCalls, Stops, StepsOn};
-ghost use Rattle.recode.specs.RunsTold.{CompletesTold, FailsTold};
+ghost use Rattle.recode.specs.RunsTold.{CompletesTold, FailsDecided, FailsTold};
 ghost use Rattle.recode.specs.Told.{TellWhatPassed, told_in};
 ghost use Rattle.recode.specs.Devices.{CountsFault, HaveFailedAtMost, devices_in, reads_of};
 ghost use Rattle.recode.specs.Devices.{written_in};
@@ -240,6 +240,8 @@ pub fn run<R: Read, W: Write, L: Write>(
     ensures fails { IfErr result (λ f. Fails (devices_in reader.old writer.old log.old)
         (devices_in reader.new writer.new log.new) job.entry f) }
     ensures work { IfOk result ReportsFewCalls }
+    ensures decided { IfErr result (FailsDecided (devices_in reader.old writer.old log.old)
+        (devices_in reader.new writer.new log.new) job.entry) }
     ensures completes_told { IfOk result (λ p. CompletesTold
         (devices_in reader.old writer.old log.old) (devices_in reader.new writer.new log.new)
         (told_in R.remaining W.contents L.contents reader.old writer.old log.old)

@@ -14,6 +14,7 @@ use Rattle.recode.specs.Step.{HasRun, IsNearlyDecided, StepsOn, WrotePrefix}
 use Rattle.recode.specs.TaggedByte.{IsPrefix, TaggedByte}
 use Rattle.recode.specs.Told.{Told, TellWhatPassed}
 use Rattle.recode.specs.WrittenItems.{StopsAtLoss}
+use Rattle.recode.specs.declared.job.Policy.{Policy}
 use Rattle.recode.specs.declared.job.Fault.{Fault}
 use Rattle.recode.specs.declared.job.Fault.TheVariants.{Log, Read, TooLong, Unmappable, Write}
 use Rattle.recode.specs.declared.job.Progress.{Progress}
@@ -143,15 +144,16 @@ module _ (j : Job) (x rest output log : List ℕ) (t' : Devices) (tells : TellWh
 pub told_fault : (j : Job) (x : List ℕ) (t' : Devices) (f : Fault) → Fails devices_before t' j f
     → (Fails devices_before t' j TooLong → j.limit < length x)
     → ((g : Fault) → Fails devices_before t' j g → WrotePrefix devices_before.written t'.written j.policy g (trace j x))
-    → ((index scalar : ℕ) (taken : List TaggedByte) → StopsAtLoss j.policy index scalar taken (trace j x) → take 1 (lost_log_lines (target_of j) 0 (input_text j x)) ≡ Lost index scalar ∷ [])
+    → ((index scalar : ℕ) (taken : List TaggedByte) → StopsAtLoss index scalar taken (trace j x) → j.policy ≡ Policy.Stop)
+    → ((index scalar : ℕ) (taken : List TaggedByte) → StopsAtLoss index scalar taken (trace j x) → take 1 (lost_log_lines (target_of j) 0 (input_text j x)) ≡ Lost index scalar ∷ [])
     → TellsFault j x f
-told_fault j x t' Read fails long wrote first = tt
-told_fault j x t' Write fails long wrote first = tt
-told_fault j x t' Log fails long wrote first = tt
-told_fault j x t' TooLong fails long wrote first = long fails
-told_fault j x t' (Unmappable index scalar) fails long wrote first =
-    let stopped : StopsAtLoss j.policy index scalar (wrote (Unmappable index scalar) fails).taken (trace j x) = (wrote (Unmappable index scalar) fails).stopped index scalar refl in
-    (stopped.policy, first index scalar (wrote (Unmappable index scalar) fails).taken stopped)
+told_fault j x t' Read fails long wrote stops first = tt
+told_fault j x t' Write fails long wrote stops first = tt
+told_fault j x t' Log fails long wrote stops first = tt
+told_fault j x t' TooLong fails long wrote stops first = long fails
+told_fault j x t' (Unmappable index scalar) fails long wrote stops first =
+    let stopped : StopsAtLoss index scalar (wrote (Unmappable index scalar) fails).taken (trace j x) = (wrote (Unmappable index scalar) fails).stopped index scalar refl in
+    (stops index scalar (wrote (Unmappable index scalar) fails).taken stopped, first index scalar (wrote (Unmappable index scalar) fails).taken stopped)
 
 -- a pivot of that kind and size holds any character, too
 still_roomy : (p q : Pivot) → capacity q ≡ capacity p → is_wide q ≡ is_wide p → HoldsAnyCharacter p → HoldsAnyCharacter q

@@ -166,7 +166,7 @@ written_when_too_long before after limit s h grew =
 -- a policy that writes references stops at a character without bytes
 stop_under_decimal : (before after : Devices) (limit : ℕ) (s : State) → Stops before after limit s (Unmappable 0 232) → s.policy ≡ Policy.Decimal → ⊥
 stop_under_decimal before after limit s h decimal =
-    let stop : s.policy ≡ Policy.Stop = ((h.pays.left [] (λ last. refl)).stopped 0 232 refl).policy in cc
+    let stop : s.policy ≡ Policy.Stop = (h.pays.left [] (λ last. refl)).policy 0 232 refl in cc
 
 -- a failed read is taken for the end
 failed_read_is_the_end : (reader reader' writer writer' log log' : Counted ℕ) → StepCalls reader reader' writer writer' log log' 4 (Ok Done)

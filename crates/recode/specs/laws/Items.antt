@@ -113,7 +113,7 @@ bad_line_count-form : (ref : Reference) (i : ℕ) (f : Form) → bad_line_count 
 bad_line_count-form ref i (Mapped bs) = bad_line_count-bytes bs
 bad_line_count-form ref i (Unmapped c) = bad_line_count-bytes (reference_bytes ref c)
 
-bad_line_count-open : (ref : Reference) (e : Coding) (s : EscapeState) (i : ℕ) (t : List ℕ) → bad_line_count (open_items ref e s i t) ≡ 0
+pub bad_line_count-open : (ref : Reference) (e : Coding) (s : EscapeState) (i : ℕ) (t : List ℕ) → bad_line_count (open_items ref e s i t) ≡ 0
 bad_line_count-open ref e s i [] = refl
 bad_line_count-open ref e s i (c ∷ t) =
     let rest : List Item = open_items ref e (e.set s c) (i + 1) t in

@@ -1,7 +1,7 @@
 use Rattle.std.proofs.Common.{Err, Ok, refl, sym, ◌∙◌}
 use Rattle.recode_log.specs.laws.Told.{taken_then}
 use Rattle.recode.specs.Devices.{ports}
-use Rattle.recode.proofs.StepLemmas.{converts_of, conversion}
+use Rattle.recode.proofs.StepLemmas.{converts_of, conversion, faults_of}
 use Rattle.recode.proofs.TellLemmas.{tells_more}
 use Rattle.recode.proofs.conversion.convert.Goals as goal
 
@@ -31,6 +31,15 @@ returns-then-report-clause-converts g c is = converts_of _ _ _ _ _ (returns-then
 
 pub returns-else-report-clause-converts : goal.returns-else-report-clause-converts
 returns-else-report-clause-converts g c is = converts_of _ _ _ _ _ (returns-else-report-clause-conversion g c) is
+
+pub returns-then-report-clause-faults : goal.returns-then-report-clause-faults
+returns-then-report-clause-faults g c is = faults_of _ _ _ _ _ (returns-then-report-clause-conversion g c) is
+
+pub returns-else-report-clause-faults : goal.returns-else-report-clause-faults
+returns-else-report-clause-faults g c is = faults_of _ _ _ _ _ (returns-else-report-clause-conversion g c) is
+
+pub returns-in-Err-clause-faults : goal.returns-in-Err-clause-faults
+returns-in-Err-clause-faults g c is = faults_of _ _ _ _ _ (returns-in-Err-clause-conversion g c) is
 
 -- Of devices that say what bytes they hold.
 

@@ -7,7 +7,7 @@ use Rattle.recode_log.specs.laws.Told.{none_yet}
 use Rattle.recode.proofs.TellLemmas.{completes_told, fails_told, none_yet_on, reads_on, reads_start, run_calls, tells_none, tells_then}
 use Rattle.recode.proofs.WriterLemmas.{kept_enough, kept_on, kept_start}
 use Rattle.recode.proofs.LatencyLemmas.{new_settled}
-use Rattle.recode.proofs.StepLemmas.{goes_on_start, goes_on_more, goes_on_finish, goes_on_stop, completes, fails}
+use Rattle.recode.proofs.StepLemmas.{goes_on_start, goes_on_more, goes_on_finish, goes_on_stop, completes, fails, fails_decided}
 use Rattle.recode.proofs.session.run.Goals as goal
 
 pub run-init : goal.run-init
@@ -71,7 +71,12 @@ returns-in-Ok-Done-clause-work g c =
 
 pub returns-in-Err-clause-fails : goal.returns-in-Err-clause-fails
 returns-in-Err-clause-fails g c =
-    fails _ _ c.args.job (view_of c.new-session.result) _ c.new-session.ensures
+    fails _ _ c.args.job (view_of c.new-session.result) _ c.requires.job c.new-session.ensures
+    (goes_on_stop _ _ _ _ _ _ _ c.run.invariant.ran (rw (ap (λ (j : Job). j.limit) c.run.invariant.job) at c.in-Err.ensures.fault))
+
+pub returns-in-Err-clause-decided : goal.returns-in-Err-clause-decided
+returns-in-Err-clause-decided g c =
+    fails_decided _ _ c.args.job (view_of c.new-session.result) _ c.requires.job c.new-session.ensures
     (goes_on_stop _ _ _ _ _ _ _ c.run.invariant.ran (rw (ap (λ (j : Job). j.limit) c.run.invariant.job) at c.in-Err.ensures.fault))
 
 pub returns-in-Ok-Done-clause-buffers : goal.returns-in-Ok-Done-clause-buffers

@@ -98,10 +98,10 @@ returns-in_err-step-clause-fault c =
     let j = c.args.job in
     let v = view_of c.steps.session in
     let stops : Stops t1 t2 j.limit v.state f = subst (λ (k : Job). Stops t1 t2 k.limit v.state f) s.job c.in_err-step.ensures.fault in
-    let fails : Fails t t2 j f = c.steps_are_a_run.ensures.fails t t1 t2 j (view_of c.new-session.result) v.state f c.new-session.ensures s.run stops in
+    let fails : Fails t t2 j f = c.steps_are_a_run.ensures.fails t t1 t2 j (view_of c.new-session.result) v.state f c.requires.job c.new-session.ensures s.run stops in
     let tells = c.devices_tell.ensures.goes_on t t1 t2 _ _ _ c.args.input.now refl c.steps.invariant.tells c.step.ensures.told.0 in
     let is = c.devices_tell.ensures.input c.args.input.now [] t2.reads _ _ refl tells.input in
     let told = err_from_is_err_and c.from_residual.result c.from_residual.ensures.1 in
     rw (told.1, told.2) (
     told_fault j c.args.input.now t2 f fails (c.known_input.ensures.too_long c.args.input.now t t2 j is) (λ (g : Fault). c.known_input.ensures.fails c.args.input.now t t2 j g is)
-    (c.stops_at_first_loss.ensures.fault j c.args.input.now))
+    (c.stops_at_first_loss.ensures.policy j c.args.input.now) (c.stops_at_first_loss.ensures.fault j c.args.input.now))
