@@ -122,7 +122,7 @@ def which(
     indexes: Optional[Indexes] = None,
     progress: Optional[Callable[[int], object]] = None,
 ) -> Which:
-    """Tells how each of the 40 encodings reads an input: bytes, a path or a binary file, of which only a chunk is in memory.
+    """Reports how each of the 40 encodings reads an input: bytes, a path or a binary file, of which only a chunk is in memory.
     `progress` is called after each chunk with the number of bytes read so far.
 
     Encodings that decode the input to the same text with the same number of malformed sequences are one `Reading`. A

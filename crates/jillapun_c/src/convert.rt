@@ -28,8 +28,8 @@ use std::alloc::Global;
 /// - `ROOM`: `dst` or `losses` is too small, and each holds the beginning of its output. Call again
 ///   with space for `written` bytes and `losses` records.
 /// - `STOPPED`: the policy is `STOP`, and the report gives the unmappable character. Everything
-///   before it was converted, with the escape sequence that would precede a reference, and its
-///   record is the last.
+///   before it was converted, with the escape sequence that would precede a reference, and the
+///   record of the character is the last.
 ///
 /// Errors: `UNKNOWN`, `NOT_READY`; `TOO_LONG` if `src` is longer than the limit.
 #[unsafe(no_mangle)]

@@ -17,8 +17,8 @@ use crate::encoding_number::encoding_of;
 use crate::status::{NOT_READY, OK, Status, UNKNOWN};
 use crate::tables_handle::TablesHandle;
 
-/// Begins a new text in the output encoding of an encoding (section 4.3). Errors: `UNKNOWN`,
-/// `NOT_READY`.
+/// Begins to encode a new text into the output encoding of `encoding` (section 4.3). Errors:
+/// `UNKNOWN`, `NOT_READY`.
 #[unsafe(no_mangle)]
 pub extern "C" fn jillapun_encoder_new(
     tables: TablesHandle,

@@ -92,8 +92,8 @@ pub extern "C" fn jillapun_output_encoding(encoding: u8) -> u8
     }
 }
 
-/// Returns whether every character is one byte: true for the single-byte encodings of section 9, in
-/// which a byte without an index entry is malformed, and for x-user-defined (section 14.5).
+/// Returns whether every character is one byte: true for the single-byte encodings of section 9 and
+/// for x-user-defined (section 14.5).
 #[unsafe(no_mangle)]
 pub extern "C" fn jillapun_is_single_byte(encoding: u8) -> bool
     ensures { MatchOption (encoding_at encoding) (result ≡ false)
@@ -133,8 +133,8 @@ pub extern "C" fn jillapun_can_encode_everything(encoding: u8) -> bool
 }
 
 /// Writes the file name of an index that the encoding needs, such as `index-jis0208.txt`, without a
-/// terminating NUL, and returns its length in bytes, at most 30. `place` counts the indexes that
-/// the encoding needs from 0; the result is 0 if there is no further one.
+/// terminating NUL, and returns its length in bytes, at most 30. `place` is the number of the index
+/// among those needed, from 0; the result is 0 if there is none.
 #[unsafe(no_mangle)]
 pub extern "C" fn jillapun_needs(encoding: u8, place: usize, name: &mut [u8]) -> usize
     ensures { WritesIfAny (needed_file encoding place) name.old name.new result }
@@ -149,7 +149,8 @@ pub extern "C" fn jillapun_needs(encoding: u8, place: usize, name: &mut [u8]) ->
 }
 
 /// Checks whether `tables` has all indexes that an encoding needs. UTF-8, UTF-16BE, UTF-16LE,
-/// replacement and x-user-defined need none. Returns `OK`, `NOT_READY` or `UNKNOWN`.
+/// replacement and x-user-defined need none. Returns `OK` if it has them, else `NOT_READY` or
+/// `UNKNOWN`.
 #[unsafe(no_mangle)]
 pub extern "C" fn jillapun_tables_is_ready(tables: TablesHandle, encoding: u8) -> Status
     ensures { IsReadyStatus (held_lists tables.tables) encoding result }

@@ -15,9 +15,9 @@ use crate::report::Report;
 use crate::status::{BAD, LOST, NO_ENCODING};
 use encoding_front::{Encoding, Mark};
 
-/// Returns the encoding from which each part of an input but the first can be converted separately,
-/// with `KEEP`; `NO_ENCODING` if the input cannot be split. The first part is converted as the
-/// whole would be. Each part but the last must end in a byte below 0x30, such as a line feed.
+/// Returns the encoding to pass as `from`, with `KEEP`, to convert each part of an input but the
+/// first; `NO_ENCODING` if the input cannot be split. The first part is converted as the whole
+/// would be. Each part but the last must end in a byte below 0x30, such as a line feed.
 ///
 /// `first` is the beginning of the input: three bytes or more, or all if it has fewer. `from`, `to`
 /// and `mark` are as for `jillapun_convert`. The result is the encoding of a BOM that `mark`
@@ -28,9 +28,9 @@ use encoding_front::{Encoding, Mark};
 /// If the whole is within the limit, which is checked for each part alone, the outputs of the
 /// parts, concatenated, are the output for the whole. So are the records, moved by
 /// `jillapun_join_loss`, and the reports, added by `jillapun_join_reports`. If no part lost
-/// anything, the whole lost nothing. If the policy stops a part, this is the last, and its report
-/// is not added: the stop of the whole has its `scalar`, and its `index` plus the `characters` of
-/// the parts before it.
+/// anything, the whole lost nothing. If the policy stops a part, it is the last. Do not add its
+/// report: its `scalar` holds for the whole, and so does its `index` plus the `characters` of the
+/// earlier parts.
 #[unsafe(no_mangle)]
 pub extern "C" fn jillapun_part_encoding(from: u8, to: u8, mark: u8, first: &[u8]) -> u8
     ensures { MatchOption (encoding_of_parts_at from to mark first.now) (result ≡ NO_ENCODING)
@@ -100,7 +100,7 @@ pub extern "C" fn jillapun_join_loss(before: &Report, loss: &mut Loss) -> bool
 
 /// Adds the report of the next part to that of the parts before it: `read`, `bad`, `lost`,
 /// `characters`, `written` and `losses`; `index` and `scalar` are unchanged. The status of both is
-/// `LOSSY` if that of one is.
+/// `LOSSY` if either is.
 ///
 /// Returns whether it did so. Otherwise nothing is changed: a sum would be 2^64 or more, which
 /// parts of an input within a limit never reach.

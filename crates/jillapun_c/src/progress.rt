@@ -19,7 +19,7 @@ pub struct Progress {
     pub outcome: u8,
     /// At `MALFORMED`, the length of the malformed sequence in bytes, 1 to 4; else 0.
     pub malformed_length: u8,
-    /// At `MALFORMED`, the bytes read after the sequence, 0 to 3; else 0.
+    /// At `MALFORMED`, the number of bytes read after the sequence, 0 to 3; else 0.
     pub malformed_after: u8,
     /// Whether U+FFFD was written for a malformed sequence.
     pub had_errors: bool,

@@ -4,11 +4,11 @@ ghost use Rattle.jillapun_c.specs.Conversions.{IsToldReport, IsToldStop};
 
 use crate::status::{LOSSY, OK, STOPPED};
 
-/// What a conversion reports beside its status.
+/// What a conversion reports besides its status.
 #[repr(C)]
 #[derive(Clone, Copy)]
 pub struct Report {
-    /// Bytes of the input. This and the next three are 0 except at `OK` and `LOSSY`.
+    /// Bytes of the input. `read`, `bad`, `lost` and `characters` are 0 except at `OK` and `LOSSY`.
     pub read: u64,
     /// Malformed sequences in the input.
     pub bad: u64,
@@ -17,8 +17,8 @@ pub struct Report {
     /// Characters of the text, with a U+FFFD for each malformed sequence and without a removed BOM.
     /// `jillapun_join_loss` adds them to places in later parts.
     pub characters: u64,
-    /// For `jillapun_convert`, bytes written to `dst` or, at `ROOM`, needed (`SIZE_MAX` if more); 0
-    /// for a converter, whose calls report it.
+    /// For `jillapun_convert`, bytes written to `dst` or, at `ROOM`, needed (`SIZE_MAX` if they do
+    /// not fit); 0 for a converter, whose calls report theirs.
     pub written: u64,
     /// Likewise, records of losses.
     pub losses: u64,

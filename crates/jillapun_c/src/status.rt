@@ -15,7 +15,8 @@ pub const LOSSY: u8 = 1;
 pub const UNKNOWN: u8 = 2;
 /// The tables lack an index that the encoding needs: load its file.
 pub const NOT_READY: u8 = 3;
-/// The text of an index file is invalid, or its index was loaded before. The fault has the line.
+/// The text of an index file is invalid (the fault has the line), or an earlier file of the call is
+/// of the same index.
 pub const BAD_INDEX: u8 = 4;
 /// Memory allocation failed. Nothing was loaded, and the call can be repeated.
 pub const NO_MEMORY: u8 = 5;
@@ -23,12 +24,12 @@ pub const NO_MEMORY: u8 = 5;
 pub const CLOSED: u8 = 6;
 /// The handle to be filled is not empty.
 pub const IN_USE: u8 = 7;
-/// The stream has ended: an earlier call returned its end.
+/// The stream has ended: an earlier call reported its end.
 pub const FINISHED: u8 = 8;
 /// The text is not UTF-8 or, for an encoder, the rest of the text begins with a malformed sequence.
 pub const NOT_UTF8: u8 = 9;
 /// A buffer is too small and holds only the beginning of the output. The report, or `written`,
-/// gives the length needed: everything was converted to find it.
+/// gives the space needed: everything was converted to find it.
 pub const ROOM: u8 = 10;
 /// The conversion is not finished: call again, with the bytes that follow or with free space.
 pub const GOES_ON: u8 = 11;
@@ -52,7 +53,7 @@ pub const MALFORMED: u8 = 2;
 /// An unmappable character was read, and nothing was written for it.
 pub const UNMAPPABLE: u8 = 3;
 
-// Handling of a BOM at the start of an input.
+// Handling of a byte order mark (BOM) at the start of an input.
 
 /// The BOM of UTF-8, UTF-16BE or UTF-16LE selects the encoding and is removed.
 pub const SNIFF: u8 = 0;
@@ -61,7 +62,7 @@ pub const REMOVE: u8 = 1;
 /// No BOM is looked for; one is decoded as text.
 pub const KEEP: u8 = 2;
 
-// What is written for an unmappable character.
+// Policies: what is written for an unmappable character.
 
 /// A decimal numeric character reference: `&#26085;`.
 pub const DECIMAL: u8 = 0;
@@ -74,7 +75,7 @@ pub const STOP: u8 = 2;
 
 /// A malformed sequence of the input: its offset and its length in bytes.
 pub const BAD: u8 = 0;
-/// An unmappable character: its index in the text, in characters, and its code point.
+/// An unmappable character: its position in the text, in characters, and its code point.
 pub const LOST: u8 = 1;
 
 // Kinds of text, for layout.
@@ -86,9 +87,9 @@ pub const LEFT_TO_RIGHT: u32 = 1;
 /// Some character may be right-to-left, or the bytes are not UTF-8.
 pub const BIDI: u32 = 2;
 
-// Values for no encoding and no length.
+// Values in place of an encoding or a length.
 
-/// No encoding. Encodings are numbered from 0 in the order of their names.
+/// No encoding.
 pub const NO_ENCODING: u8 = 255;
 /// In place of a length: no encoding has the number, the input is not valid for the function, or
 /// the length does not fit into a `size_t`.

@@ -15,8 +15,9 @@ use encoding_tables::Tables;
 use std::marker::Model;
 use std::{mem, ptr};
 
-/// The tables of loaded indexes. Pass `{0}`, which has none, for encodings that need no index.
-/// Tables are never changed or freed, so any number of threads may share them.
+/// Loaded indexes: tables of the standard that map numbers to characters (section 5). Pass `{0}`,
+/// which has none, for encodings that need no index. Tables are never changed or freed, so any
+/// number of threads may share them.
 #[repr(C)]
 #[derive(Drop)]
 pub struct TablesHandle {

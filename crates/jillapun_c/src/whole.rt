@@ -31,8 +31,8 @@ use std::str;
 /// - `OK`: no sequence was malformed.
 /// - `LOSSY`: a malformed sequence was replaced.
 /// - `ROOM`: `dst` is too small and holds only the beginning of the text. `decoded` is as after a
-///   call with enough space: call again with `written` bytes or, if the text `is_own`, use the
-///   input.
+///   call with enough space: call again with space for `written` bytes or, if the text `is_own`,
+///   use the input.
 ///
 /// Errors: `UNKNOWN`, `NOT_READY`. `decoded` then has `NO_ENCODING` and is otherwise 0.
 #[unsafe(no_mangle)]
@@ -146,15 +146,16 @@ fn decode_input(
     Ok(whole)
 }
 
-/// Encodes a whole text in UTF-8 into the output encoding of an encoding ("encode", section 6),
-/// with a decimal numeric character reference (`&#8364;`) for each unmappable character. Stores the
-/// length of the output in bytes in `written`, or `SIZE_MAX` if it is longer. `dst` after the
+/// Encodes a whole text in UTF-8 into the output encoding of `encoding` ("encode", section 6), with
+/// a decimal numeric character reference (`&#8364;`) for each unmappable character. Stores the
+/// length of the output in bytes in `written`, or `SIZE_MAX` if it does not fit. `dst` after the
 /// output is unchanged.
 ///
-/// - `OK`: no character was unmappable.
+/// - `OK`: no character was unmappable. One-way mappings are not reported; `jillapun_convert` does
+///   that.
 /// - `LOSSY`: a reference was written.
-/// - `ROOM`: `dst` is too small and holds only the beginning of the output. Call again with
-///   `written` bytes.
+/// - `ROOM`: `dst` is too small and holds only the beginning of the output. Call again with space
+///   for `written` bytes.
 ///
 /// Errors: `NOT_UTF8`, `UNKNOWN`, `NOT_READY`.
 #[unsafe(no_mangle)]

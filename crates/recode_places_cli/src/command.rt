@@ -31,9 +31,9 @@ Kinds of loss:
                                                    character reference, such as &#26085;
   in no character of ENCODING                      invalid sequence: recode wrote U+FFFD, or a
                                                    numeric character reference to it
-  is written as U+N in ENCODING                    one-way mapping: its bytes read back as that
+  is written as U+N in ENCODING                    one-way mapping: its bytes decode to that
                                                    character
-  is written as bytes of another text in ENCODING  one-way mapping: its bytes do not read back as a
+  is written as bytes of another text in ENCODING  one-way mapping: its bytes do not decode to a
                                                    single character
 
 Log: each line is reported, except that a line \"bad\" and the line \"lost\" for its U+FFFD are
@@ -44,8 +44,7 @@ reads no log and reports what recode would log. One-way mappings are not in the 
 status 1 and its log is empty, --folds shows them.
 
 Exit status:
-  0  there was nothing to report. Also after --help and --version, even if the text could not be
-     written
+  0  there was nothing to report. Also after --help and --version, even if printing failed
   1  at least one place was reported or counted
   2  the arguments are invalid
   3  INPUT or an index file is missing, an index file is invalid, or memory ran out at the start
@@ -61,7 +60,7 @@ Messages, at the end of standard error:
   recode-places: unknown label WORD                      status 2: no encoding has this label;
                                                          \"recode --list\" prints all labels
   recode-places: a word is not UTF-8                     status 2: an argument is not valid UTF-8
-  recode-places: INPUT: missing                          status 3: INPUT can't be opened
+  recode-places: INPUT: missing                          status 3: INPUT cannot be opened
   recode-places: FILE: missing                           status 3: as for recode; set --indexes
   recode-places: FILE: line N: KIND                      status 3: as for recode
   recode-places: FILE: table: KIND                       status 3: as for recode

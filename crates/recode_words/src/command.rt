@@ -19,24 +19,23 @@ const USAGE: &str = "recode [OPTIONS] --from <LABEL> --to <LABEL> < INPUT > OUTP
 
 const AFTER_HELP: &str =
     "Labels: LABEL is any label of the Encoding Standard, in upper or lower case, such as utf-8,
-shift_jis or windows-1252. UTF-16 and replacement are written as UTF-8.
+shift_jis or windows-1252. With --to utf-16le, utf-16be or replacement, the output is UTF-8.
 
-Names: a label means what the standard says: iso-8859-1 and ascii are windows-1252. For iconv's
-CP932, CP936, CP949 and CP950, use shift_jis, gbk, euc-kr and big5. hz-gb-2312, iso-2022-cn and
-iso-2022-kr are replacement, which decodes any non-empty input to one U+FFFD. recode never guesses
-the encoding of the input. A file is UTF-8 if \"recode --from utf-8 --to utf-8 --mark keep\" exits
-with status 0.
+Names: a label means what the standard says: iso-8859-1 and ascii are windows-1252. The encodings
+nearest to iconv's CP932, CP936, CP949 and CP950 are shift_jis, gbk, euc-kr and big5. hz-gb-2312,
+iso-2022-cn and iso-2022-kr are replacement, which decodes any non-empty input to one U+FFFD. A file
+is UTF-8 if \"recode --from utf-8 --to utf-8 --mark keep\" exits with status 0.
 
-Index files: most encodings need one or two index files, index-NAME.txt, which are not built in.
-They are in the folder \"indexes\" of the source repository, and at
-https://encoding.spec.whatwg.org/index-NAME.txt. \"make install\" copies them to
-PREFIX/share/recode/indexes; the command that it installs uses that folder unless --indexes names
-another.
+Index files: most encodings need one or two tables of the standard, such as index-jis0208.txt for
+shift_jis, which are not built in; a message names one that is missing. They are in the folder
+\"indexes\" of the source repository, and at https://encoding.spec.whatwg.org/index-jis0208.txt and
+so on. \"make install\" copies them to PREFIX/share/recode/indexes, and the command that it installs
+takes them from there unless you give --indexes.
 
 Byte order mark (BOM) at the start of the input (--mark):
   sniff   a BOM of UTF-8, UTF-16LE or UTF-16BE overrides --from, and is removed
   remove  a BOM of the encoding of --from is removed
-  keep    a BOM is kept as text: U+FEFF if --from is its encoding
+  keep    no BOM is removed: one of the encoding of --from decodes to U+FEFF
 
 Unmappable characters, those that the output encoding lacks (--unmappable):
   decimal      write the numeric character reference &#N;, such as &#26085;
@@ -48,18 +47,19 @@ Log, on standard error, a line for each invalid sequence and each unmappable cha
                      UTF-8 and gb18030 can encode U+FFFD: with another output encoding a line
                      \"lost\" follows
   lost INDEX SCALAR  the character at INDEX of the decoded text, whose code point is SCALAR, is
-                     unmappable; to ISO-2022-JP, SCALAR is 65533 for U+000E, U+000F and U+001B
+                     unmappable; with --to iso-2022-jp, SCALAR is 65533 for U+000E, U+000F and
+                     U+001B
 The lines are in the order of the text. Numbers are decimal. OFFSET counts bytes from the start of
-the input, including a BOM. INDEX counts characters of the text, from 0. \"recode-places\" shows the
-line and column of each loss.
+the input, including a BOM. INDEX counts code points of the text, from 0, without a removed BOM.
+\"recode-places\" shows the line and column of each loss.
 
 Exit status:
-  0  all was converted, and nothing was lost: the input has no invalid sequence, and the output
-     reads back as the text of the input. Also after --help, --version and --list, even if the text
-     could not be written
-  1  all was converted, and something was lost. The log lists it, except for one-way mappings:
-     characters that read back as others, such as U+00A5, which Shift_JIS writes as the byte 5C.
-     Shift_JIS, EUC-JP, ISO-2022-JP, gb18030 and GBK have one-way mappings;
+  0  everything was converted, and nothing was lost: the input has no invalid sequence, and the
+     output decodes to the text of the input. Also after --help, --version and --list, even if
+     printing failed
+  1  everything was converted, and something was lost. The log lists it, except for one-way
+     mappings: characters that decode to others, such as U+00A5, which Shift_JIS writes as the byte
+     0x5C. Shift_JIS, EUC-JP, ISO-2022-JP, gb18030 and GBK have one-way mappings;
      \"recode-places --folds\" shows where they occur
   2  the arguments are invalid, or standard output is the input file
   3  an index file is missing or invalid, or memory ran out at the start
@@ -67,9 +67,8 @@ Exit status:
      or --unmappable stop found an unmappable character
 Status 0 has two limits. It does not say that --from is right: in windows-1252, for example, any
 bytes are valid. \"jillapun which FILE\" shows in which encodings a file is valid. And the output is
-read back with byte order marks kept: text that begins with U+00EF U+00BB U+00BF converts to
-windows-1252 with status 0, although a reader that sniffs takes these bytes, EF BB BF, for the BOM
-of UTF-8.
+decoded as with --mark keep: text that begins with U+00EF U+00BB U+00BF converts to windows-1252
+with status 0, although a reader that sniffs takes these bytes, EF BB BF, for the BOM of UTF-8.
 
 Messages, at the end of standard error:
   error: TEXT                                status 2: the arguments are invalid; more lines follow
@@ -78,14 +77,14 @@ Messages, at the end of standard error:
                                              by its number, such as <U+001B>
   recode: a word is not UTF-8                status 2: an argument is not valid UTF-8
   recode: standard output is the input file  status 2: write to another file
-  recode: FILE: missing                      status 3: the index file is not in the folder
-                                             of --indexes (by default the current one), can't be
-                                             read or has more than 2^24 bytes; set --indexes
+  recode: FILE: missing                      status 3: the index file is not in the folder of
+                                             --indexes, cannot be read or has more than 2^24 bytes;
+                                             set --indexes
   recode: FILE: line N: KIND                 status 3: the index file is invalid at this line: not a
-                                             row (Row), a pointer out of order (Order) or out of
-                                             range (Pointer); use the standard's file
+                                             row (Row), its number not above the one before (Order)
+                                             or outside the index (Pointer); use the standard's file
   recode: FILE: table: KIND                  status 3: the index has an invalid entry (Entry), one
-                                             at a pointer that Shift_JIS reserves (Reserved) or
+                                             at a number that Shift_JIS reserves (Reserved) or
                                              invalid ranges (Ranges); use the standard's file
   recode: out of memory                      status 3: memory ran out at the start
   recode: read fault                         status 4: reading standard input failed
@@ -96,7 +95,7 @@ Messages, at the end of standard error:
                                              last line \"lost\", which has the same numbers
 A second line, \"recode: REASON\", follows an unknown label (with its option), a missing index file
 (with its path and the cause), and a read, write or log fault (with the stream and the error of the
-system), but not a broken pipe.";
+system); a broken pipe has none.";
 
 // `--name VALUE`, which has to be there.
 fn required_option<'a>(alloc: Global, name: &'a str, value_name: &'a str, help: &'a str) -> Arg<'a>
@@ -180,14 +179,14 @@ pub(crate) fn command<'a>(alloc: Global) -> Result<Command<'a>, AllocError>
             "pivot",
             "utf8",
             "FORM",
-            "Intermediate form: utf8 or utf16, with the same output",
+            "Form of the text in between: utf8 or utf16, with the same output",
         ))?
         .arg(default_option(
             alloc,
             "limit",
             "281474976710656",
             "N",
-            "Input limit in bytes, 0 to the default",
+            "Largest input in bytes, at most the default",
         ))?
         .arg(list_flag(alloc))
 }

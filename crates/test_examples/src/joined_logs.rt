@@ -63,6 +63,19 @@ impl<'a> Read for Broken<'a> {
     }
 }
 
+// Joins a log that is refused for this fault, after these bytes.
+fn refuses<R: Read>(reader: R, fault: JoinFault, joined: &[u8], alloc: Global) -> bool {
+    let mut part = Counted::new(reader);
+    let mut whole = Counted::new(Vec::new(alloc));
+    let before = Before {
+        bytes: 1000,
+        characters: 900,
+    };
+    join_log(&mut part, before, &mut whole) == Err(fault)
+        && part.failures() == u64::from(fault == JoinFault::Read)
+        && whole.get_ref().as_slice() == joined
+}
+
 /// Joins logs whose reader fails: before a line, between two lines, and in a line. Each is refused,
 /// after the lines that were read.
 pub(crate) fn refuses_a_broken_log(alloc: Global) -> bool {
@@ -72,16 +85,24 @@ pub(crate) fn refuses_a_broken_log(alloc: Global) -> bool {
         (b"bad 6 1\nlost 7 12", b"bad 1006 1\n"),
     ];
     for (bytes, joined) in rows {
-        let mut part = Counted::new(Broken { bytes });
-        let mut whole = Counted::new(Vec::new(alloc));
-        let before = Before {
-            bytes: 1000,
-            characters: 900,
-        };
-        if join_log(&mut part, before, &mut whole) != Err(JoinFault::Read)
-            || part.failures() != 1
-            || whole.get_ref().as_slice() != joined
-        {
+        if !refuses(Broken { bytes }, JoinFault::Read, joined, alloc) {
+            return false;
+        }
+    }
+    true
+}
+
+/// Joins texts that end within a line, or have a line that is none of a log. Each is refused, after
+/// the lines before it.
+pub(crate) fn refuses_a_text(alloc: Global) -> bool {
+    let rows: [(&[u8], &[u8]); 4] = [
+        (b"bad 6 1", b""),
+        (b"bad 6 1\nlost 7 12", b"bad 1006 1\n"),
+        (b"bad 6 1\nrecode: read fault\n", b"bad 1006 1\n"),
+        (b"bad 281474976710000 1\n", b""),
+    ];
+    for (text, joined) in rows {
+        if !refuses(text, JoinFault::NotALog, joined, alloc) {
             return false;
         }
     }

@@ -221,6 +221,7 @@ fn main(rt: HostRuntime) -> anyhow::Result<()> {
     print(rt, "recode_parts", joined_logs::joins_a_log(alloc)?)?;
     print(rt, "a long log", joined_logs::joins_a_long_log(alloc)?)?;
     print(rt, "a broken log", joined_logs::refuses_a_broken_log(alloc))?;
+    print(rt, "no log", joined_logs::refuses_a_text(alloc))?;
     print(rt, "recode_words", streams::reads_words(alloc)?)?;
     print(rt, "recode", conversions::converts_a_stream(alloc)?)?;
     print(rt, "recode_places_report", reports::reports_a_place(alloc)?)?;

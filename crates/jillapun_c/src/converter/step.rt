@@ -63,16 +63,16 @@ impl Converter<'_> {
 /// next call.
 ///
 /// - `GOES_ON`: call again. If `progress` says `wants_room`, pass free space and the unread bytes
-///   of `src`, which others may follow. Otherwise all of `src` was read, and all output that it
-///   determines was written: pass the bytes that follow.
+///   of `src`, with or without more after them. Otherwise all of `src` was read, and all output
+///   that is certain was written: pass the bytes that follow.
 /// - `OK`: everything was converted and written. No sequence was malformed, and the output decodes
 ///   to the text of the input. The report has the counts.
 /// - `LOSSY`: as `OK`, but something was lost.
 /// - `STOPPED`: as for `jillapun_convert`.
 /// - `TOO_LONG`: the input is longer than the limit. Everything within the limit was converted.
 ///
-/// Errors: `CLOSED`; `FINISHED` after a call that returned one of the last four. Keep the report of
-/// that call: this one is 0.
+/// Errors: `CLOSED`; `FINISHED` after a call that returned one of the last four statuses above.
+/// Keep the report of that call: later ones are 0.
 ///
 /// At `OK`, `LOSSY` and `STOPPED` the outputs of all calls, concatenated, are the output of
 /// `jillapun_convert` for the input passed, without a limit, and so are the records, however the

@@ -28,8 +28,9 @@ pub extern "C" fn jillapun_decoder_encoding(decoder: &DecoderHandle) -> u8
     }
 }
 
-/// Stores in `length` a buffer length in bytes sufficient to decode the pending bytes and `n` more
-/// with `jillapun_decoder_decode_to_utf8`; `SIZE_MAX` if it does not fit into a `size_t`.
+/// Stores in `length` a buffer length in bytes sufficient to decode the bytes kept from earlier
+/// calls and `n` more with `jillapun_decoder_decode_to_utf8`; `SIZE_MAX` if it does not fit into a
+/// `size_t`.
 ///
 /// Returns `OK`, `CLOSED` or `FINISHED`.
 #[unsafe(no_mangle)]
@@ -73,13 +74,14 @@ pub extern "C" fn jillapun_decoder_max_utf16_length(
     decoder.room(OutputUnit::Units, n, length)
 }
 
-/// Stores in `length` how many of `bytes`, if they come next in the stream, decode to the
-/// characters with the same numbers, as in Latin1. The caller may copy these and pass only the
-/// rest. The count is the greatest possible for a single-byte encoding; for others it ends before
-/// the first byte that is not ASCII, and for ISO-2022-JP also before the first 0x0E, 0x0F or 0x1B.
+/// Stores in `length` how many of `bytes`, if they come next in the stream, decode to the code
+/// points that equal the bytes. The caller may copy these and pass only the rest. The count is the
+/// greatest possible for a single-byte encoding; for others it ends before the first byte that is
+/// not ASCII, and for ISO-2022-JP also before the first 0x0E, 0x0F or 0x1B.
 ///
-/// `length` is `SIZE_MAX` if the count is not known: a BOM may still come, bytes are pending,
-/// ISO-2022-JP is not in ASCII mode, or the encoding is UTF-16BE, UTF-16LE or replacement.
+/// `length` is `SIZE_MAX` if the count is not known: a BOM may still come, bytes are kept from
+/// earlier calls, ISO-2022-JP is not in ASCII mode, or the encoding is UTF-16BE, UTF-16LE or
+/// replacement.
 ///
 /// Returns `OK`, `CLOSED` or `FINISHED`.
 #[unsafe(no_mangle)]

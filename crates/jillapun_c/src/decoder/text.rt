@@ -1,4 +1,4 @@
-//! Decoding to UTF-8 over a text.
+//! Decoding to UTF-8 in a buffer of valid UTF-8.
 
 ghost use Rattle.std.specs.Prelude.{◌≡◌, ◌≢◌};
 ghost use Rattle.encoding_mem.specs.declared.codec.room.OutputUnit.TheVariants.{Bytes, Replaced};

@@ -7,7 +7,7 @@ use crate::tables_handle::TablesHandle;
 use encoding_front::{Encoder, Encoding, SavedEncoder};
 use encoding_mem::form::EscapeState;
 
-/// An encoder of one text at a time, begun by `jillapun_encoder_new`.
+/// An encoder of a text, begun by `jillapun_encoder_new`.
 #[repr(C)]
 #[derive(Drop)]
 pub struct EncoderHandle {

@@ -39,8 +39,8 @@ pub extern "C" fn jillapun_encoder_has_pending_state(encoder: &EncoderHandle) ->
 }
 
 /// Stores in `length` a buffer length in bytes sufficient to encode `n` bytes of UTF-8 with
-/// `jillapun_encoder_encode_from_utf8` if no character is unmappable; `SIZE_MAX` if it does not fit
-/// into a `size_t`.
+/// `jillapun_encoder_encode_from_utf8`, and the final escape sequence, if no character is
+/// unmappable; `SIZE_MAX` if it does not fit into a `size_t`.
 ///
 /// Returns `OK` or `CLOSED`.
 #[unsafe(no_mangle)]
@@ -65,7 +65,7 @@ pub extern "C" fn jillapun_encoder_max_length_from_utf8_if_no_unmappables(
 }
 
 /// Like `jillapun_encoder_max_length_from_utf8_if_no_unmappables`, for
-/// `jillapun_encoder_encode_from_utf8_without_replacement`, the final escape sequence included.
+/// `jillapun_encoder_encode_from_utf8_without_replacement`.
 #[unsafe(no_mangle)]
 pub extern "C" fn jillapun_encoder_max_length_from_utf8_without_replacement(
     encoder: &EncoderHandle,

@@ -17,8 +17,8 @@ use crate::progress::outcome_of;
 use crate::status::{CLOSED, NOT_UTF8, OK, Status};
 
 /// Encodes the next part of a text in UTF-8, with a decimal numeric character reference (`&#8364;`)
-/// for each unmappable character. `last` says that the text ends with `text`: then the final escape
-/// sequence is written too, and a new text may follow. `dst` after the output is unchanged.
+/// for each unmappable character. `last` says that `text` ends it: then the final escape sequence
+/// is written too, and a new text may follow. `dst` after the output is unchanged.
 ///
 /// At `OK` `progress` has the counts and an outcome:
 ///
@@ -26,8 +26,8 @@ use crate::status::{CLOSED, NOT_UTF8, OK, Status};
 /// - `OUTPUT_FULL`: something is left to do. Call again with free space, the unread text and the
 ///   same `last`, even if no text is unread.
 ///
-/// Errors: `NOT_UTF8`, if `text` begins with a malformed sequence or an incomplete character;
-/// otherwise `CLOSED`.
+/// Errors: `CLOSED`; `NOT_UTF8` if `text` begins with a malformed sequence or an incomplete
+/// character.
 ///
 /// 14 bytes of `dst` always suffice to continue: unless the encoding is UTF-8, the last 10 bytes
 /// are reserved for a reference.
@@ -36,8 +36,8 @@ use crate::status::{CLOSED, NOT_UTF8, OK, Status};
 /// sequence: the call that reaches it ends with `OUTPUT_FULL`, whatever the length of `dst`, and
 /// the next call, with the unread text, returns `NOT_UTF8`.
 ///
-/// A call examines at most as many bytes of `text` as `dst` has, or 4 times as many if the encoding
-/// is not UTF-8, and 7 more: it takes no longer if more text is passed.
+/// A call examines at most `dst_len` + 7 bytes of `text`, or 4 * `dst_len` + 7 if the encoding is
+/// not UTF-8: it takes no longer if more text is passed.
 #[unsafe(no_mangle)]
 pub extern "C" fn jillapun_encoder_encode_from_utf8(
     encoder: &mut EncoderHandle,

@@ -11,7 +11,7 @@ use encoding_mem::Latin1Bidi;
 /// Returns whether a character, given as its code point, is in a block of right-to-left characters
 /// or is a control that begins a right-to-left run: U+0590 to U+08FF, U+200F, U+202B, U+202E,
 /// U+2067, U+FB1D to U+FDFF, U+FE70 to U+FEFE, U+10800 to U+10FFF and U+1E800 to U+1EFFF. False for
-/// a number that is no character.
+/// all other numbers.
 #[unsafe(no_mangle)]
 pub extern "C" fn jillapun_mem_is_char_bidi(c: u32) -> bool
     ensures { IsTrue result ↔ IsTrue (is_bidi_char c) }
@@ -23,7 +23,7 @@ pub extern "C" fn jillapun_mem_is_char_bidi(c: u32) -> bool
 }
 
 /// Returns whether a UTF-16 code unit is a character for which `jillapun_mem_is_char_bidi` returns
-/// true, or the high surrogate of some above U+FFFF: 0xD802, 0xD803, 0xD83A or 0xD83B.
+/// true, or the high surrogate of some such character: 0xD802, 0xD803, 0xD83A or 0xD83B.
 #[unsafe(no_mangle)]
 pub extern "C" fn jillapun_mem_is_utf16_code_unit_bidi(u: u16) -> bool
     ensures { IsTrue result ↔ IsTrue (is_bidi_unit u) }
@@ -40,7 +40,7 @@ pub extern "C" fn jillapun_mem_is_utf8_bidi(buffer: &[u8]) -> bool
     encoding_mem::is_utf8_bidi(buffer)
 }
 
-/// The same as `jillapun_mem_is_utf8_bidi`: the bytes need not be UTF-8.
+/// The same as `jillapun_mem_is_utf8_bidi`.
 #[unsafe(no_mangle)]
 pub extern "C" fn jillapun_mem_is_str_bidi(buffer: &[u8]) -> bool
     ensures { IsTrue result ↔ IsBidiBytes buffer.now }
@@ -81,7 +81,7 @@ pub extern "C" fn jillapun_mem_check_utf8_for_latin1_and_bidi(buffer: &[u8]) -> 
     code_of(encoding_mem::check_utf8_for_latin1_and_bidi(buffer))
 }
 
-/// The same as `jillapun_mem_check_utf8_for_latin1_and_bidi`: the bytes need not be UTF-8.
+/// The same as `jillapun_mem_check_utf8_for_latin1_and_bidi`.
 #[unsafe(no_mangle)]
 pub extern "C" fn jillapun_mem_check_str_for_latin1_and_bidi(buffer: &[u8]) -> u32
     ensures latin1 { (result ≡ LATIN1) ↔ IsLatin1Text buffer.now }

@@ -18,7 +18,7 @@ pub extern "C" fn jillapun_mem_is_utf8_latin1(buffer: &[u8]) -> bool
     encoding_mem::is_utf8_latin1(buffer)
 }
 
-/// The same as `jillapun_mem_is_utf8_latin1`: the bytes need not be UTF-8.
+/// The same as `jillapun_mem_is_utf8_latin1`.
 #[unsafe(no_mangle)]
 pub extern "C" fn jillapun_mem_is_str_latin1(buffer: &[u8]) -> bool
     ensures { IsTrue result ↔ IsLatin1Text buffer.now }
@@ -42,7 +42,7 @@ pub extern "C" fn jillapun_mem_utf8_latin1_up_to(buffer: &[u8]) -> usize
     encoding_mem::utf8_latin1_up_to(buffer)
 }
 
-/// The same as `jillapun_mem_utf8_latin1_up_to`: the bytes need not be UTF-8.
+/// The same as `jillapun_mem_utf8_latin1_up_to`.
 #[unsafe(no_mangle)]
 pub extern "C" fn jillapun_mem_str_latin1_up_to(buffer: &[u8]) -> usize
     ensures { IsLongestPrefix IsLatin1Text buffer.now result }

@@ -69,8 +69,7 @@ pub extern "C" fn jillapun_mem_convert_utf8_to_utf16_without_replacement(
     }
 }
 
-/// The same as `jillapun_mem_convert_utf8_to_utf16_without_replacement`: the bytes need not be
-/// UTF-8.
+/// The same as `jillapun_mem_convert_utf8_to_utf16_without_replacement`.
 #[unsafe(no_mangle)]
 pub extern "C" fn jillapun_mem_convert_str_to_utf16(src: &[u8], dst: &mut [u16]) -> usize
     ensures counts { IsUtf8 src.now → length src.now ≤ length dst.old
