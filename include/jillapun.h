@@ -417,7 +417,7 @@ typedef struct {
 
 /** What a call that decodes a whole input reports. */
 typedef struct {
-    /** The length of the text in bytes; `SIZE_MAX` if it does not fit. */
+    /** The length of the text in bytes; `SIZE_MAX` if it exceeds a `size_t`. */
     size_t written;
     /** The length of the removed BOM in bytes; 0 if none was removed. */
     size_t mark_len;
@@ -467,7 +467,7 @@ typedef struct {
     uint64_t characters;
     /**
      * For `jillapun_convert`, bytes written to `dst` or, at `JILLAPUN_ROOM`, needed (`SIZE_MAX` if
-     * they do not fit); 0 for a converter, whose calls report theirs.
+     * they exceed a `size_t`); 0 for a converter, whose calls report theirs.
      */
     uint64_t written;
     /** Likewise, records of losses. */
@@ -730,10 +730,11 @@ jillapun_status jillapun_decoder_max_utf16_length(const jillapun_decoder *decode
     size_t *length);
 
 /**
- * Stores in `length` how many of `bytes`, if they come next in the stream, decode to the code
- * points that equal the bytes. The caller may copy these and pass only the rest. The count is
- * the greatest possible for a single-byte encoding; for others it ends before the first byte
- * that is not ASCII, and for ISO-2022-JP also before the first 0x0E, 0x0F or 0x1B.
+ * Stores in `length` the length of a prefix of `bytes` of which each byte, coming next in the
+ * stream, decodes to the code point of the same number. The caller may copy these and pass only
+ * the rest. The prefix is the longest possible for a single-byte encoding; for others it ends
+ * before the first byte that is not ASCII, and for ISO-2022-JP also before the first 0x0E, 0x0F
+ * or 0x1B.
  *
  * `length` is `SIZE_MAX` if the count is not known: a BOM may still come, bytes are kept from
  * earlier calls, ISO-2022-JP is not in ASCII mode, or the encoding is UTF-16BE, UTF-16LE or
@@ -912,10 +913,9 @@ jillapun_status jillapun_encoder_encode_from_utf8_without_replacement(jillapun_e
 /* Encoding UTF-16. */
 
 /**
- * Like `jillapun_encoder_encode_from_utf8`, for a text in UTF-16, and without the error for
- * invalid text and the bound on the bytes examined. An unpaired surrogate is encoded as U+FFFD,
- * so do not end `text` within a surrogate pair; a call never stops within one. The only error
- * is `JILLAPUN_CLOSED`.
+ * Like `jillapun_encoder_encode_from_utf8`, for a text in UTF-16, which is not tested first. An
+ * unpaired surrogate is encoded as U+FFFD, so do not end `text` within a surrogate pair; a call
+ * never stops within one. The only error is `JILLAPUN_CLOSED`.
  */
 jillapun_status jillapun_encoder_encode_from_utf16(jillapun_encoder *encoder,
     const jillapun_char16 *text, size_t text_len, uint8_t *dst, size_t dst_len, bool last,
@@ -963,8 +963,8 @@ jillapun_status jillapun_decode_without_replacement(jillapun_tables tables, uint
 /**
  * Encodes a whole text in UTF-8 into the output encoding of `encoding` ("encode", section 6),
  * with a decimal numeric character reference (`&#8364;`) for each unmappable character. Stores
- * the length of the output in bytes in `written`, or `SIZE_MAX` if it does not fit. `dst` after
- * the output is unchanged.
+ * the length of the output in bytes in `written`, or `SIZE_MAX` if it exceeds a `size_t`. `dst`
+ * after the output is unchanged.
  *
  * - `JILLAPUN_OK`: no character was unmappable. One-way mappings are not reported;
  *   `jillapun_convert` does that.

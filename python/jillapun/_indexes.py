@@ -58,7 +58,7 @@ def name_of(number: int) -> str:
 def name(label: str) -> str:
     """Returns the Encoding Standard's name of the encoding with this label: `Shift_JIS` for `sjis`. White space around the
     label and the case of letters do not matter. A Python name is accepted if it is a label but for `_` in place of `-`,
-    or if Python's codec has the same index, as `cp932` has. Raises `UnknownLabel`."""
+    or if Python's codec has the same two-byte index, as `cp932` has. Raises `UnknownLabel`."""
     return name_of(number_of(label))
 
 

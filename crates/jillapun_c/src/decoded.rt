@@ -10,7 +10,7 @@ use encoding_front::{Encoding, Mark};
 #[repr(C)]
 #[derive(Clone, Copy)]
 pub struct Decoded {
-    /// The length of the text in bytes; `SIZE_MAX` if it does not fit.
+    /// The length of the text in bytes; `SIZE_MAX` if it exceeds a `size_t`.
     pub written: usize,
     /// The length of the removed BOM in bytes; 0 if none was removed.
     pub mark_len: usize,

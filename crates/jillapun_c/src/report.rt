@@ -17,8 +17,8 @@ pub struct Report {
     /// Characters of the text, with a U+FFFD for each malformed sequence and without a removed BOM.
     /// `jillapun_join_loss` adds them to places in later parts.
     pub characters: u64,
-    /// For `jillapun_convert`, bytes written to `dst` or, at `ROOM`, needed (`SIZE_MAX` if they do
-    /// not fit); 0 for a converter, whose calls report theirs.
+    /// For `jillapun_convert`, bytes written to `dst` or, at `ROOM`, needed (`SIZE_MAX` if they
+    /// exceed a `size_t`); 0 for a converter, whose calls report theirs.
     pub written: u64,
     /// Likewise, records of losses.
     pub losses: u64,

@@ -148,8 +148,8 @@ fn decode_input(
 
 /// Encodes a whole text in UTF-8 into the output encoding of `encoding` ("encode", section 6), with
 /// a decimal numeric character reference (`&#8364;`) for each unmappable character. Stores the
-/// length of the output in bytes in `written`, or `SIZE_MAX` if it does not fit. `dst` after the
-/// output is unchanged.
+/// length of the output in bytes in `written`, or `SIZE_MAX` if it exceeds a `size_t`. `dst` after
+/// the output is unchanged.
 ///
 /// - `OK`: no character was unmappable. One-way mappings are not reported; `jillapun_convert` does
 ///   that.

@@ -58,17 +58,18 @@ Exit status:
      output decodes to the text of the input. Also after --help, --version and --list, even if
      printing failed
   1  everything was converted, and something was lost. The log lists it, except for one-way
-     mappings: characters that decode to others, such as U+00A5, which Shift_JIS writes as the byte
-     0x5C. Shift_JIS, EUC-JP, ISO-2022-JP, gb18030 and GBK have one-way mappings;
+     mappings: characters written as bytes that decode to others, such as U+00A5 in Shift_JIS as
+     the byte 0x5C. Shift_JIS, EUC-JP, ISO-2022-JP, gb18030 and GBK have one-way mappings;
      \"recode-places --folds\" shows where they occur
   2  the arguments are invalid, or standard output is the input file
   3  an index file is missing or invalid, or memory ran out at the start
   4  reading the input, or writing the output or the log, failed; the input is longer than --limit;
      or --unmappable stop found an unmappable character
 Status 0 has two limits. It does not say that --from is right: in windows-1252, for example, any
-bytes are valid. \"jillapun which FILE\" shows in which encodings a file is valid. And the output is
-decoded as with --mark keep: text that begins with U+00EF U+00BB U+00BF converts to windows-1252
-with status 0, although a reader that sniffs takes these bytes, EF BB BF, for the BOM of UTF-8.
+bytes are valid; \"jillapun which FILE\", of the Python package, shows the encodings in which a file
+is valid. And the output is decoded as with --mark keep: text that begins with U+00EF U+00BB U+00BF
+converts to windows-1252 with status 0, although a reader that sniffs takes these bytes, EF BB BF,
+for the BOM of UTF-8.
 
 Messages, at the end of standard error:
   error: TEXT                                status 2: the arguments are invalid; more lines follow
@@ -95,7 +96,7 @@ Messages, at the end of standard error:
                                              last line \"lost\", which has the same numbers
 A second line, \"recode: REASON\", follows an unknown label (with its option), a missing index file
 (with its path and the cause), and a read, write or log fault (with the stream and the error of the
-system); a broken pipe has none.";
+system); after a broken pipe there is only the first line.";
 
 // `--name VALUE`, which has to be there.
 fn required_option<'a>(alloc: Global, name: &'a str, value_name: &'a str, help: &'a str) -> Arg<'a>

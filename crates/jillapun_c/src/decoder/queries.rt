@@ -74,10 +74,11 @@ pub extern "C" fn jillapun_decoder_max_utf16_length(
     decoder.room(OutputUnit::Units, n, length)
 }
 
-/// Stores in `length` how many of `bytes`, if they come next in the stream, decode to the code
-/// points that equal the bytes. The caller may copy these and pass only the rest. The count is the
-/// greatest possible for a single-byte encoding; for others it ends before the first byte that is
-/// not ASCII, and for ISO-2022-JP also before the first 0x0E, 0x0F or 0x1B.
+/// Stores in `length` the length of a prefix of `bytes` of which each byte, coming next in the
+/// stream, decodes to the code point of the same number. The caller may copy these and pass only
+/// the rest. The prefix is the longest possible for a single-byte encoding; for others it ends
+/// before the first byte that is not ASCII, and for ISO-2022-JP also before the first 0x0E, 0x0F or
+/// 0x1B.
 ///
 /// `length` is `SIZE_MAX` if the count is not known: a BOM may still come, bytes are kept from
 /// earlier calls, ISO-2022-JP is not in ASCII mode, or the encoding is UTF-16BE, UTF-16LE or

@@ -12,10 +12,9 @@ use crate::encoder_progress::{EncoderProgress, encoder_outcome_of};
 use crate::progress::outcome_of;
 use crate::status::{CLOSED, OK, Status};
 
-/// Like `jillapun_encoder_encode_from_utf8`, for a text in UTF-16, and without the error for
-/// invalid text and the bound on the bytes examined. An unpaired surrogate is encoded as U+FFFD, so
-/// do not end `text` within a surrogate pair; a call never stops within one. The only error is
-/// `CLOSED`.
+/// Like `jillapun_encoder_encode_from_utf8`, for a text in UTF-16, which is not tested first. An
+/// unpaired surrogate is encoded as U+FFFD, so do not end `text` within a surrogate pair; a call
+/// never stops within one. The only error is `CLOSED`.
 #[unsafe(no_mangle)]
 pub extern "C" fn jillapun_encoder_encode_from_utf16(
     encoder: &mut EncoderHandle,
