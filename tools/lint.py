@@ -56,6 +56,10 @@ HAND_PROOFS = [
     "recode_log/proofs/history/History/and_failed",
     "recode_log/proofs/history/History/and_flush",
     "recode_log/proofs/history/History/new",
+    "recode_log/proofs/journal/Journal/and_log",
+    "recode_log/proofs/journal/Journal/and_reader",
+    "recode_log/proofs/journal/Journal/and_writer",
+    "recode_log/proofs/journal/Journal/new",
 ]
 
 # Of the contract of a function.

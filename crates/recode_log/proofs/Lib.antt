@@ -1,2 +1,4 @@
+pub mod JournalLemmas
 pub mod LineLemmas
 pub mod HistorySteps
+pub mod JournalSteps

@@ -1,6 +1,8 @@
 pub mod Call
 pub mod Counted
+pub mod Journal
 pub mod Line
+pub mod Ports
 pub mod Told
 pub mod calls
 pub mod examples

@@ -5,6 +5,7 @@ ghost use Rattle.std.specs.Bool.{OnTrue, OnFalse};
 ghost use Rattle.std.specs.Io.{ReadsAtMost, WritesAtMost};
 ghost use Rattle.std.specs.Io.KnownBytes.{ReadConsumes, WriteAppends, Keeps};
 
+use crate::history::History;
 use crate::recorded::Recorded;
 use std::io::{Read, Write};
 use std::{fmt, io};
@@ -72,6 +73,13 @@ impl<T> Counted<T> {
         ensures { result ≡ failures_of self.now }
     {
         self.failures
+    }
+
+    /// The history, for a journal.
+    pub(crate) fn history(&self) -> &History
+        ensures { result.now.calls ≡ history_of self.now }
+    {
+        self.recorded.history()
     }
 
     // Counts a call that failed.

@@ -23,9 +23,12 @@
 pub mod counted;
 pub mod deliver;
 mod history;
+mod journal;
 pub mod laws;
 pub mod line;
+pub mod ports;
 mod recorded;
 
 pub use counted::Counted;
 pub use line::{GREATEST_OFFSET, LogLine};
+pub use ports::Ports;

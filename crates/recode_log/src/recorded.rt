@@ -33,6 +33,13 @@ impl<T> Recorded<T> {
         &self.inner
     }
 
+    /// The history, for a journal.
+    pub(crate) fn history(&self) -> &History
+        ensures { result.now ≡ self.now.history }
+    {
+        &self.history
+    }
+
     pub(crate) fn into_inner(self) -> T
         ensures { result ≡ self.inner }
     {

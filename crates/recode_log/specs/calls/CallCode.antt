@@ -1,6 +1,6 @@
 -- How a history is stored, which is asked of each type of a ghost field.
 use Rattle.std.specs.Prelude.{◌≡◌, ◌⊎◌, ℕ, List, Bool, refl}
-use Rattle.std.specs.Coded.{Coded, code_by, coded×, coded⊎, coded_bool, coded_list, coded_ℕ}
+use Rattle.std.specs.Coded.{Coded, Coded-set, code_by, coded×, coded⊎, coded_bool, coded_list, coded_ℕ}
 use Rattle.std.proofs.Common.{inl, inr}
 use Rattle.recode_log.specs.Call.{Call, Passed, Failed, Flush}
 
@@ -22,6 +22,14 @@ call_of_parts-call_parts (Passed room bytes) = refl
 call_of_parts-call_parts (Failed room) = refl
 call_of_parts-call_parts (Flush failed) = refl
 
+-- a call is stored as its parts
+abbrev pub call_code : Coded Call
+call_code = code_by ((ℕ × List ℕ) ⊎ (ℕ ⊎ Bool)) (coded⊎ (coded× coded_ℕ (coded_list coded_ℕ)) (coded⊎ coded_ℕ coded_bool)) call_parts call_of_parts call_of_parts-call_parts
+
 -- a history is stored as the list of the parts of its calls
 abbrev pub calls_code : Coded (List Call)
-calls_code = coded_list (code_by ((ℕ × List ℕ) ⊎ (ℕ ⊎ Bool)) (coded⊎ (coded× coded_ℕ (coded_list coded_ℕ)) (coded⊎ coded_ℕ coded_bool)) call_parts call_of_parts call_of_parts-call_parts)
+calls_code = coded_list call_code
+
+-- histories are equal in one way
+pub calls_set : (a b : List Call) → IsProp (a ≡ b)
+calls_set a b = Coded-set calls_code a b
