@@ -203,8 +203,8 @@ quiet_whole j x decoded malformed lost v is had left =
 pub same_written : (j : Job) (x : List ℕ) (w w' v v' : Written) (p q : Report) → IsConverted w w' j x p → IsConverted v v' j x q → WroteTheSame w w' v v'
 same_written j x w w' v v' p q a b = record {
   taken = tagged (trace j x);
-  one = record { output = a.whole.output; lined = a.whole.logged };
-  another = record { output = b.whole.output; lined = b.whole.logged };
+  one = record { output = a.whole.output; lined = a.whole.logged; ordered = a.whole.ordered };
+  another = record { output = b.whole.output; lined = b.whole.logged; ordered = b.whole.ordered };
 }
 
 same_truth : (a b : Bool) (P : Type 0) → IsTrue a ↔ P → IsTrue b ↔ P → a ≡ b

@@ -1,4 +1,8 @@
+pub mod AloneLemmas
 pub mod LossLemmas
+pub mod LeavingLemmas
+pub mod OrderLemmas
+pub mod PaceLemmas
 pub mod CertainLemmas
 pub mod DeterminedLemmas
 pub mod StatusLemmas

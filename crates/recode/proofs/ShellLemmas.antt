@@ -11,20 +11,20 @@ use Rattle.recode_log.specs.declared.line.LogLine.TheVariants.{Bad, Lost}
 use Rattle.recode.specs.Converter.{found_items, ConverterView, ConvertsPart, ConverterEndsWith, is_all_converted, owed_after, saved_job}
 use Rattle.recode.specs.Policy.{reference_form}
 use Rattle.recode.specs.State.{State, to_write}
-use Rattle.recode.specs.TaggedByte.{Wrote, tagged}
+use Rattle.recode.specs.TaggedByte.{tagged}
+use Rattle.recode.specs.Devices.{Wrote}
 use Rattle.recode.specs.WrittenItems.{IsLeft, IsSpared, WritesPrefixFor}
 use Rattle.recode.specs.calls.Chunk.{CanConvert, ConvertsChunk, IsDoneWith}
 use Rattle.recode.specs.calls.EngineView.{HoldsBetween, chars_between, over_text, standing, pivot_bytes}
 use Rattle.recode.specs.calls.Held.{LeavesPrefixFor, Passes, WritersView, held_items}
 use Rattle.recode.specs.calls.TraceToWrite.{AreSound}
 use Rattle.recode.specs.calls.Turns.{AreCountedSoundly, CanGoOn, Standing, TakesTurns, owed, ConvertEndsWith, IsBetweenCalls, IsOpenFor, is_last_text, reported, settled, pieces_of_text, waiting}
-use Rattle.recode.specs.calls.Writers.{AreReady, CountsWriterFault, HandsOnUnder, HoldNothing, written_by, writers_view}
+use Rattle.recode.specs.calls.Writers.{AreReady, CountsWriterFault, HandsOnUnder, HoldNothing, Writers, writers_view, written_by}
 use Rattle.recode.specs.declared.converter.ConverterResult.TheVariants.{Found, InputEmpty}
 use Rattle.recode.specs.declared.job.Fault.{Fault}
 use Rattle.recode.specs.declared.job.Pivot.{Pivot}
 use Rattle.recode.specs.declared.job.Pivot.TheVariants.{Utf8, Utf16}
 use Rattle.recode.specs.declared.job.Policy.{Policy}
-use Rattle.recode.specs.declared.writers.Writers.{Writers}
 use Rattle.recode.specs.laws.Items.{lost_line_count-bytes, spared_append, spared_nil}
 use Rattle.recode.proofs.WriterLemmas.{err_map, hands_start, hands_then, left_for_of, view_none}
 use Rattle.recode.proofs.TurnLemmas.{nothing_waits, standing_is, turns_more, turns_start, end_open, none_open}
@@ -44,7 +44,7 @@ use Rattle.recode.specs.declared.job.Job.{Job}
 use Rattle.recode.specs.calls.Verdict.{CanTell}
 
 -- What was passed so far, and what turns it was.
-pub record Pumps {W L : Type 0} (contents : W → Option (List ℕ)) (logged : L → Option (List ℕ)) (p : Policy) (before after : Writers W L) (c c' : Standing) (last : Bool) (bytes rest : List ℕ) (most least : ℕ) : Type 0 where
+pub record Pumps {R W L : Type 0} (contents : W → Option (List ℕ)) (logged : L → Option (List ℕ)) (p : Policy) (before after : Writers R W L) (c c' : Standing) (last : Bool) (bytes rest : List ℕ) (most least : ℕ) : Type 0 where
   pub items : List Item
   pub hands : HandsOnUnder {T = Unit {0}} p contents logged before after items (Ok tt)
   pub spared : IsSpared p items
@@ -64,12 +64,12 @@ spared_only p bytes = λ stops. lost_line_count-bytes bytes
 pub only_under : {p : Policy} (items : List Item) → IsSpared p items → (q : Policy) → q ≡ p → IsSpared q items
 only_under items h q is = subst (λ (z : Policy). IsSpared z items) (sym is) h
 
-module _ {W L : Type 0} {contents : W → Option (List ℕ)} {logged : L → Option (List ℕ)} {p : Policy} {w0 : Writers W L} {c0 : Standing} {last : Bool} {x : List ℕ} where
+module _ {R W L : Type 0} {contents : W → Option (List ℕ)} {logged : L → Option (List ℕ)} {p : Policy} {w0 : Writers R W L} {c0 : Standing} {last : Bool} {x : List ℕ} where
   pub pumps_start : AreReady w0 → AreCountedSoundly c0 → Pumps contents logged p w0 w0 c0 c0 last x x 0 0
   pumps_start ready sound = record { items = []; hands = hands_start ready; spared = spared_nil p; turns = turns_start c0 last x sound }
 
   -- what is held was written
-  pub pumps_held : {w1 w2 : Writers W L} {c1 : Standing} {y : List ℕ} {m l : ℕ} → Pumps contents logged p w0 w1 c0 c1 last x y m l → HandsOnUnder {T = Unit {0}} p contents logged w1 w2 [] (Ok tt) → Pumps contents logged p w0 w2 c0 c1 last x y m l
+  pub pumps_held : {w1 w2 : Writers R W L} {c1 : Standing} {y : List ℕ} {m l : ℕ} → Pumps contents logged p w0 w1 c0 c1 last x y m l → HandsOnUnder {T = Unit {0}} p contents logged w1 w2 [] (Ok tt) → Pumps contents logged p w0 w2 c0 c1 last x y m l
   pumps_held {w1} {w2} {c1} {y} {m} {l} h k = record {
     items = h.items;
     hands = subst (λ t. HandsOnUnder {T = Unit {0}} p contents logged w0 w2 t (Ok tt)) (append-nil h.items) (hands_then (only_under h.items h.spared) h.hands k);
@@ -78,20 +78,20 @@ module _ {W L : Type 0} {contents : W → Option (List ℕ)} {logged : L → Opt
   }
 
   -- a call of the engine, and what was passed for it
-  pub pumps_more : {w1 w2 : Writers W L} {c1 c2 : Standing} {y z : List ℕ} {items : List Item} {m l : ℕ} → Pumps contents logged p w0 w1 c0 c1 last x y 0 0 → HandsOnUnder {T = Unit {0}} p contents logged w1 w2 items (Ok tt)
+  pub pumps_more : {w1 w2 : Writers R W L} {c1 c2 : Standing} {y z : List ℕ} {items : List Item} {m l : ℕ} → Pumps contents logged p w0 w1 c0 c1 last x y 0 0 → HandsOnUnder {T = Unit {0}} p contents logged w1 w2 items (Ok tt)
       → IsSpared p items → TakesTurns c1 c2 last y z items m l → Pumps contents logged p w0 w2 c0 c2 last x z m l
   pumps_more {w1} {w2} {c1} {c2} {y} {z} {items} {m} {l} h k spared t =
       record { items = h.items ++ items; hands = hands_then (only_under h.items h.spared) h.hands k; spared = spared_append p h.items items h.spared spared; turns = turns_more m l (omega arith) (omega arith) h.turns t }
 
   -- a call of the engine that found nothing, and the bytes that were passed for it
-  pub pumps_bytes : {w1 w2 : Writers W L} {c1 c2 : Standing} {y z : List ℕ} {m l : ℕ} (bytes : List ℕ) → Pumps contents logged p w0 w1 c0 c1 last x y 0 0 → HandsOnUnder {T = Unit {0}} p contents logged w1 w2 (map Byte bytes) (Ok tt)
+  pub pumps_bytes : {w1 w2 : Writers R W L} {c1 c2 : Standing} {y z : List ℕ} {m l : ℕ} (bytes : List ℕ) → Pumps contents logged p w0 w1 c0 c1 last x y 0 0 → HandsOnUnder {T = Unit {0}} p contents logged w1 w2 (map Byte bytes) (Ok tt)
       → TakesTurns c1 c2 last y z (map Byte bytes ++ []) m l → Pumps contents logged p w0 w2 c0 c2 last x z m l
   pumps_bytes {w1} {w2} bytes h k t =
       pumps_more h (subst (λ items. HandsOnUnder {T = Unit {0}} p contents logged w1 w2 items (Ok tt)) (sym (append-nil (map Byte bytes))) k)
       (spared_append p (map Byte bytes) [] (spared_only p bytes) (spared_nil p)) t
 
   -- a writer may fail after it: what was taken is a prefix of what was owed at the start
-  pub pumps_owed : {T : Type 0} {w1 w2 : Writers W L} {c1 : Standing} {y : List ℕ} {items : List Item} {m l : ℕ} {r : Result T Fault} → (owes : List ℕ → List Item) → Pumps contents logged p w0 w1 c0 c1 last x y m l → HandsOnUnder p contents logged w1 w2 items r
+  pub pumps_owed : {T : Type 0} {w1 w2 : Writers R W L} {c1 : Standing} {y : List ℕ} {items : List Item} {m l : ℕ} {r : Result T Fault} → (owes : List ℕ → List Item) → Pumps contents logged p w0 w1 c0 c1 last x y m l → HandsOnUnder p contents logged w1 w2 items r
       → c0.answer ≡ None → c0.text ≡ [] → HoldNothing w0 → ((r : List ℕ) → (last ≡ true → r ≡ []) → owed c1 (y ++ r) ≡ items ++ owes r)
       → IfErr r (λ (f : Fault). WritesPrefixFor (written_by w0) (written_by w2) p f last (λ r. to_write c0.state (x ++ r)))
   pumps_owed {T} {w1} {w2} {c1} {y} {items} {m} {l} {r} owes h k none empty nothing owed_is = err_map r ((hands_then (only_under h.items h.spared) h.hands k).err p refl) (λ f q.
@@ -102,23 +102,23 @@ module _ {W L : Type 0} {contents : W → Option (List ℕ)} {logged : L → Opt
       subst (λ (v : WritersView). LeavesPrefixFor v (writers_view w2) p f last (λ r. owed c0 (x ++ r))) (view_none w0 nothing) left in
       record { taken = from.taken; wrote = from.wrote; left = λ r end. subst (λ t. IsLeft p f from.taken t) (owed_first c0 (x ++ r) none empty) (from.left r end) })
 
-  pub pumps_under : {T : Type 0} {w1 w2 : Writers W L} {c1 c2 : Standing} {y z : List ℕ} {items : List Item} {m l m' l' : ℕ} {r : Result T Fault} → Pumps contents logged p w0 w1 c0 c1 last x y m l → HandsOnUnder p contents logged w1 w2 (items ++ []) r
+  pub pumps_under : {T : Type 0} {w1 w2 : Writers R W L} {c1 c2 : Standing} {y z : List ℕ} {items : List Item} {m l m' l' : ℕ} {r : Result T Fault} → Pumps contents logged p w0 w1 c0 c1 last x y m l → HandsOnUnder p contents logged w1 w2 (items ++ []) r
       → TakesTurns c1 c2 last y z items m' l' → c0.answer ≡ None → c0.text ≡ [] → HoldNothing w0
       → IfErr r (λ (f : Fault). WritesPrefixFor (written_by w0) (written_by w2) p f last (λ r. to_write c0.state (x ++ r)))
   pumps_under {T} {w1} {w2} {c1} {c2} {y} {z} {items} h k t none empty nothing =
       pumps_owed (λ r. owed c2 (z ++ r)) h k none empty nothing (λ r end. t.owes r end ∙ ap (λ q. q ++ owed c2 (z ++ r)) (sym (append-nil items)))
 
   -- and the counts are those of all that was handed on
-  pub pumps_counts : {T : Type 0} {w1 w2 : Writers W L} {c1 : Standing} {y : List ℕ} {items : List Item} {m l : ℕ} {r : Result T Fault} → Pumps contents logged p w0 w1 c0 c1 last x y m l → HandsOnUnder p contents logged w1 w2 items r → CountsWriterFault w0 w2 r
+  pub pumps_counts : {T : Type 0} {w1 w2 : Writers R W L} {c1 : Standing} {y : List ℕ} {items : List Item} {m l : ℕ} {r : Result T Fault} → Pumps contents logged p w0 w1 c0 c1 last x y m l → HandsOnUnder p contents logged w1 w2 items r → CountsWriterFault w0 w2 r
   pumps_counts h k = (hands_then (only_under h.items h.spared) h.hands k).failures
 
   -- or while what is held is delivered
-  pub pumps_stuck : {T : Type 0} {w1 w2 : Writers W L} {c1 : Standing} {y : List ℕ} {m l : ℕ} {r : Result T Fault} → Pumps contents logged p w0 w1 c0 c1 last x y m l → HandsOnUnder p contents logged w1 w2 [] r → c0.answer ≡ None → c0.text ≡ [] → HoldNothing w0
+  pub pumps_stuck : {T : Type 0} {w1 w2 : Writers R W L} {c1 : Standing} {y : List ℕ} {m l : ℕ} {r : Result T Fault} → Pumps contents logged p w0 w1 c0 c1 last x y m l → HandsOnUnder p contents logged w1 w2 [] r → c0.answer ≡ None → c0.text ≡ [] → HoldNothing w0
       → IfErr r (λ (f : Fault). WritesPrefixFor (written_by w0) (written_by w2) p f last (λ r. to_write c0.state (x ++ r)))
   pumps_stuck {T} {w1} {w2} {c1} {y} h k none empty nothing = pumps_owed (λ r. owed c1 (y ++ r)) h k none empty nothing (λ r end. refl)
 
   -- all of a chunk was converted, and what is held is delivered
-  pub pumps_done : {T : Type 0} {w1 w2 : Writers W L} {c1 : Standing} {r : Result T Fault} → c0.answer ≡ None → c0.text ≡ [] → c1.answer ≡ None → c1.text ≡ [] → c0.state.policy ≡ p → HoldNothing w0 → IsDoneWith c1.state last
+  pub pumps_done : {T : Type 0} {w1 w2 : Writers R W L} {c1 : Standing} {r : Result T Fault} → c0.answer ≡ None → c0.text ≡ [] → c1.answer ≡ None → c1.text ≡ [] → c0.state.policy ≡ p → HoldNothing w0 → IsDoneWith c1.state last
       → Pumps contents logged p w0 w1 c0 c1 last x [] 3 2 → HandsOnUnder p contents logged w1 w2 [] r → OnOk r (HoldNothing w2) → OnOk r (ConvertsChunk (written_by w0) (written_by w2) c0.state c1.state x last)
   pumps_done {r = Err f} none empty none' empty' is nothing done h k after = tt
   pumps_done {T} {w1} {w2} {c1} {r = Ok u} none empty none' empty' is nothing done h k after =

@@ -2,7 +2,7 @@
 use Rattle.std.proofs.Common.{◌≡◌, ◌≢◌, ◌⊎◌, ◌≤◌, ℕ, Bool, true, false, List, Option, Result, Ok, Err, inl, inr, refl, arith}
 use Rattle.std.specs.Prelude.{if◌then◌else◌}
 use Rattle.recode.specs.Conversion.{status_of}
-use Rattle.recode.specs.Devices.{Ports}
+use Rattle.recode.specs.Devices.{PortsView}
 use Rattle.recode.specs.Program.{AnswersProgram, FailsToStart, FileTexts, RefusesWords, RunsJob, StatusSays, TellsText}
 use Rattle.recode.specs.declared.job.Fault.{Fault}
 use Rattle.recode.specs.declared.job.Report.{Report}
@@ -28,7 +28,7 @@ one_of r status is = elim (three_are r) [
   | inr (inr four) ↦ record { known = omega (arith, is, four); not_two = λ h. omega (arith, is, four, h); not_three = λ h. omega (arith, is, four, h) }
 ]
 
-module _ {R W L : Type 0} (holds : FileTexts) (remaining : R → Option (List ℕ)) (contents : W → Option (List ℕ)) (logged : L → Option (List ℕ)) (before after : Ports R W L) (words : List (List ℕ)) (status : ℕ) where
+module _ {R W L : Type 0} (holds : FileTexts) (remaining : R → Option (List ℕ)) (contents : W → Option (List ℕ)) (logged : L → Option (List ℕ)) (before after : PortsView R W L) (words : List (List ℕ)) (status : ℕ) where
   of_refusal : RefusesWords before after words status → StatusSays holds before after words status
   of_refusal k = record {
     zero = λ is. absurd (omega (arith, is, k.answered));

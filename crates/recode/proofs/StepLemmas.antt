@@ -1,14 +1,14 @@
 -- How a step's parts make its clauses, how steps make a run, how a run and flushes make a conversion, and what its
 -- status says.
-use Rattle.std.proofs.Common.{Result, OnOk, IfErr, Err, Ok, ◌⊎◌, ◌≡◌, ℕ, ◌+◌, ◌≤◌, ◌<◌, add-zero, arith, length-append, append_assoc, List, [], ◌∷◌, ◌++◌, take, length, Bool, true, false, refl, sym, ap, ◌∙◌, subst, append-nil, inl, inr, ◌*◌, ◌≢◌, IfOk}
+use Rattle.std.proofs.Common.{Result, OnOk, IfErr, Err, Ok, ◌⊎◌, ◌≡◌, ℕ, ◌+◌, ◌≤◌, ◌<◌, add-zero, arith, length-append, append_assoc, List, [], ◌∷◌, ◌++◌, map, take, length, Bool, true, false, refl, sym, ap, ◌∙◌, subst, append-nil, inl, inr, ◌*◌, ◌≢◌, IfOk, Some}
 use Rattle.std.specs.Prelude.{if◌then◌else◌}
 use Rattle.recode.proofs.TraceLemmas.{Gave-nil, Gave-one, Gave-trans, GaveThen-after, WritesItemsFor-start, Wrote-nil, Wrote-trans, left_behind, items_split}
 use Rattle.encoding_mem.specs.Items.{Item}
 use Rattle.encoding_mem.specs.Piece.{text, AreWellFormed}
 use Rattle.encoding_mem.specs.laws.Piece.{text-append}
 use Rattle.recode.specs.State.{State, to_write}
-use Rattle.recode.specs.Devices.{Devices, Failures, Gave, GaveToEnd, KeepsWritten, Ports, Written, devices_of, reads_of}
-use Rattle.recode.specs.TaggedByte.{IsPrefix, Line, Out, Wrote, log_bytes, output_bytes, tagged, TaggedByte}
+use Rattle.recode.specs.Devices.{Devices, Failures, Gave, GaveToEnd, KeepsWritten, Written, Wrote, devices_at, reads_of, ports_at}
+use Rattle.recode.specs.TaggedByte.{IsPrefix, Line, Out, log_bytes, order_of, output_bytes, tagged, TaggedByte}
 use Rattle.recode.specs.Policy.{written_under, reference_form}
 use Rattle.recode.specs.WrittenItems.{IsLeft, IsStop, WritesPrefixFor, IsSpared, bad_line_count, lost_line_count}
 use Rattle.recode.specs.Step.{Finishes, HasRun, IsNearlyDecided, RunCalls, StepsOn, Stops, WasRead}
@@ -41,7 +41,13 @@ use Rattle.recode.proofs.CertainLemmas.{certain}
 use Rattle.std.proofs.lemmas.List.Folds.{concat-append}
 use Rattle.recode.proofs.ReadLemmas.{at_end_after, end_is, input_all, input_is}
 use Rattle.recode.proofs.StopLemmas.{bads_of, losts_of, mapped_where_faithful, output_where_mapped, quiet_where_kept, trace_where_spared, whole_within}
-use Rattle.recode_log.specs.laws.Calls.{passed_flush}
+use Rattle.recode_log.specs.Call.{Call, Flush, passed_by}
+use Rattle.recode_log.specs.Journal.{AtLog, AtWriter, log_calls}
+use Rattle.recode_log.specs.Ports.{CallsLog, CallsWriter, journal_of}
+use Rattle.recode_log.specs.declared.ports.Ports.{Ports}
+use Rattle.recode_log.specs.laws.Calls.{passed_calls, passed_flush}
+use Rattle.recode_log.specs.laws.Journal.{history_of_log, history_of_writer, log_at_log, log_calls-append}
+use Rattle.recode.proofs.OrderLemmas.{order_at_log, order_of-append}
 
 nothing_under : (w : Written) (p : Policy) (f : Fault) (last : Bool) (to_write : List ℕ → List Item) → ((index scalar : ℕ) → f ≡ Unmappable index scalar → ⊥) → WritesPrefixFor w w p f last to_write
 nothing_under w p f last to_write other = record {
@@ -51,27 +57,27 @@ nothing_under w p f last to_write other = record {
 }
 
 keeps_all : (w : Written) → KeepsWritten w w
-keeps_all w = record { output = refl; log = refl }
+keeps_all w = record { output = refl; log = refl; order = refl }
 
-pub stops_unread : (a b : List (List ℕ)) (w : Written) (n m : Failures) (limit : ℕ) (s : State) → b ≡ a → s.counts.read ≤ limit
-    → Stops (record { reads = a; written = w; failures = n }) (record { reads = b; written = w; failures = m }) limit s Read
-stops_unread a b w n m limit s p within = record {
+pub stops_unread : (a b : List (List ℕ)) (w w' : Written) (n m : Failures) (limit : ℕ) (s : State) → b ≡ a → w' ≡ w → s.counts.read ≤ limit
+    → Stops (record { reads = a; written = w; failures = n }) (record { reads = b; written = w'; failures = m }) limit s Read
+stops_unread a b w w' n m limit s p same within = subst (λ v. Stops (record { reads = a; written = w; failures = n }) (record { reads = b; written = v; failures = m }) limit s Read) (sym same) (record {
   read = record { input = []; refused = []; ended = false; given = ([], p ∙ sym (append-nil a), refl); end = λ h. cc; spared = λ h. refl; last = λ is. absurd (cc) };
   within = omega (arith, within);
   limited = λ is. absurd (cc);
   pays = nothing_under w s.policy Read false (to_write s) (λ i c is. cc);
   untouched = λ h. (refl, keeps_all w);
-}
+})
 
-pub stops_refused : (a b : List (List ℕ)) (w : Written) (n m : Failures) (limit : ℕ) (s : State) (chunk : List ℕ) → b ≡ a ++ (chunk ∷ []) → s.counts.read ≤ limit → limit < s.counts.read + length chunk
-    → Stops (record { reads = a; written = w; failures = n }) (record { reads = b; written = w; failures = m }) limit s TooLong
-stops_refused a b w n m limit s chunk p within past = record {
+pub stops_refused : (a b : List (List ℕ)) (w w' : Written) (n m : Failures) (limit : ℕ) (s : State) (chunk : List ℕ) → b ≡ a ++ (chunk ∷ []) → w' ≡ w → s.counts.read ≤ limit → limit < s.counts.read + length chunk
+    → Stops (record { reads = a; written = w; failures = n }) (record { reads = b; written = w'; failures = m }) limit s TooLong
+stops_refused a b w w' n m limit s chunk p same within past = subst (λ v. Stops (record { reads = a; written = w; failures = n }) (record { reads = b; written = v; failures = m }) limit s TooLong) (sym same) (record {
   read = record { input = []; refused = chunk; ended = false; given = Gave-one a b chunk p; end = λ h. cc; spared = λ h. absurd (h refl); last = λ is. ([], p, refl) };
   within = omega (arith, within);
   limited = λ is. past;
   pays = nothing_under w s.policy TooLong false (to_write s) (λ i c is. cc);
   untouched = λ h. (refl, keeps_all w);
-}
+})
 
 -- a fault of a writer, or of the policy
 pub stops_under : (before after : Devices) (limit : ℕ) (last : Bool) (s : State) (chunk : List ℕ) (f : Fault) → Gave before.reads after.reads chunk → (last ≡ true → GaveToEnd before.reads after.reads chunk)
@@ -244,6 +250,7 @@ completes before after j v u p valid b f t =
             unstopped = λ stops. sym (losts_of j x) ∙ spared stops;
             output = wrote.output;
             logged = wrote.lined;
+            ordered = wrote.ordered;
           };
           report = record {
             read = omega (arith, t.read, f.counted, b.read);
@@ -333,7 +340,7 @@ module _ (before ran : Devices) (j : Job) where
         within = omega (arith, w.within, ap length same);
         limited = λ is. absurd (omega (arith, rw is at writing));
         taken = all;
-        wrote = record { output = w.output; lined = w.logged };
+        wrote = record { output = w.output; lined = w.logged; ordered = w.ordered };
         prefix = λ r h. ([], ap (λ t. tagged (trace j t)) (ap (λ t. t ++ r) same ∙ ap (λ t. k.input ++ t) (h (at_end_after k.given.0)) ∙ append-nil k.input) ∙ sym (append-nil all));
         stopped = λ r h i c is. absurd (unstopped i c is);
         latest = λ h. absurd (elim h [ inl is ↦ omega (arith, rw is at writing) | inr is ↦ omega (arith, rw is at writing) ]);
@@ -356,7 +363,7 @@ module _ (before ran : Devices) (j : Job) where
       record {
         input = k.input;
         given = rw same k.given;
-        whole = record { within = w.within; unstopped = w.unstopped; output = kept.output ∙ w.output; logged = kept.log ∙ w.logged };
+        whole = record { within = w.within; unstopped = w.unstopped; output = kept.output ∙ w.output; logged = kept.log ∙ w.logged; ordered = kept.order ∙ w.ordered };
         known = says.0;
         faithful = λ zero. f.0 (says.1 zero);
         lossy = λ one h. says.2 one (f.1 h);
@@ -366,12 +373,56 @@ module _ (before ran : Devices) (j : Job) where
       says_whether true is = (inl is, λ zero. refl, λ one h. omega (arith, is, one))
       says_whether false is = (inr is, λ zero. absurd (omega (arith, is, zero)), λ one h. cc)
 
+-- What a conversion did with these devices: `IsConversion`, of `Ports`.
+pub record ConversionAt {R W L : Type 0} (before after : Ports R W L) (j : Job) (room status : ℕ) : Type 0 where
+  pub ran : Ports R W L
+  pub answer : Result Report Fault
+  pub returns : RunReturns (devices_at before) (devices_at ran) j answer
+  pub calls : RunCalls before.reader.now ran.reader.now before.writer.now ran.writer.now before.log.now ran.log.now room answer
+  pub unread : after.reader.now ≡ ran.reader.now
+  pub writer_failed : Bool
+  pub writer : IsFlushed ran.writer.now after.writer.now writer_failed
+  pub log_failed : Bool
+  pub flushed : Counted L
+  pub log : IsFlushed ran.log.now flushed log_failed
+  pub came_to : Result Report Fault
+  pub first : came_to ≡ after_flushes answer writer_failed log_failed
+  pub fails : IfErr came_to (Fails (devices_at before) (devices_at ran) j)
+  pub quiet : OnOk came_to (after.log.now ≡ flushed)
+  pub tells : IfErr came_to (λ f. TellsMessage flushed after.log.now (message_of f))
+  pub told : List Call
+  pub made : journal_of after ≡ journal_of ran ++ (AtWriter (Flush writer_failed) ∷ AtLog (Flush log_failed) ∷ map AtLog told)
+  pub answered : status ≡ status_of came_to
+
+pub conversion_of : {R W L : Type 0} {before after : Ports R W L} {j : Job} {room status : ℕ} → ConversionAt before after j room status → IsConversion (ports_at before) (ports_at after) j room status
+conversion_of c = record {
+  ran = ports_at c.ran;
+  answer = c.answer;
+  returns = c.returns;
+  calls = c.calls;
+  unread = c.unread;
+  writer_failed = c.writer_failed;
+  writer = c.writer;
+  log_failed = c.log_failed;
+  flushed = c.flushed;
+  log = c.log;
+  came_to = c.came_to;
+  first = c.first;
+  fails = c.fails;
+  quiet = c.quiet;
+  tells = c.tells;
+  told = c.told;
+  made = ap (λ l. Some l) c.made;
+  answered = c.answered;
+}
+
 -- a run, the flushes and the message that was written
 module _ {R W L : Type 0} (before ran after : Ports R W L) (flushed : Counted L) (j : Job) (room : ℕ) (answer : Result Report Fault) (writer_failed log_failed : Bool)
-    (returns : RunReturns (devices_of before) (devices_of ran) j answer) (calls : RunCalls before.reader ran.reader before.writer ran.writer before.log ran.log room answer)
-    (unread : after.reader ≡ ran.reader) (writer : IsFlushed ran.writer after.writer writer_failed) (log : IsFlushed ran.log flushed log_failed) where
-  pub conversion : (came_to : Result Report Fault) (status : ℕ) → came_to ≡ after_flushes answer writer_failed log_failed → OnOk came_to (after.log ≡ flushed) → IfErr came_to (λ f. TellsMessage flushed after.log (message_of f)) → status ≡ status_of came_to
-      → IsConversion before after j room status
+    (returns : RunReturns (devices_at before) (devices_at ran) j answer) (calls : RunCalls before.reader.now ran.reader.now before.writer.now ran.writer.now before.log.now ran.log.now room answer)
+    (unread : after.reader.now ≡ ran.reader.now) (writer : IsFlushed ran.writer.now after.writer.now writer_failed) (log : IsFlushed ran.log.now flushed log_failed)
+    (told : List Call) (made : journal_of after ≡ journal_of ran ++ (AtWriter (Flush writer_failed) ∷ AtLog (Flush log_failed) ∷ map AtLog told)) where
+  pub conversion : (came_to : Result Report Fault) (status : ℕ) → came_to ≡ after_flushes answer writer_failed log_failed → OnOk came_to (after.log.now ≡ flushed) → IfErr came_to (λ f. TellsMessage flushed after.log.now (message_of f)) → status ≡ status_of came_to
+      → ConversionAt before after j room status
   conversion came_to status first quiet tells answered = record {
     ran = ran;
     answer = answer;
@@ -385,11 +436,43 @@ module _ {R W L : Type 0} (before ran after : Ports R W L) (flushed : Counted L)
     log = log;
     came_to = came_to;
     first = first;
-    fails = subst (λ (r : Result Report Fault). IfErr r (Fails (devices_of before) (devices_of ran) j)) (sym first) (broke (devices_of before) (devices_of ran) j answer writer_failed log_failed returns);
+    fails = subst (λ (r : Result Report Fault). IfErr r (Fails (devices_at before) (devices_at ran) j)) (sym first) (broke (devices_at before) (devices_at ran) j answer writer_failed log_failed returns);
     quiet = quiet;
     tells = tells;
+    told = told;
+    made = made;
     answered = answered;
   }
+
+-- a device was called by one flush alone
+one_flush : (before after calls : List Call) (failed : Bool) → after ≡ before ++ calls → after ≡ before ++ (Flush failed ∷ []) → calls ≡ Flush failed ∷ []
+one_flush before after calls failed made once = append_cancel_left before calls (Flush failed ∷ []) (sym made ∙ once)
+
+-- a run, a flush of the writer, and one of the log
+module _ {R W L : Type 0} (before ran p q : Ports R W L) (j : Job) (room : ℕ) (answer : Result Report Fault) (writer_failed log_failed : Bool)
+    (returns : RunReturns (devices_at before) (devices_at ran) j answer) (calls : RunCalls before.reader.now ran.reader.now before.writer.now ran.writer.now before.log.now ran.log.now room answer)
+    (a : CallsWriter ran p) (writer : IsFlushed ran.writer.now p.writer.now writer_failed) (b : CallsLog p q) (log : IsFlushed p.log.now q.log.now log_failed) where
+  log_flushed : IsFlushed ran.log.now q.log.now log_failed
+  log_flushed = subst (λ (l : Counted L). IsFlushed l q.log.now log_failed) a.log log
+
+  flushes_made : journal_of q ≡ journal_of ran ++ (AtWriter (Flush writer_failed) ∷ AtLog (Flush log_failed) ∷ [])
+  flushes_made =
+      b.made ∙ ap (λ l. journal_of p ++ map AtLog l) (one_flush (history_of p.log.now) (history_of q.log.now) b.calls log_failed (history_of_log p q b) log.once)
+      ∙ ap (λ l. l ++ (AtLog (Flush log_failed) ∷ [])) (a.made ∙ ap (λ l. journal_of ran ++ map AtWriter l) (one_flush (history_of ran.writer.now) (history_of p.writer.now) a.calls writer_failed (history_of_writer ran p a) writer.once))
+      ∙ append_assoc (journal_of ran) (AtWriter (Flush writer_failed) ∷ []) (AtLog (Flush log_failed) ∷ [])
+
+  pub conversion_ok : (p : Report) (status : ℕ) → Ok p ≡ after_flushes answer writer_failed log_failed → status ≡ status_of (Ok p) → ConversionAt before q j room status
+  conversion_ok p status first answered =
+      conversion before ran q q.log.now j room answer writer_failed log_failed returns calls (b.reader ∙ a.reader) (subst (λ (w : Counted W). IsFlushed ran.writer.now w writer_failed) (sym b.writer) writer) log_flushed [] flushes_made
+      (Ok p) status first refl tt answered
+
+  -- and the message
+  pub conversion_err : (after : Ports R W L) (f : Fault) (status : ℕ) → CallsLog q after → Err f ≡ after_flushes answer writer_failed log_failed → TellsMessage q.log.now after.log.now (message_of f) → status ≡ 4 → ConversionAt before after j room status
+  conversion_err after f status t first tells answered =
+      conversion before ran after q.log.now j room answer writer_failed log_failed returns calls (t.reader ∙ b.reader ∙ a.reader)
+      (subst (λ (w : Counted W). IsFlushed ran.writer.now w writer_failed) (sym (t.writer ∙ b.writer)) writer) log_flushed t.calls
+      (t.made ∙ ap (λ l. l ++ map AtLog t.calls) flushes_made ∙ append_assoc (journal_of ran) (AtWriter (Flush writer_failed) ∷ AtLog (Flush log_failed) ∷ []) (map AtLog t.calls))
+      (Err f) status first tt tells answered
 
 -- what came to no fault
 pub record IsQuiet (answer came_to : Result Report Fault) (writer_failed log_failed : Bool) : Type 0 where
@@ -409,44 +492,66 @@ quiet_of (Ok p) came_to false false status first is whole = record { report = p;
 flushed_nothing : {W : Type 0} (before after : Counted W) (failed : Bool) → IsFlushed before after failed → passed_of after ≡ passed_of before
 flushed_nothing before after failed h = ap concat (passed_flush (history_of before) (history_of after) failed h.once)
 
+-- what was taken in one order behind the run
+module _ {R W L : Type 0} (before after : Ports R W L) (j : Job) (room status : ℕ) (c : ConversionAt before after j room status) where
+  order_behind : order_of (journal_of after) ≡ order_of (journal_of c.ran) ++ map Line (concat (passed_by c.told))
+  order_behind =
+      ap order_of c.made ∙ order_of-append (journal_of c.ran) (AtWriter (Flush c.writer_failed) ∷ AtLog (Flush c.log_failed) ∷ map AtLog c.told)
+      ∙ ap (λ l. order_of (journal_of c.ran) ++ l) (order_at_log c.told)
+
+  -- and what calls of the log were made behind its flush
+  log_behind : history_of after.log.now ≡ history_of c.flushed ++ c.told
+  log_behind =
+      sym after.of_log ∙ ap log_calls c.made ∙ log_calls-append (journal_of c.ran) (AtWriter (Flush c.writer_failed) ∷ AtLog (Flush c.log_failed) ∷ map AtLog c.told)
+      ∙ ap (λ l. log_calls (journal_of c.ran) ++ (Flush c.log_failed ∷ l)) (log_at_log c.told) ∙ ap (λ l. l ++ (Flush c.log_failed ∷ c.told)) c.ran.of_log
+      ∙ sym (append_assoc (history_of c.ran.log.now) (Flush c.log_failed ∷ []) c.told) ∙ ap (λ l. l ++ c.told) (sym c.log.once)
+
 -- what came to a fault
-module _ {R W L : Type 0} (before after : Ports R W L) (j : Job) (room status : ℕ) (c : IsConversion before after j room status) (four : status ≡ 4) where
-  pub faults_of : EndsInFault (devices_of before) (devices_of after) j
+module _ {R W L : Type 0} (before after : Ports R W L) (j : Job) (room status : ℕ) (c : ConversionAt before after j room status) (four : status ≡ 4) where
+  pub faults_of : EndsInFault (devices_at before) (devices_at after) j
   faults_of = by c.came_to refl
     where
       never : (b : Bool) (n : ℕ) → n ≡ 4 → n ≡ (if b then 0 else 1) → ⊥
       never true n is one = omega (arith, is, one)
       never false n is one = omega (arith, is, one)
 
-      by : (r : Result Report Fault) → c.came_to ≡ r → EndsInFault (devices_of before) (devices_of after) j
+      by : (r : Result Report Fault) → c.came_to ≡ r → EndsInFault (devices_at before) (devices_at after) j
       by (Ok p) is = absurd (never p.faithful status four (c.answered ∙ ap status_of is))
       by (Err f) is =
-          let t : TellsMessage c.flushed after.log (message_of f) = subst (λ (r : Result Report Fault). IfErr r (λ g. TellsMessage c.flushed after.log (message_of g))) is c.tells in
-          let kept : passed_of c.flushed ≡ passed_of c.ran.log = flushed_nothing c.ran.log c.flushed c.log_failed c.log in
+          let t : TellsMessage c.flushed after.log.now (message_of f) = subst (λ (r : Result Report Fault). IfErr r (λ g. TellsMessage c.flushed after.log.now (message_of g))) is c.tells in
+          let kept : passed_of c.flushed ≡ passed_of c.ran.log.now = flushed_nothing c.ran.log.now c.flushed c.log_failed c.log in
           record {
             fault = f;
-            ran = devices_of c.ran;
-            fails = subst (λ (r : Result Report Fault). IfErr r (Fails (devices_of before) (devices_of c.ran) j)) is c.fails;
+            ran = devices_at c.ran;
+            fails = subst (λ (r : Result Report Fault). IfErr r (Fails (devices_at before) (devices_at c.ran) j)) is c.fails;
             unread = ap reads_of c.unread;
-            unwritten = flushed_nothing c.ran.writer after.writer c.writer_failed c.writer;
+            unwritten = flushed_nothing c.ran.writer.now after.writer.now c.writer_failed c.writer;
             told = t.told;
             message = t.passed ∙ ap (λ l. l ++ take t.told (message_of f)) kept;
+            ordered = ap (λ l. Some l) (order_behind before after j room status c ∙ ap (λ l. order_of (journal_of c.ran) ++ map Line l)
+                (passed_calls (history_of c.flushed) (history_of after.log.now) c.told (take t.told (message_of f)) (log_behind before after j room status c) t.passed));
             whole = elim t.whole [
               | inl all ↦ inl all.1
               | inr cut ↦ inr (omega (arith, cut.0, c.log.counted))
             ];
           }
 
-module _ {R W L : Type 0} (before after : Ports R W L) (j : Job) (room status : ℕ) (c : IsConversion before after j room status) (whole : status ≢ 4) where
+module _ {R W L : Type 0} (before after : Ports R W L) (j : Job) (room status : ℕ) (c : ConversionAt before after j room status) (whole : status ≢ 4) where
   q : IsQuiet c.answer c.came_to c.writer_failed c.log_failed
   q = quiet_of c.answer c.came_to c.writer_failed c.log_failed status c.first c.answered whole
 
-  unlogged : after.log ≡ c.flushed
-  unlogged = subst (λ (r : Result Report Fault). OnOk r (after.log ≡ c.flushed)) q.comes c.quiet
+  unlogged : after.log.now ≡ c.flushed
+  unlogged = subst (λ (r : Result Report Fault). OnOk r (after.log.now ≡ c.flushed)) q.comes c.quiet
 
-  pub converts_of : Converts (devices_of before) (devices_of after) j status
+  untold : c.told ≡ []
+  untold = append_cancel_left (history_of c.flushed) c.told [] (sym (log_behind before after j room status c) ∙ ap history_of unlogged ∙ sym (append-nil (history_of c.flushed)))
+
+  unordered : order_of (journal_of after) ≡ order_of (journal_of c.ran)
+  unordered = order_behind before after j room status c ∙ ap (λ t. order_of (journal_of c.ran) ++ map Line (concat (passed_by t))) untold ∙ append-nil (order_of (journal_of c.ran))
+
+  pub converts_of : Converts (devices_at before) (devices_at after) j status
   converts_of =
-      let all : Completes (devices_of before).reads (devices_of c.ran).reads (devices_of before).written (devices_of c.ran).written j q.report =
-      subst (λ (r : Result Report Fault). IfOk r (Completes (devices_of before).reads (devices_of c.ran).reads (devices_of before).written (devices_of c.ran).written j)) q.returned c.returns.completes in
-      let kept : KeepsWritten (devices_of c.ran).written (devices_of after).written = record { output = flushed_nothing c.ran.writer after.writer c.writer_failed c.writer; log = ap passed_of unlogged ∙ flushed_nothing c.ran.log c.flushed c.log_failed c.log } in
-      converts_whole (devices_of before) (devices_of c.ran) j (devices_of after) q.report status all (ap reads_of c.unread) kept (c.answered ∙ ap status_of q.comes)
+      let all : Completes (devices_at before).reads (devices_at c.ran).reads (devices_at before).written (devices_at c.ran).written j q.report =
+      subst (λ (r : Result Report Fault). IfOk r (Completes (devices_at before).reads (devices_at c.ran).reads (devices_at before).written (devices_at c.ran).written j)) q.returned c.returns.completes in
+      let kept : KeepsWritten (devices_at c.ran).written (devices_at after).written = record { output = flushed_nothing c.ran.writer.now after.writer.now c.writer_failed c.writer; log = ap passed_of unlogged ∙ flushed_nothing c.ran.log.now c.flushed c.log_failed c.log; order = ap (λ l. Some l) unordered } in
+      converts_whole (devices_at before) (devices_at c.ran) j (devices_at after) q.report status all (ap reads_of c.unread) kept (c.answered ∙ ap status_of q.comes)

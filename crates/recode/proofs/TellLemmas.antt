@@ -6,17 +6,19 @@ use Rattle.std.specs.List.{All, concat}
 use Rattle.std.proofs.lemmas.List.{append_cancel_left, same_from_push}
 use Rattle.std.proofs.lemmas.List.Elements.{All-append, All-cons, All-nil}
 use Rattle.recode_log.specs.Call.{Call, Failed, Flush, FlushesOnce, Passed, passed_by, failed_read}
-use Rattle.recode_log.specs.Counted.{CountsWrites, failures_of, history_of}
+use Rattle.recode_log.specs.Counted.{CountsWrites, failures_of, history_of, inner_of, passed_of}
+use Rattle.recode_log.specs.Ports.{CallsLog, CallsWriter}
+use Rattle.recode_log.specs.declared.ports.Ports.{Ports}
 use Rattle.recode_log.specs.declared.counted.Counted.{Counted}
 use Rattle.recode_log.specs.laws.Calls.{passed_failed, passed_one}
 use Rattle.recode_log.specs.laws.Counts.{counts_none, counts_then}
 use Rattle.recode.specs.Conversion.{IsFlushed}
-use Rattle.recode.specs.Devices.{Devices, Gave, GaveToEnd, Grew, IsOf}
+use Rattle.recode.specs.Devices.{Devices, Gave, GaveToEnd, Grew, IsOf, devices_at, reads_of}
 use Rattle.recode.specs.Fault.{EndsAtFault, reader_failures}
 use Rattle.recode.specs.Step.{GaveSome, IsReadInto, RunCalls, StepCalls}
 use Rattle.recode_log.specs.Told.{TellsReads, TellsTaken}
 use Rattle.recode_log.specs.laws.Told.{NoneYet, flushed_none, taken_kept, reads_none, reads_after, reads_one, reads_then, taken_none, taken_then}
-use Rattle.recode.specs.Told.{Told, TellWhatPassed}
+use Rattle.recode.specs.Told.{Told, TellWhatPassed, told_at}
 use Rattle.recode.specs.declared.job.Fault.{Fault}
 use Rattle.recode.proofs.TraceLemmas.{GaveToEnd-is}
 use Rattle.recode.proofs.ReadLemmas.{gave_to_end}
@@ -83,8 +85,8 @@ pub reads_end : (a b : List (List ℕ)) (t u : Option (List ℕ)) (bytes : List 
 reads_end a b t u bytes h given = h.end given.0 (append_cancel_left a h.reads (given.0 ++ ([] ∷ [])) (sym h.gave ∙ given.1))
 
 -- a reader that says it has these bytes gives what begins them, and all of them by its end
-pub reads_of : (x : List ℕ) (a b : List (List ℕ)) (t u : Option (List ℕ)) → t ≡ Some x → TellsReads a b t u → IsOf a b x
-reads_of x a b t u is h = record {
+pub reads_is_of : (x : List ℕ) (a b : List (List ℕ)) (t u : Option (List ℕ)) → t ≡ Some x → TellsReads a b t u → IsOf a b x
+reads_is_of x a b t u is h = record {
   front = λ bytes given. front_of u bytes (subst (λ (w : Option (List ℕ)). Consumes w u bytes) is (reads_are a b t u bytes h given));
   whole = λ bytes given. whole_of u bytes (subst (λ (w : Option (List ℕ)). Consumes w u bytes) is (reads_are a b t u bytes h (GaveToEnd-is a b bytes given))) (reads_end a b t u bytes h given);
 }
@@ -108,10 +110,22 @@ tells_then d e f t u v yet h k = search (rules, reads_then, taken_then)
 pub tells_on : (d e f : Devices) (t u v : Told) (x : List ℕ) → t.input ≡ Some x → TellWhatPassed d e t u → TellWhatPassed e f u v → TellWhatPassed d f t v
 tells_on d e f t u v x is h k = search (rules, reads_after, taken_then)
 
--- and then more was written
-pub tells_more : (d e f : Devices) (t u v : Told) → TellWhatPassed d e t u → f.reads ≡ e.reads → v.input ≡ u.input → TellsTaken e.written.output f.written.output u.output v.output → TellsTaken e.written.log f.written.log u.log v.log
-    → TellWhatPassed d f t v
-tells_more d e f t u v h same still k l = record { input = rw (same, still) h.input; output = taken_then _ _ _ _ _ _ h.output k; log = taken_then _ _ _ _ _ _ h.log l }
+-- and then the writer or the log was called
+module _ {R W L : Type 0} (remaining : R → Option (List ℕ)) (contents : W → Option (List ℕ)) (logged : L → Option (List ℕ)) (d : Devices) (t : Told) (a b : Ports R W L)
+    (told : TellWhatPassed d (devices_at a) t (told_at remaining contents logged a)) where
+  pub tells_by_writer : CallsWriter a b → TellsTaken (passed_of a.writer.now) (passed_of b.writer.now) (contents (inner_of a.writer.now)) (contents (inner_of b.writer.now)) → TellWhatPassed d (devices_at b) t (told_at remaining contents logged b)
+  tells_by_writer h k = record {
+    input = subst (λ (r : Counted R). TellsReads d.reads (reads_of r) t.input (remaining (inner_of r))) (sym h.reader) told.input;
+    output = taken_then _ _ _ _ _ _ told.output k;
+    log = subst (λ (l : Counted L). TellsTaken d.written.log (passed_of l) t.log (logged (inner_of l))) (sym h.log) told.log;
+  }
+
+  pub tells_by_log : CallsLog a b → TellsTaken (passed_of a.log.now) (passed_of b.log.now) (logged (inner_of a.log.now)) (logged (inner_of b.log.now)) → TellWhatPassed d (devices_at b) t (told_at remaining contents logged b)
+  tells_by_log h k = record {
+    input = subst (λ (r : Counted R). TellsReads d.reads (reads_of r) t.input (remaining (inner_of r))) (sym h.reader) told.input;
+    output = subst (λ (w : Counted W). TellsTaken d.written.output (passed_of w) t.output (contents (inner_of w))) (sym h.writer) told.output;
+    log = taken_then _ _ _ _ _ _ told.log k;
+  }
 
 -- a flush, which fails or not
 pub flushed_as : {W T E : Type 0} (before after : Counted W) (r : Result T E) → FlushesOnce (history_of before) (history_of after) r → OnOk r (failures_of after ≡ failures_of before)

@@ -1,16 +1,16 @@
 -- What calls of devices passed in a row, and how what was written and what is still to be written compose. What the
 -- trace of a whole input is made of. If the log is empty, and if a stop cut it short.
-use Rattle.std.proofs.Common.{◌≡◌, List, [], ◌∷◌, ◌++◌, ℕ, refl, sym, ap, ◌∙◌, append_assoc, append-nil, arith, ◌<◌, ◌+◌, Result, Ok, Err, IfErr, IsErrAnd, Bool, true, map, take, drop, subst, take-append-drop, length}
+use Rattle.std.proofs.Common.{◌≡◌, List, [], ◌∷◌, ◌++◌, ℕ, refl, sym, ap, ◌∙◌, append_assoc, append-nil, arith, ◌<◌, ◌+◌, Option, Some, None, Result, Ok, Err, IfErr, IsErrAnd, Bool, true, map, take, drop, subst, take-append-drop, length}
 use Rattle.std.specs.List.{concat, flat_map}
 use Rattle.std.proofs.lemmas.List.Folds.{concat-append}
-use Rattle.recode.specs.Devices.{Gave, GaveThen, GaveToEnd, Grew, Written}
+use Rattle.recode.specs.Devices.{Gave, GaveThen, GaveToEnd, Grew, Written, Wrote, then_these}
 use Rattle.std.proofs.lemmas.List.{map-append}
 use Rattle.encoding_mem.specs.declared.codec.reference.Reference.{Reference}
 use Rattle.encoding_mem.specs.Items.{Item, Byte, MalformedAt, LostAt, item_bytes, open_items, trace_from}
 use Rattle.recode_log.specs.Line.{line_bytes}
-use Rattle.recode.specs.laws.Items.{output_bytes-append, log_bytes-append, output_bytes-bytes, log_bytes-bytes, output_bytes-lines, log_bytes-lines, tagged-append, lost_line_count-append, written_spared, spared_nil, spared_bytes}
+use Rattle.recode.specs.laws.Items.{output_bytes-append, log_bytes-append, output_bytes-lines, tagged-append, lost_line_count-append, written_spared, spared_nil, spared_bytes}
 use Rattle.recode.specs.laws.Parts.{log_bytes-noted, noted-cut, noted-trace}
-use Rattle.recode.specs.TaggedByte.{TaggedByte, Line, output_bytes, log_bytes, Wrote, tagged}
+use Rattle.recode.specs.TaggedByte.{TaggedByte, Line, Out, output_bytes, log_bytes, tagged}
 use Rattle.recode.specs.Parts.{noted}
 use Rattle.recode.specs.Policy.{up_to_loss, written_under, reference_form}
 use Rattle.recode.specs.WrittenItems.{WritesPrefix, WritesItemsFor, WritesPrefixFor, IsLeft, IsSpared, bad_line_count, lost_line_count, StopsAtLoss}
@@ -62,20 +62,36 @@ GaveThen-after a b c s t last p q = (
 pub GaveToEnd-is : (a b : List (List ℕ)) (s : List ℕ) → GaveToEnd a b s → Gave a b s
 GaveToEnd-is a b s p = (p.0 ++ ([] ∷ []), p.1, concat-append p.0 ([] ∷ []) ∙ append-nil (concat p.0) ∙ p.2)
 
+-- a list that may not be known, with more at its end
+then-nil : {X : Type 0} (o : Option (List X)) → then_these o [] ≡ o
+then-nil None = refl
+then-nil (Some xs) = ap (λ l. Some l) (append-nil xs)
+
+then-then : {X : Type 0} (o : Option (List X)) (s t : List X) → then_these (then_these o s) t ≡ then_these o (s ++ t)
+then-then None s t = refl
+then-then (Some xs) s t = ap (λ l. Some l) (append_assoc xs s t)
+
+-- a list that is known
+pub known_same : {X : Type 0} (x y : List X) → Some x ≡ Some y → x ≡ y
+known_same x y is = cc
+
 pub Wrote-nil : (w : Written) → Wrote w w []
-Wrote-nil w = record { output = Grew-nil w.output; lined = Grew-nil w.log }
+Wrote-nil w = record { output = Grew-nil w.output; lined = Grew-nil w.log; ordered = sym (then-nil w.order) }
 
 pub Wrote-trans : (w w' w'' : Written) (s t : List TaggedByte) → Wrote w w' s → Wrote w' w'' t → Wrote w w'' (s ++ t)
 Wrote-trans w w' w'' s t p q = record {
   output = subst (Grew w.output w''.output) (sym (output_bytes-append s t)) (Grew-trans w.output w'.output w''.output _ _ p.output q.output);
   lined = subst (Grew w.log w''.log) (sym (log_bytes-append s t)) (Grew-trans w.log w'.log w''.log _ _ p.lined q.lined);
+  ordered = q.ordered ∙ ap (λ o. then_these o t) p.ordered ∙ then-then w.order s t;
 }
 
-pub wrote_bytes : (w w' l : List ℕ) (bs : List ℕ) → Grew w w' bs → Wrote (record { output = w; log = l }) (record { output = w'; log = l }) (tagged (map Byte bs))
-wrote_bytes w w' l bs p = record { output = rw (output_bytes-bytes bs) p; lined = rw (log_bytes-bytes bs) (Grew-nil l) }
+-- bytes of the output, as tagged bytes
+pub tagged_bytes : (bs : List ℕ) → tagged (map Byte bs) ≡ map Out bs
+tagged_bytes [] = refl
+tagged_bytes (b ∷ bs) = ap (λ t. Out b ∷ t) (tagged_bytes bs)
 
-pub wrote_line : (w l l' : List ℕ) (bs : List ℕ) → Grew l l' bs → Wrote (record { output = w; log = l }) (record { output = w; log = l' }) (map Line bs)
-wrote_line w l l' bs p = record { output = rw (output_bytes-lines bs) (Grew-nil w); lined = rw (log_bytes-lines bs) p }
+pub wrote_bytes : (w w' : Written) (bs : List ℕ) → Wrote w w' (map Out bs) → Wrote w w' (tagged (map Byte bs))
+wrote_bytes w w' bs p = subst (Wrote w w') (sym (tagged_bytes bs)) p
 
 -- what is written of a front is a prefix of what is written of the whole, and is that if it stops
 cut_front : (s t : List Item) → (rest : List Item) × (up_to_loss (s ++ t) ≡ up_to_loss s ++ rest)
@@ -125,14 +141,14 @@ left_front p f taken total rest a e k =
     }
 
 -- n of the bytes
-pub under_bytes : (w w' l : List ℕ) (p : Policy) (f : Fault) (bs : List ℕ) (n : ℕ) (a b : List Item) → f ≡ Write → Grew w w' (take n bs) → a ≡ map Byte bs ++ b → WritesPrefix (record { output = w; log = l }) (record { output = w'; log = l }) p f a
-under_bytes w w' l p f bs n a b writer h e =
+pub under_bytes : (w w' : Written) (p : Policy) (f : Fault) (bs : List ℕ) (n : ℕ) (a b : List Item) → f ≡ Write → Wrote w w' (map Out (take n bs)) → a ≡ map Byte bs ++ b → WritesPrefix w w' p f a
+under_bytes w w' p f bs n a b writer h e =
     let more : List Item = map Byte (drop n bs) ++ b in
     let is : a ≡ map Byte (take n bs) ++ more =
     e ∙ ap (λ x. map Byte x ++ b) (sym (take-append-drop n bs)) ∙ ap (λ x. x ++ b) (map-append Byte (take n bs) (drop n bs)) ∙ append_assoc (map Byte (take n bs)) (map Byte (drop n bs)) b in
     record {
       taken = tagged (map Byte (take n bs));
-      wrote = wrote_bytes w w' l (take n bs) h;
+      wrote = wrote_bytes w w' (take n bs) h;
       left = record {
         prefix = (tagged (written_under p more), ap tagged (ap (written_under p) is ∙ written_spared p (map Byte (take n bs)) more (spared_bytes p (take n bs))) ∙ tagged-append (map Byte (take n bs)) (written_under p more));
         policy = λ i c is. absurd (cc);
@@ -147,11 +163,11 @@ written_first Policy.Stop item b = (up_to_loss b, refl)
 written_first _ item b = (b, refl)
 
 -- lines of which n bytes were taken
-pub under_lines : (w l l' : List ℕ) (p : Policy) (f : Fault) (lines : List ℕ) (n : ℕ) (items a more : List Item) → f ≡ Log → tagged items ≡ map Line lines → written_under p a ≡ items ++ more → Grew l l' (take n lines)
-    → WritesPrefix (record { output = w; log = l }) (record { output = w; log = l' }) p f a
-under_lines w l l' p f lines n items a more log e begins h = record {
+pub under_lines : (w w' : Written) (p : Policy) (f : Fault) (lines : List ℕ) (n : ℕ) (items a more : List Item) → f ≡ Log → tagged items ≡ map Line lines → written_under p a ≡ items ++ more → Wrote w w' (map Line (take n lines))
+    → WritesPrefix w w' p f a
+under_lines w w' p f lines n items a more log e begins h = record {
   taken = map Line (take n lines);
-  wrote = wrote_line w l l' (take n lines) h;
+  wrote = h;
   left = record {
     prefix = (
       map Line (drop n lines) ++ tagged more,

@@ -3,13 +3,12 @@
 use Rattle.std.proofs.Common.{◌≡◌, ◌∙◌, ℕ, Option, None, Result, Ok, Err, OnOk, IfErr, ap, arith, refl, sym, take, Some, ◌≤◌, ◌<◌, ◌+◌, ◌-◌, List, [], ◌∷◌, ◌++◌, map, drop, length, OnErr, IsErrAnd, Bool, true, subst, append_assoc, append-nil, take-add, rules}
 use Rattle.recode.specs.calls.Buffers.{AreEnough, KeepSizes, KeepsRoom, HoldsAnyCharacter, capacity, is_wide}
 use Rattle.recode.specs.calls.Lent.{AreLent, KeepsLent}
-use Rattle.recode.specs.calls.Writers.{AreReady, AreTheSame, HandsOn, HandsOnIf, HandsOnUnder, HoldNothing, TellWhatTaken, writers_view, written_by}
+use Rattle.recode.specs.calls.Writers.{AreReady, AreTheSame, HandsOn, HandsOnIf, HandsOnUnder, HoldNothing, TellWhatTaken, Writers, writers_view, written_by}
 use Rattle.recode.specs.calls.Held.{holding_none, LeavesPrefix, LeavesPrefixFor, Passes, PassesBytes, WritersView, held_items, held_line_bytes, item_of, line_items, log_line_of}
 use Rattle.recode.specs.declared.job.Buffers.{Buffers}
 use Rattle.recode.specs.declared.job.Pivot.{Pivot}
 use Rattle.recode.specs.declared.job.Pivot.TheVariants.{Utf8, Utf16}
 use Rattle.recode.specs.declared.writers.MalformedLine.{MalformedLine}
-use Rattle.recode.specs.declared.writers.Writers.{Writers}
 use Rattle.encoding_mem.specs.declared.codec.reference.Reference.{Reference}
 use Rattle.recode.specs.Policy.{reference_form, reference_of, written_under}
 use Rattle.recode.specs.declared.job.Policy.{Policy}
@@ -20,16 +19,17 @@ use Rattle.encoding_mem.specs.Items.{Item, Byte, LostAt}
 use Rattle.recode_log.specs.Line.{line_bytes}
 use Rattle.recode_log.specs.declared.line.LogLine.{LogLine}
 use Rattle.recode_log.specs.declared.line.LogLine.TheVariants.{Bad, Lost}
-use Rattle.recode.specs.Devices.{Grew, Written}
-use Rattle.recode.specs.TaggedByte.{Line, Wrote, tagged, tagged_item}
+use Rattle.recode.specs.Devices.{Grew, Written, Wrote}
+use Rattle.recode.specs.TaggedByte.{Line, Out, tagged, tagged_item}
 use Rattle.recode.specs.WrittenItems.{IsSpared, WritesPrefix, lost_line_count}
 use Rattle.recode.specs.declared.job.Fault.{Fault}
 use Rattle.recode.specs.declared.job.Fault.TheVariants.{Write, Log, Unmappable}
 use Rattle.recode.specs.laws.Items.{lost_line_count-append, lost_line_count-bytes, tagged-append, written_spared, spared_nil}
-use Rattle.recode.proofs.TraceLemmas.{WritesPrefixFor-of, Wrote-nil, Wrote-trans, left_behind, under_bytes, under_lines, written_first, wrote_bytes, wrote_line}
+use Rattle.recode.proofs.TraceLemmas.{WritesPrefixFor-of, Wrote-nil, Wrote-trans, left_behind, under_bytes, under_lines, written_first, wrote_bytes}
 use Rattle.recode_log.specs.Counted.{inner_of, passed_of}
 use Rattle.recode.proofs.TurnLemmas.{last_is, size_into}
 use Rattle.recode_log.specs.laws.Counts.{counts_none, counts_then}
+use Rattle.recode.proofs.OrderLemmas.{writes_none, writes_then}
 use Rattle.recode_log.specs.laws.Told.{taken_none, taken_then}
 
 -- ---- results
@@ -70,17 +70,17 @@ lent_on h k = record { pivot = room_on h.pivot k.pivot; check = room_on h.check 
 pub kept_enough : (b c : Buffers) → AreEnough b → KeepSizes b c → AreEnough c
 kept_enough b c e k = search (rules, arith, holds_still)
 
-pub same_start : {W L : Type 0} (a : Writers W L) → AreReady a → AreTheSame a a
-same_start a ready = record { output = refl; buffer = refl; room = refl; within = ready.within; line = ready.line; log = refl }
+pub same_start : {R W L : Type 0} (a : Writers R W L) → AreReady a → AreTheSame a a
+same_start a ready = record { room = refl; within = ready.within; line = ready.line }
 
-pub same_on : {W L : Type 0} {a b c : Writers W L} → AreTheSame a b → AreTheSame b c → AreTheSame a c
-same_on p q = record { output = q.output ∙ p.output; buffer = q.buffer ∙ p.buffer; room = q.room ∙ p.room; within = q.within; line = q.line; log = q.log ∙ p.log }
+pub same_on : {R W L : Type 0} {a b c : Writers R W L} → AreTheSame a b → AreTheSame b c → AreTheSame a c
+same_on p q = record { room = q.room ∙ p.room; within = q.within; line = q.line }
 
 -- writers for which nothing is held
-pub view_none : {W L : Type 0} (a : Writers W L) → HoldNothing a → writers_view a ≡ holding_none (written_by a)
+pub view_none : {R W L : Type 0} (a : Writers R W L) → HoldNothing a → writers_view a ≡ holding_none (written_by a)
 view_none a h =
-    ap (λ (line : Option MalformedLine). record { written = written_by a; line = line; bytes = take a.held a.buffer.now }) h.line
-    ∙ ap (λ (n : ℕ). record { written = written_by a; line = None; bytes = take n a.buffer.now }) h.bytes
+    ap (λ (line : Option MalformedLine). record { written = written_by a; line = line; bytes = take a.held a.buffer }) h.line
+    ∙ ap (λ (n : ℕ). record { written = written_by a; line = None; bytes = take n a.buffer }) h.bytes
 
 -- a policy that writes no reference stops, and another writes one of its form
 pub form_of : (p : Policy) → (reference_of p ≡ None → p ≡ Policy.Stop) × ((ref : Reference) → reference_of p ≡ Some ref → ref ≡ reference_form p)
@@ -140,18 +140,18 @@ held_line_is None = refl
 held_line_is (Some line) = append-nil (tagged_item (item_of (log_line_of line))) ∙ line_is (log_line_of line)
 
 -- the line that is held is written
-pub delivers_line : (o l l' : List ℕ) (line : Option MalformedLine) (bytes : List ℕ) → Grew l l' (held_line_bytes line)
-    → Passes (record { written = record { output = o; log = l }; line = line; bytes = bytes }) (record { written = record { output = o; log = l' }; line = None; bytes = bytes }) []
-delivers_line o l l' line bytes told = record {
+pub delivers_line : (w w' : Written) (line : Option MalformedLine) (bytes : List ℕ) → Wrote w w' (map Line (held_line_bytes line))
+    → Passes (record { written = w; line = line; bytes = bytes }) (record { written = w'; line = None; bytes = bytes }) []
+delivers_line w w' line bytes told = record {
   delivered = line_items line;
-  wrote = rw (held_line_is line) (wrote_line o l l' (held_line_bytes line) told);
+  wrote = rw (held_line_is line) told;
   in_order = append-nil (line_items line ++ map Byte bytes);
 }
 
 -- then the bytes
-pub delivers : (o o' l : List ℕ) (held held' : List ℕ) → Grew o o' held → held' ≡ []
-    → Passes (record { written = record { output = o; log = l }; line = None; bytes = held }) (record { written = record { output = o'; log = l }; line = None; bytes = held' }) []
-delivers o o' l held held' h none = record { delivered = map Byte held; wrote = wrote_bytes o o' l held h; in_order = ap (λ x. map Byte held ++ map Byte x) (sym none) }
+pub delivers : (w w' : Written) (held held' : List ℕ) → Wrote w w' (map Out held) → held' ≡ []
+    → Passes (record { written = w; line = None; bytes = held }) (record { written = w'; line = None; bytes = held' }) []
+delivers w w' held held' h none = record { delivered = map Byte held; wrote = wrote_bytes w w' held h; in_order = ap (λ x. map Byte held ++ map Byte x) (sym none) }
 
 -- bytes are held
 pub holds : (w : Written) (line : Option MalformedLine) (held held' bytes : List ℕ) → held' ≡ held ++ bytes
@@ -172,10 +172,10 @@ holds_behind w line n m buffer room within =
     (take-add n m after ∙ ap (λ k. take n after ++ take m (drop k after)) at ∙ ap (λ x. x ++ take m (drop ((n + m) - m) after)) (take-put_mid_below n (length buffer - n) buffer room n (omega arith) within))
 
 -- bytes that were not held are written, if nothing is held
-pub delivers_more : (o o' l : List ℕ) (line : Option MalformedLine) (held held' bytes : List ℕ) → line ≡ None → held ≡ [] → held' ≡ [] → Grew o o' bytes
-    → PassesBytes (record { written = record { output = o; log = l }; line = line; bytes = held }) (record { written = record { output = o'; log = l }; line = line; bytes = held' }) bytes
-delivers_more o o' l line held held' bytes no_line none none' h =
-    rw (no_line, none, none') (record { delivered = map Byte bytes; wrote = wrote_bytes o o' l bytes h; in_order = sym (append-nil (map Byte bytes)) })
+pub delivers_more : (w w' : Written) (line : Option MalformedLine) (held held' bytes : List ℕ) → line ≡ None → held ≡ [] → held' ≡ [] → Wrote w w' (map Out bytes)
+    → PassesBytes (record { written = w; line = line; bytes = held }) (record { written = w'; line = line; bytes = held' }) bytes
+delivers_more w w' line held held' bytes no_line none none' h =
+    rw (no_line, none, none') (record { delivered = map Byte bytes; wrote = wrote_bytes w w' bytes h; in_order = sym (append-nil (map Byte bytes)) })
 
 -- ---- lines
 
@@ -190,11 +190,11 @@ two_lines_are held line lines e =
     tagged-append (line_items held) (item_of line ∷ [])
     ∙ rw (e, map-append Line (held_line_bytes held) (line_bytes line), held_line_is held, append-nil (tagged_item (item_of line)), line_is line) refl
 
-pub writes_lines : (o l l' : List ℕ) (held : Option MalformedLine) (bytes lines : List ℕ) (line : LogLine) → bytes ≡ [] → lines ≡ held_line_bytes held ++ line_bytes line → Grew l l' lines
-    → Passes (record { written = record { output = o; log = l }; line = held; bytes = bytes }) (record { written = record { output = o; log = l' }; line = None; bytes = bytes }) (item_of line ∷ [])
-writes_lines o l l' held bytes lines line none is told = record {
+pub writes_lines : (w w' : Written) (held : Option MalformedLine) (bytes lines : List ℕ) (line : LogLine) → bytes ≡ [] → lines ≡ held_line_bytes held ++ line_bytes line → Wrote w w' (map Line lines)
+    → Passes (record { written = w; line = held; bytes = bytes }) (record { written = w'; line = None; bytes = bytes }) (item_of line ∷ [])
+writes_lines w w' held bytes lines line none is told = record {
   delivered = line_items held ++ (item_of line ∷ []);
-  wrote = rw (two_lines_are held line lines is) (wrote_line o l l' lines told);
+  wrote = rw (two_lines_are held line lines is) told;
   in_order = rw (none, append-nil (line_items held)) (sym (append-nil (line_items held ++ (item_of line ∷ []))));
 }
 
@@ -209,32 +209,32 @@ pub none_held : (n : ℕ) (buffer : List ℕ) → n ≡ 0 → take n buffer ≡ 
 none_held n buffer e = ap (λ k. take k buffer) e
 
 -- A part of the line that is held.
-module _ {T : Type 0} (r : Result T Fault) (o l l' : List ℕ) (line : Option MalformedLine) (held bytes : List ℕ) (failures failures' : ℕ) (is : bytes ≡ held_line_bytes line) where
-  pub line_part : (Y : ℕ → Type 0) (p : Policy) → IfErr r (λ (g : Fault). g ≡ Log) → OnErr r ((n : ℕ) × (n < length bytes) × Y n × (failures' ≡ failures + 1) × Grew l l' (take n bytes))
-      → IfErr r (λ (g : Fault). (to_write : List Item) → WritesPrefix (record { output = o; log = l }) (record { output = o; log = l' }) p g ((line_items line ++ map Byte held) ++ to_write))
+module _ {T : Type 0} (r : Result T Fault) (w w' : Written) (to : (bs : List ℕ) → Grew w.log w'.log bs → Wrote w w' (map Line bs)) (line : Option MalformedLine) (held bytes : List ℕ) (failures failures' : ℕ) (is : bytes ≡ held_line_bytes line) where
+  pub line_part : (Y : ℕ → Type 0) (p : Policy) → IfErr r (λ (g : Fault). g ≡ Log) → OnErr r ((n : ℕ) × (n < length bytes) × Y n × (failures' ≡ failures + 1) × Grew w.log w'.log (take n bytes))
+      → IfErr r (λ (g : Fault). (to_write : List Item) → WritesPrefix w w' p g ((line_items line ++ map Byte held) ++ to_write))
   line_part Y p is_log k = on_err r is_log k (λ g same q to_write.
       let e : (line_items line ++ map Byte held) ++ to_write ≡ line_items line ++ (map Byte held ++ to_write) = append_assoc (line_items line) (map Byte held) to_write in
       let spared : lost_line_count (line_items line) ≡ 0 = ap lost_line_count (sym (append-nil (line_items line))) ∙ line_spared line [] in
-      under_lines o l l' p g bytes q.0 (line_items line) _ (written_under p (map Byte held ++ to_write)) same (held_line_is line ∙ ap (map Line) (sym is)) (ap (written_under p) e ∙ written_spared p (line_items line) _ (λ stops. spared)) q.4)
+      under_lines w w' p g bytes q.0 (line_items line) _ (written_under p (map Byte held ++ to_write)) same (held_line_is line ∙ ap (map Line) (sym is)) (ap (written_under p) e ∙ written_spared p (line_items line) _ (λ stops. spared)) (to (take q.0 bytes) q.4))
 
 -- A part of the line that is held and of one after it: no bytes are held.
-module _ {T : Type 0} (r : Result T Fault) (o l l' : List ℕ) (held : Option MalformedLine) (bytes lines : List ℕ) (line : LogLine) (failures failures' : ℕ) (none : bytes ≡ []) (is : lines ≡ held_line_bytes held ++ line_bytes line) where
-  pub lines_part : (Y : ℕ → Type 0) (p : Policy) → IfErr r (λ (g : Fault). g ≡ Log) → OnErr r ((n : ℕ) × (n < length lines) × Y n × (failures' ≡ failures + 1) × Grew l l' (take n lines))
-      → IfErr r (λ (g : Fault). (more : List Item) → WritesPrefix (record { output = o; log = l }) (record { output = o; log = l' }) p g ((line_items held ++ map Byte bytes) ++ (item_of line ∷ more)))
+module _ {T : Type 0} (r : Result T Fault) (w w' : Written) (to : (bs : List ℕ) → Grew w.log w'.log bs → Wrote w w' (map Line bs)) (held : Option MalformedLine) (bytes lines : List ℕ) (line : LogLine) (failures failures' : ℕ) (none : bytes ≡ []) (is : lines ≡ held_line_bytes held ++ line_bytes line) where
+  pub lines_part : (Y : ℕ → Type 0) (p : Policy) → IfErr r (λ (g : Fault). g ≡ Log) → OnErr r ((n : ℕ) × (n < length lines) × Y n × (failures' ≡ failures + 1) × Grew w.log w'.log (take n lines))
+      → IfErr r (λ (g : Fault). (more : List Item) → WritesPrefix w w' p g ((line_items held ++ map Byte bytes) ++ (item_of line ∷ more)))
   lines_part Y p is_log k = on_err r is_log k (λ g same q more.
       let first = written_first p (item_of line) more in
       let e : (line_items held ++ map Byte bytes) ++ (item_of line ∷ more) ≡ line_items held ++ (item_of line ∷ more) = ap (λ x. (line_items held ++ map Byte x) ++ (item_of line ∷ more)) none ∙ ap (λ x. x ++ (item_of line ∷ more)) (append-nil (line_items held)) in
       let spared : lost_line_count (line_items held) ≡ 0 = ap lost_line_count (sym (append-nil (line_items held))) ∙ line_spared held [] in
-      under_lines o l l' p g lines q.0 (line_items held ++ (item_of line ∷ [])) _ first.0 same (two_lines_are held line lines is)
-      (ap (written_under p) e ∙ written_spared p (line_items held) _ (λ stops. spared) ∙ ap (λ x. line_items held ++ x) first.1 ∙ sym (append_assoc (line_items held) (item_of line ∷ []) first.0)) q.4)
+      under_lines w w' p g lines q.0 (line_items held ++ (item_of line ∷ [])) _ first.0 same (two_lines_are held line lines is)
+      (ap (written_under p) e ∙ written_spared p (line_items held) _ (λ stops. spared) ∙ ap (λ x. line_items held ++ x) first.1 ∙ sym (append_assoc (line_items held) (item_of line ∷ []) first.0)) (to (take q.0 lines) q.4))
 
 -- A part of some bytes: nothing is held.
-module _ {T : Type 0} (r : Result T Fault) (o o' l : List ℕ) (line : Option MalformedLine) (held bytes passed : List ℕ) (failures failures' : ℕ) (no_line : line ≡ None) (none : held ≡ []) (is : bytes ≡ passed) where
-  pub delivers_part : (Y : ℕ → Type 0) (p : Policy) → IfErr r (λ (g : Fault). g ≡ Write) → OnErr r ((n : ℕ) × (n < length bytes) × Y n × (failures' ≡ failures + 1) × Grew o o' (take n bytes))
-      → IfErr r (λ (g : Fault). (more : List Item) → WritesPrefix (record { output = o; log = l }) (record { output = o'; log = l }) p g ((line_items line ++ map Byte held) ++ (map Byte passed ++ more)))
+module _ {T : Type 0} (r : Result T Fault) (w w' : Written) (to : (bs : List ℕ) → Grew w.output w'.output bs → Wrote w w' (map Out bs)) (line : Option MalformedLine) (held bytes passed : List ℕ) (failures failures' : ℕ) (no_line : line ≡ None) (none : held ≡ []) (is : bytes ≡ passed) where
+  pub delivers_part : (Y : ℕ → Type 0) (p : Policy) → IfErr r (λ (g : Fault). g ≡ Write) → OnErr r ((n : ℕ) × (n < length bytes) × Y n × (failures' ≡ failures + 1) × Grew w.output w'.output (take n bytes))
+      → IfErr r (λ (g : Fault). (more : List Item) → WritesPrefix w w' p g ((line_items line ++ map Byte held) ++ (map Byte passed ++ more)))
   delivers_part Y p is_write k = on_err r is_write k (λ g same q more.
       let e : (line_items line ++ map Byte held) ++ (map Byte passed ++ more) ≡ map Byte passed ++ more = ap (λ x. (line_items x ++ map Byte held) ++ (map Byte passed ++ more)) no_line ∙ ap (λ x. map Byte x ++ (map Byte passed ++ more)) none in
-      under_bytes o o' l p g passed q.0 _ more same (subst (λ x. Grew o o' (take q.0 x)) is q.4) e)
+      under_bytes w w' p g passed q.0 _ more same (to (take q.0 passed) (subst (λ x. Grew w.output w'.output (take q.0 x)) is q.4)) e)
 
 -- the fault of a policy that stops, after the line of the character
 pub stops_as : (w w' : WritersView) (p : Policy) (f : Fault) (i c : ℕ) (b : List Item) → f ≡ Unmappable i c → p ≡ Policy.Stop → Passes w w' (LostAt i c ∷ []) → held_items w' ≡ [] → LeavesPrefix w w' p f (LostAt i c ∷ b)
@@ -256,67 +256,71 @@ stops_as w w' p f i c b fault stops h none =
     }
 
 -- writers that hold so many bytes of a room behind those that they held
-abbrev pub holding_more : {W L : Type 0} → Writers W L → List ℕ → ℕ → Writers W L
-holding_more a room n = record a { buffer = record a.buffer { now = put_mid a.held (length a.buffer.now - a.held) a.buffer.now room }; held = a.held + n }
+abbrev pub holding_more : {R W L : Type 0} → Writers R W L → List ℕ → ℕ → Writers R W L
+holding_more a room n = record a { buffer = put_mid a.held (length a.buffer - a.held) a.buffer room; held = a.held + n }
 
-module _ {W L : Type 0} {contents : W → Option (List ℕ)} {logged : L → Option (List ℕ)} where
-  -- what the writers say of their bytes, in a row
-  pub told_then : (a b c : Writers W L) → TellWhatTaken contents logged a b → TellWhatTaken contents logged b c → TellWhatTaken contents logged a c
+module _ {R W L : Type 0} {contents : W → Option (List ℕ)} {logged : L → Option (List ℕ)} where
+  -- what the writers say of their bytes, if nothing is passed
+  pub told_none : (a : Writers R W L) → TellWhatTaken contents logged a a
+  told_none a = record { output = taken_none (passed_of a.ports.writer.now) (contents (inner_of a.ports.writer.now)); log = taken_none (passed_of a.ports.log.now) (logged (inner_of a.ports.log.now)) }
+
+  -- and in a row
+  pub told_then : (a b c : Writers R W L) → TellWhatTaken contents logged a b → TellWhatTaken contents logged b c → TellWhatTaken contents logged a c
   told_then a b c h k = record { output = taken_then _ _ _ _ _ _ h.output k.output; log = taken_then _ _ _ _ _ _ h.log k.log }
 
   -- what holds whatever the policy holds under one
-  pub hands_under : {T : Type 0} {p : Policy} {a b : Writers W L} {items : List Item} {r : Result T Fault} → HandsOn contents logged a b items r → HandsOnUnder p contents logged a b items r
+  pub hands_under : {T : Type 0} {p : Policy} {a b : Writers R W L} {items : List Item} {r : Result T Fault} → HandsOn contents logged a b items r → HandsOnUnder p contents logged a b items r
   hands_under h = record { ok = h.ok; err = λ p is. h.err p tt; failures = h.failures; told = h.told }
 
-module _ {W L : Type 0} {contents : W → Option (List ℕ)} {logged : L → Option (List ℕ)} {applies : Policy → Type 0} where
+module _ {R W L : Type 0} {contents : W → Option (List ℕ)} {logged : L → Option (List ℕ)} {applies : Policy → Type 0} where
   -- a fault that is handed on, before more was passed
-  pub hands_fault : {S T : Type 0} {a b : Writers W L} {items : List Item} (more : List Item) {e : Fault} {r : Result T Fault} → IsErrAnd r (λ (x : Fault). x ≡ e)
+  pub hands_fault : {S T : Type 0} {a b : Writers R W L} {items : List Item} (more : List Item) {e : Fault} {r : Result T Fault} → IsErrAnd r (λ (x : Fault). x ≡ e)
       → HandsOnIf {T = S} contents logged applies a b items (Err e) → HandsOnIf contents logged applies a b (items ++ more) r
   hands_fault {S} {T} {a} {b} {items} more {e} {r = Ok x} same h = absurd same
   hands_fault {S} {T} {a} {b} {items} more {e} {r = Err x} same h = rw same (record {
     ok = tt;
     err = λ p is rest. rw (append_assoc items more rest) (h.err p is (more ++ rest));
-    failures = record { writer = h.failures.writer; log = h.failures.log; not_reader = h.failures.not_reader; not_other = h.failures.not_other; output_calls = h.failures.output_calls; log_calls = h.failures.log_calls; same = h.failures.same; last = h.failures.last };
+    failures = record { writer = h.failures.writer; log = h.failures.log; not_reader = h.failures.not_reader; not_other = h.failures.not_other; output_calls = h.failures.output_calls; log_calls = h.failures.log_calls; journal = h.failures.journal; same = h.failures.same; last = h.failures.last };
     told = h.told;
   })
 
   -- what was passed, and then what more was
-  pub hands_then : {S T : Type 0} {a b c : Writers W L} {items more : List Item} {u : S} {r : Result T Fault} → ((p : Policy) → applies p → IsSpared p items)
+  pub hands_then : {S T : Type 0} {a b c : Writers R W L} {items more : List Item} {u : S} {r : Result T Fault} → ((p : Policy) → applies p → IsSpared p items)
       → HandsOnIf contents logged applies a b items (Ok u) → HandsOnIf contents logged applies b c more r → HandsOnIf contents logged applies a c (items ++ more) r
   hands_then {S} {T} {a} {b} {c} {items} {more} {u} {r} spared h k = record {
     ok = ok_map r k.ok (λ q. passes_then (writers_view a) (writers_view b) (writers_view c) items more h.ok q);
     err = λ p is. err_map r (k.err p is) (λ f q rest. left_after (writers_view a) (writers_view b) (writers_view c).written p f items
         ((items ++ more) ++ rest) (more ++ rest) h.ok (spared p is) (append_assoc items more rest) (q rest));
-    failures = search (rules, arith, same_on, counts_then);
+    failures = search (rules, arith, same_on, counts_then, writes_then);
     told = told_then a b c h.told k.told;
   }
 
   -- what was held is delivered first
-  pub hands_after : {S T : Type 0} {a b c : Writers W L} {more : List Item} {u : S} {r : Result T Fault} → HandsOnIf contents logged applies a b [] (Ok u) → HandsOnIf contents logged applies b c more r → HandsOnIf contents logged applies a c more r
+  pub hands_after : {S T : Type 0} {a b c : Writers R W L} {more : List Item} {u : S} {r : Result T Fault} → HandsOnIf contents logged applies a b [] (Ok u) → HandsOnIf contents logged applies b c more r → HandsOnIf contents logged applies a c more r
   hands_after {S} {T} {a} {b} {c} {more} {u} {r} h k = hands_then {items = []} (λ p is. spared_nil p) h k
 
   -- nothing was passed
-  pub hands_start : {a : Writers W L} → AreReady a → HandsOnIf {T = Unit {0}} contents logged applies a a [] (Ok tt)
+  pub hands_start : {a : Writers R W L} → AreReady a → HandsOnIf {T = Unit {0}} contents logged applies a a [] (Ok tt)
   hands_start {a} ready = record {
     ok = record { delivered = []; wrote = Wrote-nil (written_by a); in_order = append-nil (held_items (writers_view a)) };
     err = λ p is. tt;
-    failures = record { writer = omega arith; log = omega arith; not_reader = refl; not_other = refl; output_calls = counts_none _; log_calls = counts_none _; same = same_start a ready; last = tt };
-    told = record { output = taken_none (passed_of a.output.now) (contents (inner_of a.output.now)); log = taken_none (passed_of a.log.now) (logged (inner_of a.log.now)) };
+    failures = record { writer = omega arith; log = omega arith; not_reader = refl; not_other = refl; output_calls = counts_none _; log_calls = counts_none _; journal = writes_none _; same = same_start a ready; last = tt };
+    told = told_none a;
   }
 
   -- bytes are held behind those that were
-  pub hands_held : {a : Writers W L} (room : List ℕ) (n : ℕ) → AreReady a → length room ≡ length a.buffer.now - a.held → n ≤ length room
+  pub hands_held : {a : Writers R W L} (room : List ℕ) (n : ℕ) → AreReady a → length room ≡ length a.buffer - a.held → n ≤ length room
       → HandsOnIf {T = Unit {0}} contents logged applies a (holding_more a room n) (map Byte (take n room)) (Ok tt)
   hands_held {a} room n ready size fits =
-      let free = length a.buffer.now - a.held in
-      let long : length (put_mid a.held free a.buffer.now room) ≡ length a.buffer.now = size_into a.buffer.now room a.held free ready.within refl size in
+      let free = length a.buffer - a.held in
+      let long : length (put_mid a.held free a.buffer room) ≡ length a.buffer = size_into a.buffer room a.held free ready.within refl size in
       record {
-        ok = rw (last_is a.buffer.now room a.held n ready.within fits) at (holds_behind (written_by a) a.line a.held n a.buffer.now room ready.within);
+        ok = rw (last_is a.buffer room a.held n ready.within fits) at (holds_behind (written_by a) a.line a.held n a.buffer room ready.within);
         err = λ p is. tt;
-        failures = search (rules, arith, long, counts_none);
-        told = record { output = taken_none (passed_of a.output.now) (contents (inner_of a.output.now)); log = taken_none (passed_of a.log.now) (logged (inner_of a.log.now)) };
+        failures = search (rules, arith, long, counts_none, writes_none);
+        told = record { output = taken_none (passed_of a.ports.writer.now) (contents (inner_of a.ports.writer.now)); log = taken_none (passed_of a.ports.log.now) (logged (inner_of a.ports.log.now)) };
       }
 
   -- the writers are ready still
-  pub hands_ready : {a b : Writers W L} {items : List Item} → AreReady a → HandsOnIf {T = Unit {0}} contents logged applies a b items (Ok tt) → AreReady b
+  pub hands_ready : {a b : Writers R W L} {items : List Item} → AreReady a → HandsOnIf {T = Unit {0}} contents logged applies a b items (Ok tt) → AreReady b
   hands_ready ready h = search (rules, arith)

@@ -1,14 +1,16 @@
 -- What a whole conversion did, and what it says by its status.
-use Rattle.std.specs.Prelude.{if◌then◌else◌, ◌≡◌, ℕ, ◌+◌, ◌<◌, ◌⊎◌, List, [], ◌∷◌, ◌++◌, take, Bool, true, false, Result, Ok, Err, OnOk, IfErr, codes}
-use Rattle.recode_log.specs.Call.{Flush, failed_write}
+use Rattle.std.specs.Prelude.{if◌then◌else◌, ◌≡◌, ℕ, ◌+◌, ◌<◌, ◌⊎◌, List, [], ◌∷◌, ◌++◌, map, take, Bool, true, false, Result, Ok, Err, OnOk, IfErr, codes}
+use Rattle.recode_log.specs.Call.{Call, Flush, failed_write}
 use Rattle.recode_log.specs.Counted.{TellsMessage, failures_of, history_of}
+use Rattle.recode_log.specs.Journal.{AtLog, AtWriter}
 use Rattle.recode_log.specs.declared.counted.Counted.{Counted}
 use Rattle.recode_log.specs.Line.{row_bytes}
 use Rattle.recode.specs.Job.{Faithful}
 use Rattle.recode.specs.Runs.{RunReturns}
 use Rattle.recode.specs.Session.{Fails, WroteWhole}
 use Rattle.recode.specs.Step.{RunCalls}
-use Rattle.recode.specs.Devices.{Devices, GaveToEnd, Ports, devices_of}
+use Rattle.recode.specs.Devices.{Devices, GaveToEnd, PortsView, devices_of, then_these}
+use Rattle.recode.specs.TaggedByte.{Line}
 use Rattle.recode.specs.declared.job.Fault.{Fault}
 use Rattle.recode.specs.declared.job.Fault.TheVariants.{Read, Write, Log, TooLong, Unmappable}
 use Rattle.recode.specs.declared.job.Job.{Job}
@@ -55,6 +57,7 @@ pub record EndsInFault (before after : Devices) (j : Job) : Type 0 where
   pub unwritten : after.written.output ≡ ran.written.output
   pub told : ℕ
   pub message : after.written.log ≡ ran.written.log ++ take told (message_of fault)
+  pub ordered : after.written.order ≡ then_these ran.written.order (map Line (take told (message_of fault)))
   pub whole : (take told (message_of fault) ≡ message_of fault) ⊎ (ran.failures.log < after.failures.log)
 
 -- a writer was flushed once, and its count rose by one if that failed
@@ -62,11 +65,11 @@ pub record IsFlushed {W : Type 0} (before after : Counted W) (failed : Bool) : T
   pub once : history_of after ≡ history_of before ++ (Flush failed ∷ [])
   pub counted : failures_of after ≡ failures_of before + failed_write (Flush failed)
 
--- What a conversion did: a run, which left the devices as `ran` has them, then one flush of the writer and one of the log,
--- and, if no fault came, nothing more. After a fault the message of the first was written to the log. Output and log have, before
--- the message, what a run leaves that ends with this fault.
-pub record IsConversion {R W L : Type 0} (before after : Ports R W L) (j : Job) (room status : ℕ) : Type 0 where
-  pub ran : Ports R W L
+-- What a conversion did: a run, which left the devices as `ran` has them, then one flush of the writer, then one of the log,
+-- and, if no fault came, nothing more. After a fault, the message of the first was then written to the log. Before the
+-- message, output and log have what a run leaves that ends with this fault.
+pub record IsConversion {R W L : Type 0} (before after : PortsView R W L) (j : Job) (room status : ℕ) : Type 0 where
+  pub ran : PortsView R W L
   pub answer : Result Report Fault
   pub returns : RunReturns (devices_of before) (devices_of ran) j answer
   pub calls : RunCalls before.reader ran.reader before.writer ran.writer before.log ran.log room answer
@@ -81,4 +84,6 @@ pub record IsConversion {R W L : Type 0} (before after : Ports R W L) (j : Job) 
   pub fails : IfErr came_to (Fails (devices_of before) (devices_of ran) j)
   pub quiet : OnOk came_to (after.log ≡ flushed)
   pub tells : IfErr came_to (λ f. TellsMessage flushed after.log (message_of f))
+  pub told : List Call
+  pub made : after.journal ≡ then_these ran.journal (AtWriter (Flush writer_failed) ∷ AtLog (Flush log_failed) ∷ map AtLog told)
   pub answered : status ≡ status_of came_to

@@ -1,5 +1,5 @@
 -- Why an index is not there, and which are there by then.
-use Rattle.std.specs.Prelude.{◌≡◌, ◌≢◌, ◌⊎◌, ⊤, ℕ, List, ◌∷◌, ◌++◌, Option, None, Some, Contains, IfSome, codes, false, true}
+use Rattle.std.specs.Prelude.{◌≡◌, ◌≢◌, ◌⊎◌, ⊤, ℕ, List, ◌∷◌, ◌++◌, Some, Contains, codes, false, true}
 use Rattle.encoding_front.specs.Encodings.{AreThere}
 use Rattle.encoding_index.specs.Loads.{load_fault}
 use Rattle.encoding_index.specs.declared.fault.IndexFaultKind.{IndexFaultKind}

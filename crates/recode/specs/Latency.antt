@@ -10,8 +10,8 @@ use Rattle.recode_log.specs.Line.{line_bytes}
 use Rattle.recode.specs.Job.{input_pieces, input_text, log_lines, target_of, whole_trace}
 use Rattle.recode.specs.Policy.{reference_form, written_under}
 use Rattle.recode.specs.State.{State}
-use Rattle.recode.specs.Devices.{Devices, Gave, Grew, Written}
-use Rattle.recode.specs.TaggedByte.{IsPrefix, TaggedByte, Wrote, tagged}
+use Rattle.recode.specs.Devices.{Devices, Gave, Grew, Written, Wrote}
+use Rattle.recode.specs.TaggedByte.{IsPrefix, TaggedByte, tagged}
 use Rattle.recode.specs.declared.job.Job.{Job}
 
 -- A conversion of a job has read x, and has converted the pieces ps: those of x, however it goes on, are ps and then

@@ -15,6 +15,8 @@ pub mod ReadBackJobs
 pub mod Runs
 pub mod Parts
 pub mod Latency
+pub mod Leavings
+pub mod Order
 pub mod Conversion
 pub mod RunsTold
 pub mod Program

@@ -1,5 +1,5 @@
 -- An input that is converted part by part.
-use Rattle.std.specs.Prelude.{◌≡◌, ℕ, ◌+◌, ◌↔◌, true, IsTrue, List, [], ◌∷◌, ◌++◌, length, map}
+use Rattle.std.specs.Prelude.{◌≡◌, ℕ, ◌+◌, ◌↔◌, true, IsTrue, List, [], ◌∷◌, ◌++◌, None, length, map}
 use Rattle.std.specs.List.{flat_map}
 use Rattle.encoding_mem.specs.Items.{Item, Byte, MalformedAt, LostAt}
 use Rattle.encoding_mem.specs.Parts.{EndsInCut}
@@ -75,7 +75,7 @@ AreFaithful j (x ∷ parts) = Faithful j x × AreFaithful j parts
 
 -- nothing is written so far
 abbrev pub unwritten : Written
-unwritten = record { output = []; log = [] }
+unwritten = record { output = []; log = []; order = None }
 
 -- What two runs wrote for the parts x and y of an input, v and w, is what is written for the whole, with the lines of
 -- the second log moved: by the bytes that the first run read, and by the characters that it counted. Both say that

@@ -18,8 +18,9 @@ use Rattle.recode_words.specs.declared.words.MarkWord.{MarkWord}
 use Rattle.recode_words.specs.declared.words.PolicyWord.{PolicyWord}
 use Rattle.recode_words.specs.declared.words.Words.{Words}
 use Rattle.recode.specs.Conversion.{Converts, EndsInFault, IsConversion}
-use Rattle.recode.specs.Devices.{Devices, GaveToEnd, Ports, devices_of}
+use Rattle.recode.specs.Devices.{Devices, GaveToEnd, PortsView, devices_of}
 use Rattle.recode.specs.Job.{Faithful, IsValidJob}
+use Rattle.recode.specs.Order.{KeepsOrder}
 use Rattle.recode.specs.Session.{WroteWhole}
 use Rattle.recode.specs.Told.{TellWhatPassed, told_in}
 use Rattle.recode.specs.declared.job.Job.{Job}
@@ -128,27 +129,28 @@ pub record AddsFromFiles (holds holds' : FileTexts) (dir : List ℕ) (old new : 
 
 -- The promise of `convert`, of a reader, a writer and a log, with room for 4096 bytes in each read: what it did, and what
 -- that says by the status, and of what devices say of their bytes, if they do.
-pub record IsConversionOn {R W L : Type 0} (remaining : R → Option (List ℕ)) (contents : W → Option (List ℕ)) (logged : L → Option (List ℕ)) (before after : Ports R W L) (j : Job) (status : ℕ) : Type 0 where
+pub record IsConversionOn {R W L : Type 0} (remaining : R → Option (List ℕ)) (contents : W → Option (List ℕ)) (logged : L → Option (List ℕ)) (before after : PortsView R W L) (j : Job) (status : ℕ) : Type 0 where
   pub conversion : IsConversion before after j 4096 status
   pub converts : status ≢ 4 → Converts (devices_of before) (devices_of after) j status
   pub faults : status ≡ 4 → EndsInFault (devices_of before) (devices_of after) j
   pub quiet : status ≢ 4 → (devices_of after).failures ≡ (devices_of before).failures
   pub told : TellWhatPassed (devices_of before) (devices_of after)
       (told_in remaining contents logged before.reader before.writer before.log) (told_in remaining contents logged after.reader after.writer after.log)
+  pub order : KeepsOrder before.journal after.journal j
 
 -- a message, which ends with a line feed, was written to a writer
 abbrev pub TellsSome : {T : Type 0} → (before after : Counted T) → Type 0
 TellsSome before after = (message : List ℕ) × IsLine message × TellsMessage before after message
 
 -- Nothing is read, and nothing is written but a message to the log.
-pub record IsLeftAlone {R W L : Type 0} (before after : Ports R W L) : Type 0 where
+pub record IsLeftAlone {R W L : Type 0} (before after : PortsView R W L) : Type 0 where
   pub unread : after.reader ≡ before.reader
   pub unwritten : after.writer ≡ before.writer
   pub told : TellsSome before.log after.log
 
 -- What is returned for words that clap takes: a label is unknown, or an index or memory is missing, or their job is
 -- converted, with the indexes of the folder's files.
-abbrev pub AnswersWords : {R W L : Type 0} → FileTexts → (R → Option (List ℕ)) → (W → Option (List ℕ)) → (L → Option (List ℕ)) → Ports R W L → Ports R W L → Words → ℕ → Type 0
+abbrev pub AnswersWords : {R W L : Type 0} → FileTexts → (R → Option (List ℕ)) → (W → Option (List ℕ)) → (L → Option (List ℕ)) → PortsView R W L → PortsView R W L → Words → ℕ → Type 0
 AnswersWords holds remaining contents logged before after w status =
     ((status ≡ 2) × HasUnknownLabel w × IsLeftAlone before after)
     ⊎ (((status ≡ 3) × IsLeftAlone before after)
@@ -156,18 +158,18 @@ AnswersWords holds remaining contents logged before after w status =
 
 -- The status is 2: clap refuses the words, a value stands for nothing, or a label is unknown. Nothing is read, and
 -- nothing is written but a message to the log.
-pub record RefusesWords {R W L : Type 0} (before after : Ports R W L) (words : List (List ℕ)) (status : ℕ) : Type 0 where
+pub record RefusesWords {R W L : Type 0} (before after : PortsView R W L) (words : List (List ℕ)) (status : ℕ) : Type 0 where
   pub answered : status ≡ 2
   pub refused : IsRefusedByClap words ⊎ (HasMeaninglessValue words ⊎ NamesUnknown words)
   pub alone : IsLeftAlone before after
 
 -- the start fails, with status 3: nothing is read, and nothing is written but a message to the log
-pub record FailsToStart {R W L : Type 0} (before after : Ports R W L) (status : ℕ) : Type 0 where
+pub record FailsToStart {R W L : Type 0} (before after : PortsView R W L) (status : ℕ) : Type 0 where
   pub answered : status ≡ 3
   pub alone : IsLeftAlone before after
 
 -- the words ask for a text of the program's own: the status is 0, a text is written, and nothing is read or logged
-pub record TellsText {R W L : Type 0} (before after : Ports R W L) (words : List (List ℕ)) (status : ℕ) : Type 0 where
+pub record TellsText {R W L : Type 0} (before after : PortsView R W L) (words : List (List ℕ)) (status : ℕ) : Type 0 where
   pub answered : status ≡ 0
   pub asked : AskForText words
   pub unread : after.reader ≡ before.reader
@@ -175,7 +177,7 @@ pub record TellsText {R W L : Type 0} (before after : Ports R W L) (words : List
   pub told : TellsSome before.writer after.writer
 
 -- the words ask for a run: their job is converted, with the indexes of the folder's files
-pub record RunsJob {R W L : Type 0} (holds : FileTexts) (remaining : R → Option (List ℕ)) (contents : W → Option (List ℕ)) (logged : L → Option (List ℕ)) (before after : Ports R W L) (words : List (List ℕ)) (status : ℕ) : Type 0 where
+pub record RunsJob {R W L : Type 0} (holds : FileTexts) (remaining : R → Option (List ℕ)) (contents : W → Option (List ℕ)) (logged : L → Option (List ℕ)) (before after : PortsView R W L) (words : List (List ℕ)) (status : ℕ) : Type 0 where
   pub w : Words
   pub meant : AsksFor words (Run w)
   pub j : Job
@@ -185,7 +187,7 @@ pub record RunsJob {R W L : Type 0} (holds : FileTexts) (remaining : R → Optio
 
 -- What is done for the program's words: they are refused, the start fails, a text of the program's own is printed,
 -- or the job that they mean is converted. Each has its status.
-abbrev pub AnswersProgram : {R W L : Type 0} → FileTexts → (R → Option (List ℕ)) → (W → Option (List ℕ)) → (L → Option (List ℕ)) → Ports R W L → Ports R W L → List (List ℕ) → ℕ → Type 0
+abbrev pub AnswersProgram : {R W L : Type 0} → FileTexts → (R → Option (List ℕ)) → (W → Option (List ℕ)) → (L → Option (List ℕ)) → PortsView R W L → PortsView R W L → List (List ℕ) → ℕ → Type 0
 AnswersProgram holds remaining contents logged before after words status =
     RefusesWords before after words status
     ⊎ (FailsToStart before after status
@@ -211,7 +213,7 @@ pub record Ran (holds : FileTexts) (words : List (List ℕ)) (IsDone : Job → T
 -- 1: all was written, and something was lost.
 -- 2: the words were refused. 3: the start failed. Nothing was read.
 -- 4: a fault ended the run.
-pub record StatusSays {R W L : Type 0} (holds : FileTexts) (before after : Ports R W L) (words : List (List ℕ)) (status : ℕ) : Type 0 where
+pub record StatusSays {R W L : Type 0} (holds : FileTexts) (before after : PortsView R W L) (words : List (List ℕ)) (status : ℕ) : Type 0 where
   pub zero : status ≡ 0 → TellsText before after words status
       ⊎ Ran holds words (λ j. (x : List ℕ) × IsRecodedWhole (devices_of before) (devices_of after) j x × Faithful j x)
   pub one : status ≡ 1 → Ran holds words (λ j. (x : List ℕ) × IsRecodedWhole (devices_of before) (devices_of after) j x × ¬ (Faithful j x))

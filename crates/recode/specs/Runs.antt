@@ -1,7 +1,7 @@
 -- What two runs have in common, and what a run returns.
 use Rattle.std.specs.Prelude.{◌≡◌, ℕ, List, [], Result, Ok, Err, IfOk, IfErr}
-use Rattle.recode.specs.Devices.{CountsFault, Devices, Written}
-use Rattle.recode.specs.TaggedByte.{TaggedByte, Wrote}
+use Rattle.recode.specs.Devices.{CountsFault, Devices, Written, Wrote}
+use Rattle.recode.specs.TaggedByte.{TaggedByte}
 use Rattle.recode.specs.Session.{Completes, Fails}
 use Rattle.recode.specs.declared.job.Fault.{Fault}
 use Rattle.recode.specs.declared.job.Fault.TheVariants.{Read, Write, Log, TooLong, Unmappable}

@@ -7,8 +7,8 @@ use Rattle.encoding_mem.specs.declared.codec.form.EscapeState.TheVariants.{Ascii
 use Rattle.recode.specs.Job.{trace, whole_trace, target_of, output_of, log_of, source_in, input_pieces, input_text, Faithful, RunsThrough}
 use Rattle.recode.specs.Latency.{TookCertain}
 use Rattle.recode.specs.State.{State, WillBeFaithful, to_write}
-use Rattle.recode.specs.Devices.{Devices, GaveToEnd, Written}
-use Rattle.recode.specs.TaggedByte.{TaggedByte, Wrote, IsPrefix, tagged}
+use Rattle.recode.specs.Devices.{Devices, GaveToEnd, Written, Wrote, then_these}
+use Rattle.recode.specs.TaggedByte.{TaggedByte, IsPrefix, tagged}
 use Rattle.recode.specs.WrittenItems.{IsStop}
 use Rattle.recode.specs.declared.job.Fault.{Fault}
 use Rattle.recode.specs.declared.job.Fault.TheVariants.{Read, TooLong}
@@ -84,12 +84,13 @@ pub record IsReport (j : Job) (x : List ℕ) (p : Report) : Type 0 where
   pub faithful : IsTrue p.faithful ↔ Faithful j x
 
 -- The input is within the limit, the policy stops nothing in it, and output and log grew by all
--- that is written for it.
+-- that is written for it, in its order if that is known.
 pub record WroteWhole (before after : Written) (j : Job) (x : List ℕ) : Type 0 where
   pub within : length x ≤ j.limit
   pub unstopped : RunsThrough j x
   pub output : after.output ≡ before.output ++ output_of j x
   pub logged : after.log ≡ before.log ++ log_of j x
+  pub ordered : after.order ≡ then_these before.order (tagged (trace j x))
 
 -- all of an input was converted and written, and the report is that on it
 pub record IsConverted (before after : Written) (j : Job) (x : List ℕ) (p : Report) : Type 0 where

@@ -14,8 +14,8 @@ use Rattle.recode.specs.Fault.{EndsAtFault, reader_failures}
 use Rattle.recode.specs.Job.{log_lines}
 use Rattle.recode.specs.Policy.{reference_form}
 use Rattle.recode.specs.State.{State, WillBeFaithful, characters_with, to_write}
-use Rattle.recode.specs.Devices.{Devices, Gave, GaveThen, GaveToEnd, Grew, KeepsWritten, Written}
-use Rattle.recode.specs.TaggedByte.{TaggedByte, Wrote, IsPrefix, tagged}
+use Rattle.recode.specs.Devices.{Devices, Gave, GaveThen, GaveToEnd, Grew, KeepsWritten, Written, Wrote}
+use Rattle.recode.specs.TaggedByte.{TaggedByte, IsPrefix, tagged}
 use Rattle.recode.specs.calls.TraceToWrite.{AreSound}
 use Rattle.recode.specs.Work.{TakesAtLeast, TakesCalls}
 use Rattle.recode.specs.WrittenItems.{IsStop, WritesItems, WritesItemsFor, WritesPrefixFor}

@@ -2,7 +2,8 @@
 use Rattle.std.specs.Prelude.{◌≡◌, ℕ, List, [], ◌∷◌, ◌++◌, map}
 use Rattle.std.specs.List.{flat_map}
 use Rattle.encoding_mem.specs.Items.{Item, Byte, MalformedAt, LostAt}
-use Rattle.recode.specs.Devices.{Grew, Written}
+use Rattle.recode_log.specs.Call.{Call, Passed, Failed, Flush}
+use Rattle.recode_log.specs.Journal.{AtLog, AtReader, AtWriter, Entry}
 use Rattle.recode_log.specs.Line.{line_bytes}
 use Rattle.recode_log.specs.declared.line.LogLine.TheVariants.{Bad, Lost}
 
@@ -37,7 +38,15 @@ tagged items = flat_map tagged_item items
 abbrev pub IsPrefix : {X : Type 0} → List X → List X → Type 0
 IsPrefix {X} t u = (rest : List X) × (u ≡ t ++ rest)
 
--- the output grew by the output bytes of t, and the log by its log bytes
-pub record Wrote (before after : Written) (t : List TaggedByte) : Type 0 where
-  pub output : Grew before.output after.output (output_bytes t)
-  pub lined : Grew before.log after.log (log_bytes t)
+-- the bytes that a call passed
+abbrev pub call_bytes : Call → List ℕ
+call_bytes (Passed room bytes) = bytes
+call_bytes (Failed room) = []
+call_bytes (Flush failed) = []
+
+-- what the writer and the log took in the calls of a journal, in their one order
+abbrev pub order_of : List Entry → List TaggedByte
+order_of [] = []
+order_of (AtReader call ∷ es) = order_of es
+order_of (AtWriter call ∷ es) = map Out (call_bytes call) ++ order_of es
+order_of (AtLog call ∷ es) = map Line (call_bytes call) ++ order_of es

@@ -2,8 +2,8 @@
 use Rattle.std.specs.Prelude.{◌≡◌, ℕ, ◌+◌, List, [], ◌∷◌, ◌++◌, Bool, true}
 use Rattle.encoding_mem.specs.Items.{Item, Byte, MalformedAt, LostAt}
 use Rattle.recode.specs.Policy.{written_under}
-use Rattle.recode.specs.Devices.{Written}
-use Rattle.recode.specs.TaggedByte.{TaggedByte, Wrote, IsPrefix, tagged}
+use Rattle.recode.specs.Devices.{Written, Wrote}
+use Rattle.recode.specs.TaggedByte.{TaggedByte, IsPrefix, tagged}
 use Rattle.recode.specs.declared.job.Fault.{Fault}
 use Rattle.recode.specs.declared.job.Fault.TheVariants.{Unmappable}
 use Rattle.recode.specs.declared.job.Policy.{Policy}

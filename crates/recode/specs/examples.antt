@@ -1,5 +1,8 @@
 -- Worked rows: what the definitions of `specs/` come to on inputs that a reader can work by hand.
 pub mod Devices
+pub mod Order
+pub mod Leavings
+pub mod Statuses
 pub mod Certain
 pub mod Jobs
 pub mod Parts

@@ -2,20 +2,22 @@
 
 ghost use Rattle.std.specs.Prelude.{◌≡◌, ◌≢◌, ◌<◌, ◌^◌, ◌-◌, length};
 ghost use Rattle.recode_log.specs.Counted.{TellsMessage, inner_of, failures_of, passed_of};
+ghost use Rattle.recode_log.specs.Ports.{CallsLog, CallsWriter, SameDevices, journal_of};
 ghost use Rattle.recode_log.specs.Told.{TellsTaken};
 ghost use Rattle.recode.specs.Job.{IsValidJob};
 ghost use Rattle.recode.specs.calls.Buffers.{AreEnough, KeepSizes};
-ghost use Rattle.recode.specs.Devices.{HaveFailedAtMost, devices_in, ports};
+ghost use Rattle.recode.specs.Devices.{HaveFailedAtMost, devices_at, devices_in, ports, ports_at};
+ghost use Rattle.recode.specs.Order.{RunsInOrder};
 ghost use Rattle.recode.specs.Conversion.{Converts, EndsInFault, IsConversion, IsFlushed};
 ghost use Rattle.recode.specs.Conversion.{after_flushes};
 ghost use Rattle.recode.specs.Conversion.{message_of};
-ghost use Rattle.recode.specs.Told.{TellWhatPassed, told_in};
+ghost use Rattle.recode.specs.Told.{TellWhatPassed, told_at, told_in};
 
 use crate::job::{Buffers, Fault, Job, Report};
-use crate::session::run;
+use crate::session::run_on;
 use recode_log::counted::Counted;
-use recode_log::deliver::tell;
 use recode_log::line::write_message;
+use recode_log::ports::Ports;
 use std::io::{Read, Write};
 
 /// The status if all was converted, and nothing was lost: the output reads back as the input's
@@ -30,16 +32,30 @@ pub const NOT_FAITHFUL: u8 = 1;
 /// conversion.
 pub const FAULT: u8 = 4;
 
-// Flushes a writer, and returns whether that failed.
+// Flushes the writer, and returns whether that failed.
 #[tactic(auto, using(crate::proofs::TellLemmas::flush_rules))]
-fn flush<W: Write>(writer: &mut Counted<W>) -> bool
-    requires { failures_of writer.old < 2 ^ 64 - 1 }
-    ensures flushed { IsFlushed writer.old writer.new result }
-    ensures kept { passed_of writer.new ≡ passed_of writer.old }
-    ensures told { TellsTaken (passed_of writer.old) (passed_of writer.new)
-        (W.contents (inner_of writer.old)) (W.contents (inner_of writer.new)) }
+fn flush<R, W: Write, L>(ports: &mut Ports<'_, '_, '_, R, W, L>) -> bool
+    requires { failures_of ports.old.writer.now < 2 ^ 64 - 1 }
+    ensures flushed { IsFlushed ports.old.writer.now ports.new.writer.now result }
+    ensures kept { passed_of ports.new.writer.now ≡ passed_of ports.old.writer.now }
+    ensures told { TellsTaken (passed_of ports.old.writer.now) (passed_of ports.new.writer.now)
+        (W.contents (inner_of ports.old.writer.now)) (W.contents (inner_of ports.new.writer.now)) }
+    ensures journal { CallsWriter ports.old ports.new }
 {
-    writer.flush().is_err()
+    ports.flush().is_err()
+}
+
+// Flushes the log, and returns whether that failed.
+#[tactic(auto, using(crate::proofs::TellLemmas::flush_rules))]
+fn flush_log<R, W, L: Write>(ports: &mut Ports<'_, '_, '_, R, W, L>) -> bool
+    requires { failures_of ports.old.log.now < 2 ^ 64 - 1 }
+    ensures flushed { IsFlushed ports.old.log.now ports.new.log.now result }
+    ensures kept { passed_of ports.new.log.now ≡ passed_of ports.old.log.now }
+    ensures told { TellsTaken (passed_of ports.old.log.now) (passed_of ports.new.log.now)
+        (L.contents (inner_of ports.old.log.now)) (L.contents (inner_of ports.new.log.now)) }
+    ensures journal { CallsLog ports.old ports.new }
+{
+    ports.flush_log().is_err()
 }
 
 // What a conversion comes to: the report of its run, or the first fault.
@@ -74,14 +90,15 @@ fn message_of(fault: Fault, numbers: &mut [u8; 64]) -> &[u8]
 }
 
 // Writes the message of a fault to the log; if that fails, the rest of it is dropped.
-fn tell_fault<L: Write>(log: &mut Counted<L>, fault: Fault)
-    requires { failures_of log.old < 2 ^ 64 - 1 }
-    ensures tells { TellsMessage log.old log.new (message_of fault) }
-    ensures told { TellsTaken (passed_of log.old) (passed_of log.new)
-        (L.contents (inner_of log.old)) (L.contents (inner_of log.new)) }
+fn tell_fault<R, W, L: Write>(ports: &mut Ports<'_, '_, '_, R, W, L>, fault: Fault)
+    requires { failures_of ports.old.log.now < 2 ^ 64 - 1 }
+    ensures tells { TellsMessage ports.old.log.now ports.new.log.now (message_of fault) }
+    ensures told { TellsTaken (passed_of ports.old.log.now) (passed_of ports.new.log.now)
+        (L.contents (inner_of ports.old.log.now)) (L.contents (inner_of ports.new.log.now)) }
+    ensures journal { CallsLog ports.old ports.new }
 {
     let mut numbers = [0; 64];
-    tell(log, message_of(fault, &mut numbers));
+    ports.tell_log(message_of(fault, &mut numbers));
 }
 
 /// Runs the job, flushes the writer, then the log, and returns the status.
@@ -132,9 +149,44 @@ pub fn convert<R: Read, W: Write, L: Write>(
         (told_in R.remaining W.contents L.contents reader.old writer.old log.old)
         (told_in R.remaining W.contents L.contents reader.new writer.new log.new) }
 {
-    let answer = run(reader, writer, log, job, buffers);
-    let writer_failed = flush(writer);
-    let log_failed = flush(log);
+    let mut ports = Ports::new(reader, writer, log);
+    convert_on(&mut ports, job, buffers)
+}
+
+/// The same of devices that stand in `Ports`. At each call of the reader, all that is certain of what
+/// it gave before has been written and logged, in one order, and no more. The writer's flush comes
+/// before the log's, and both come before the message.
+///
+/// Conditions: those of `convert`.
+pub fn convert_on<R: Read, W: Write, L: Write>(
+    ports: &mut Ports<'_, '_, '_, R, W, L>,
+    job: Job<'_>,
+    buffers: &mut Buffers<'_>,
+) -> u8
+    requires job { IsValidJob job }
+    requires buffers { AreEnough buffers.old }
+    requires counts { HaveFailedAtMost (2 ^ 64 - 5)
+        (devices_at ports.old).failures }
+
+    ensures buffers { KeepSizes buffers.old buffers.new }
+    ensures conversion { IsConversion (ports_at ports.old) (ports_at ports.new) job.entry
+        (length buffers.old.input.now) result }
+    ensures converts { result ≢ 4 → Converts (devices_at ports.old)
+        (devices_at ports.new) job.entry result }
+    ensures faults { result ≡ 4 → EndsInFault (devices_at ports.old)
+        (devices_at ports.new) job.entry }
+    ensures quiet { result ≢ 4 → (devices_at ports.new).failures
+        ≡ (devices_at ports.old).failures }
+    ensures told { TellWhatPassed
+        (devices_at ports.old) (devices_at ports.new)
+        (told_at R.remaining W.contents L.contents ports.old)
+        (told_at R.remaining W.contents L.contents ports.new) }
+    ensures order { RunsInOrder (journal_of ports.old) (journal_of ports.new) job.entry }
+    ensures same { SameDevices ports.old ports.new }
+{
+    let answer = run_on(ports, job, buffers);
+    let writer_failed = flush(ports);
+    let log_failed = flush_log(ports);
     match after_flushes(answer, writer_failed, log_failed) {
         Ok(report) => {
             if report.faithful {
@@ -144,7 +196,7 @@ pub fn convert<R: Read, W: Write, L: Write>(
             }
         }
         Err(fault) => {
-            tell_fault(log, fault);
+            tell_fault(ports, fault);
             FAULT
         }
     }

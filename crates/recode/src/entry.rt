@@ -4,21 +4,22 @@ ghost use Rattle.std.specs.Prelude.{◌≡◌, ◌⊎◌, ◌≤◌, ◌<◌, �
 ghost use Rattle.std.specs.Prelude.{string_bytes};
 ghost use Rattle.encoding_front.specs.Encodings.{IsReady, output_encoding_of};
 ghost use Rattle.recode_log.specs.Counted.{failures_of};
-ghost use Rattle.recode.specs.Devices.{HaveFailedAtMost, devices_in, ports};
+ghost use Rattle.recode_log.specs.Ports.{CallsLog, CallsWriter, SameDevices};
+ghost use Rattle.recode.specs.Devices.{HaveFailedAtMost, devices_at, devices_in, ports, ports_at};
 ghost use Rattle.recode.specs.Job.{IsValidJob};
 ghost use Rattle.recode_words.specs.Request.{IsLine};
 ghost use Rattle.recode.specs.Program.{AddsFromFiles, AnswersProgram, AnswersWords};
 ghost use Rattle.recode.specs.Program.{AskForFiles, NeedAnIndex};
 ghost use Rattle.recode.specs.Program.{IsConversionOn, TellsSome, mark_of_word, policy_of_word};
 
-use crate::conversion::{FAITHFUL, convert};
+use crate::conversion::{FAITHFUL, convert_on};
 use crate::indexes::{IndexSource, StartFault, load_indexes};
 use crate::job::{Buffers, Job, Pivot, Policy};
 use crate::listing::listing;
 use encoding_front::{Encoding, Mark};
 use encoding_tables::Tables;
 use recode_log::counted::Counted;
-use recode_log::deliver::tell;
+use recode_log::ports::Ports;
 use recode_words::{
     MarkWord, PivotWord, PolicyWord, Request, ShownWord, Words, WordsFault, parse_words,
 };
@@ -35,24 +36,26 @@ pub const REFUSED: u8 = 2;
 pub const NOT_STARTED: u8 = 3;
 
 // Writes a text that the words ask for.
-fn tell_text<W: Write>(writer: &mut Counted<W>, text: &str) -> u8
-    requires counts { failures_of writer.old < 2 ^ 64 - 1 }
+fn tell_text<R, W: Write, L>(ports: &mut Ports<'_, '_, '_, R, W, L>, text: &str) -> u8
+    requires counts { failures_of ports.old.writer.now < 2 ^ 64 - 1 }
     requires line { IsLine text.now }
     ensures status { result ≡ 0 }
-    ensures told { TellsSome writer.old writer.new }
+    ensures told { TellsSome ports.old.writer.now ports.new.writer.now }
+    ensures journal { CallsWriter ports.old ports.new }
 {
-    tell(writer, text.as_bytes());
+    ports.tell(text.as_bytes());
     FAITHFUL
 }
 
 // Reports why the words are refused.
-fn refuse_words<L: Write>(log: &mut Counted<L>, message: &str) -> u8
-    requires counts { failures_of log.old < 2 ^ 64 - 1 }
+fn refuse_words<R, W, L: Write>(ports: &mut Ports<'_, '_, '_, R, W, L>, message: &str) -> u8
+    requires counts { failures_of ports.old.log.now < 2 ^ 64 - 1 }
     requires line { IsLine message.now }
     ensures status { result ≡ 2 }
-    ensures told { TellsSome log.old log.new }
+    ensures told { TellsSome ports.old.log.now ports.new.log.now }
+    ensures journal { CallsLog ports.old ports.new }
 {
-    tell(log, message.as_bytes());
+    ports.tell_log(message.as_bytes());
     REFUSED
 }
 
@@ -71,27 +74,37 @@ fn message_line<M: fmt::Display>(alloc: Global, message: &M) -> Result<String, A
 struct UnknownLabel<'a>(ShownWord<'a>);
 
 // Reports which index is not there, or that memory was refused.
-fn refuse_start<L: Write>(alloc: Global, log: &mut Counted<L>, fault: &StartFault) -> u8
-    requires { failures_of log.old < 2 ^ 64 - 1 }
+fn refuse_start<R, W, L: Write>(
+    alloc: Global,
+    ports: &mut Ports<'_, '_, '_, R, W, L>,
+    fault: &StartFault,
+) -> u8
+    requires { failures_of ports.old.log.now < 2 ^ 64 - 1 }
     ensures status { result ≡ 3 }
-    ensures told { TellsSome log.old log.new }
+    ensures told { TellsSome ports.old.log.now ports.new.log.now }
+    ensures journal { CallsLog ports.old ports.new }
 {
     match message_line(alloc, fault) {
-        Ok(message) => tell(log, message.as_bytes()),
-        Err(_) => tell(log, b"recode: out of memory\n"),
+        Ok(message) => ports.tell_log(message.as_bytes()),
+        Err(_) => ports.tell_log(b"recode: out of memory\n"),
     }
     NOT_STARTED
 }
 
 // Reports that no encoding has the label.
-fn refuse_label<L: Write>(alloc: Global, log: &mut Counted<L>, label: &str) -> u8
-    requires { failures_of log.old < 2 ^ 64 - 1 }
+fn refuse_label<R, W, L: Write>(
+    alloc: Global,
+    ports: &mut Ports<'_, '_, '_, R, W, L>,
+    label: &str,
+) -> u8
+    requires { failures_of ports.old.log.now < 2 ^ 64 - 1 }
     ensures status { (result ≡ 2) ⊎ (result ≡ 3) }
-    ensures told { TellsSome log.old log.new }
+    ensures told { TellsSome ports.old.log.now ports.new.log.now }
+    ensures journal { CallsLog ports.old ports.new }
 {
     match message_line(alloc, &UnknownLabel(ShownWord(label))) {
-        Ok(message) => refuse_words(log, &message),
-        Err(_) => refuse_start(alloc, log, &StartFault::Memory),
+        Ok(message) => refuse_words(ports, &message),
+        Err(_) => refuse_start(alloc, ports, &StartFault::Memory),
     }
 }
 
@@ -142,18 +155,17 @@ const BUFFER_SIZE: usize = 4096;
 
 // Converts with text of this form in between.
 fn convert_in_buffers<R: Read, W: Write, L: Write>(
-    reader: &mut Counted<R>,
-    writer: &mut Counted<W>,
-    log: &mut Counted<L>,
+    ports: &mut Ports<'_, '_, '_, R, W, L>,
     job: Job<'_>,
     form: PivotWord,
 ) -> u8
     requires job { IsValidJob job }
     requires counts { HaveFailedAtMost (2 ^ 64 - 5)
-        (devices_in reader.old writer.old log.old).failures }
-    ensures { IsConversionOn R.remaining W.contents L.contents
-        (ports reader.old writer.old log.old) (ports reader.new writer.new log.new) job.entry
+        (devices_at ports.old).failures }
+    ensures conversion { IsConversionOn R.remaining W.contents L.contents
+        (ports_at ports.old) (ports_at ports.new) job.entry
         result }
+    ensures same { SameDevices ports.old ports.new }
 {
     let mut input = [0; BUFFER_SIZE];
     let mut output = [0; BUFFER_SIZE];
@@ -169,7 +181,7 @@ fn convert_in_buffers<R: Read, W: Write, L: Write>(
                 output: &mut output,
                 check,
             };
-            convert(reader, writer, log, job, &mut buffers)
+            convert_on(ports, job, &mut buffers)
         }
         PivotWord::Utf16 => {
             let mut text = [0u16; BUFFER_SIZE];
@@ -182,7 +194,7 @@ fn convert_in_buffers<R: Read, W: Write, L: Write>(
                 output: &mut output,
                 check,
             };
-            convert(reader, writer, log, job, &mut buffers)
+            convert_on(ports, job, &mut buffers)
         }
     }
 }
@@ -192,28 +204,27 @@ fn run_words<S: IndexSource, R: Read, W: Write, L: Write>(
     alloc: Global,
     words: Words<'_>,
     source: &mut S,
-    reader: &mut Counted<R>,
-    writer: &mut Counted<W>,
-    log: &mut Counted<L>,
+    ports: &mut Ports<'_, '_, '_, R, W, L>,
 ) -> u8
     requires limit { words.limit ≤ 2 ^ 48 }
     requires counts { HaveFailedAtMost (2 ^ 64 - 5)
-        (devices_in reader.old writer.old log.old).failures }
+        (devices_at ports.old).failures }
     ensures answer { AnswersWords (S.holds source.old) R.remaining W.contents L.contents
-        (ports reader.old writer.old log.old) (ports reader.new writer.new log.new) words.entry
+        (ports_at ports.old) (ports_at ports.new) words.entry
         result }
     ensures source { source.new ≡ source.old ⊎ NeedAnIndex words.entry }
+    ensures same { SameDevices ports.old ports.new }
 {
     let Some(from) = Encoding::for_label(words.from.as_bytes()) else {
-        return refuse_label(alloc, log, words.from);
+        return refuse_label(alloc, ports, words.from);
     };
     let Some(to) = Encoding::for_label(words.to.as_bytes()) else {
-        return refuse_label(alloc, log, words.to);
+        return refuse_label(alloc, ports, words.to);
     };
     let mut tables = Tables::new(alloc);
     match load_both(alloc, source, words.indexes, from, to, &mut tables) {
         Ok(()) => {}
-        Err(fault) => return refuse_start(alloc, log, &fault),
+        Err(fault) => return refuse_start(alloc, ports, &fault),
     }
     tables.accepted();
     let job = Job {
@@ -224,7 +235,7 @@ fn run_words<S: IndexSource, R: Read, W: Write, L: Write>(
         limit: words.limit,
         tables: &tables,
     };
-    convert_in_buffers(reader, writer, log, job, words.pivot)
+    convert_in_buffers(ports, job, words.pivot)
 }
 
 /// Does what the words ask for, the program's name first, as `parse_words` of `recode_words` reads
@@ -266,11 +277,34 @@ pub fn program<S: IndexSource, R: Read, W: Write, L: Write>(
         (map (λ s. s.now) words.now) result }
     ensures source { source.new ≡ source.old ⊎ AskForFiles (map (λ s. s.now) words.now) }
 {
+    let mut ports = Ports::new(reader, writer, log);
+    program_on(alloc, words, source, &mut ports)
+}
+
+/// The same of devices that stand in `Ports`. If a job is run, then at each call of the reader all
+/// that is certain of what it gave before has been written and logged, in one order, and no more.
+///
+/// Conditions: those of `program`.
+pub fn program_on<S: IndexSource, R: Read, W: Write, L: Write>(
+    alloc: Global,
+    words: &[&str],
+    source: &mut S,
+    ports: &mut Ports<'_, '_, '_, R, W, L>,
+) -> u8
+    requires words { 0 < length words.now }
+    requires counts { HaveFailedAtMost (2 ^ 64 - 5)
+        (devices_at ports.old).failures }
+    ensures answer { AnswersProgram (S.holds source.old) R.remaining W.contents L.contents
+        (ports_at ports.old) (ports_at ports.new)
+        (map (λ s. s.now) words.now) result }
+    ensures source { source.new ≡ source.old ⊎ AskForFiles (map (λ s. s.now) words.now) }
+    ensures same { SameDevices ports.old ports.new }
+{
     match parse_words(alloc, words) {
-        Ok(Request::Run(words)) => run_words(alloc, words, source, reader, writer, log),
-        Ok(Request::Help(text)) | Ok(Request::Version(text)) => tell_text(writer, &text),
-        Ok(Request::List) => tell_text(writer, listing()),
-        Err(WordsFault::Refused(message)) => refuse_words(log, &message),
-        Err(WordsFault::OutOfMemory) => refuse_start(alloc, log, &StartFault::Memory),
+        Ok(Request::Run(words)) => run_words(alloc, words, source, ports),
+        Ok(Request::Help(text)) | Ok(Request::Version(text)) => tell_text(ports, &text),
+        Ok(Request::List) => tell_text(ports, listing()),
+        Err(WordsFault::Refused(message)) => refuse_words(ports, &message),
+        Err(WordsFault::OutOfMemory) => refuse_start(alloc, ports, &StartFault::Memory),
     }
 }

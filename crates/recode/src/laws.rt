@@ -48,11 +48,17 @@ ghost use Rattle.recode.specs.calls.Slices.{piece_bytes};
 ghost use Rattle.recode.specs.State.{State};
 ghost use Rattle.recode.specs.Step.{Finishes, HasRun, IsNearlyDecided, StepsOn, Stops};
 ghost use Rattle.recode.specs.Step.{WrotePrefix};
-ghost use Rattle.recode.specs.TaggedByte.{IsPrefix, TaggedByte};
+ghost use Rattle.recode.specs.Devices.{PortsView, Wrote, devices_at, written_of};
+ghost use Rattle.recode.specs.Leavings.{FaultLeaves};
+ghost use Rattle.recode.specs.Order.{RunsInOrder, StepsInOrder};
+ghost use Rattle.recode.specs.TaggedByte.{IsPrefix, TaggedByte, log_bytes, order_of, output_bytes};
+ghost use Rattle.recode_log.specs.Counted.{passed_of};
+ghost use Rattle.recode_log.specs.Journal.{Entry};
+ghost use Rattle.recode_log.specs.Ports.{journal_of};
 ghost use Rattle.recode.specs.Told.{TellWhatPassed, Told};
 ghost use Rattle.recode_log.specs.Told.{TellsReads, TellsTaken};
 ghost use Rattle.recode.specs.Work.{ReportsFewCalls};
-ghost use Rattle.recode.specs.Devices.{Ports};
+ghost use Rattle.recode_log.specs.declared.ports.Ports.{Ports};
 ghost use Rattle.recode.specs.Latency.{KeepsPace, open_trace};
 ghost use Rattle.recode.specs.Program.{AnswersProgram, FileTexts, StatusSays};
 ghost use Rattle.recode.specs.WrittenItems.{StopsAtLoss, bad_line_count, lost_line_count};
@@ -481,7 +487,7 @@ pub fn runs_on_parts_are_a_run()
 /// 3: the start failed. 4: a fault ended the run; what it leaves, then the log has the message.
 pub fn statuses_say_what_was_done<R, W, L>()
     ensures { (holds : FileTexts) (remaining : R → Option (List ℕ)) (contents : W → Option (List ℕ))
-        (logged : L → Option (List ℕ)) (before after : Ports R W L) (words : List (List ℕ))
+        (logged : L → Option (List ℕ)) (before after : PortsView R W L) (words : List (List ℕ))
         (status : ℕ)
         → AnswersProgram holds remaining contents logged before after words status
         → StatusSays holds before after words status }
@@ -504,4 +510,34 @@ pub fn what_a_fault_leaves_is_determined()
         → p.reads ≡ q.reads }
     ensures taken { (s s' : Devices) (j : Job) (f : Fault) (p q : Fails s s' j f)
         → p.taken ≡ q.taken }
+{}
+
+/// What each kind of fault leaves (`LeftBy`), as a table. A failed read: all that is certain of
+/// what was read. A failed write, of the output or of the log: a prefix. An input that is too long:
+/// all that is certain of all reads but the last, with which they pass the limit. A policy that
+/// stops: all up to the line of the character.
+pub fn what_each_fault_leaves()
+    ensures { (s s' : Devices) (j : Job) (f : Fault) → Fails s s' j f → FaultLeaves s s' j f }
+{}
+
+/// How the calls of steps follow one another (`Ports`). There are none at the start. If the calls
+/// so far kept up, and what was written so far is all that is certain (`steps_are_a_run`), those
+/// of one step more keep up too: its read comes first. What the writer and the log have taken up
+/// to any call is a prefix of what they take in all.
+pub fn steps_keep_up<R, W, L>()
+    ensures begins { (es : List Entry) (j : Job) → RunsInOrder es es j }
+    ensures goes_on { (a b : Ports R W L) (j : Job) (after : List Entry)
+        → RunsInOrder (journal_of a) (journal_of b) j
+        → KeepsPace (devices_at a) (devices_at b) j → StepsInOrder (journal_of b) after
+        → RunsInOrder (journal_of a) after j }
+    ensures prefix { (a b : Ports R W L) (taken : List TaggedByte) (front back : List Entry)
+        → Wrote (written_of a) (written_of b) taken
+        → journal_of b ≡ journal_of a ++ (front ++ back) → IsPrefix (order_of front) taken }
+{}
+
+/// What the writer and the log took in one order has the bytes of each.
+pub fn order_is_of_both<R, W, L>()
+    ensures output { (p : Ports R W L)
+        → output_bytes (order_of (journal_of p)) ≡ passed_of p.writer.now }
+    ensures log { (p : Ports R W L) → log_bytes (order_of (journal_of p)) ≡ passed_of p.log.now }
 {}

@@ -6,8 +6,10 @@
 //! A `Job` says what to recode and how. `run` and `convert` make a whole conversion, from a reader
 //! to a writer and a log; `Session` makes it step by step; `program` does what the words of a
 //! command line ask for. Readers and writers are wrapped in `Counted`, and buffers are lent
-//! (`Buffers`): nothing is kept between calls but a few bytes. `Converter` does the same without
-//! devices: bytes are handed in and taken out, as of a decoder or an encoder.
+//! (`Buffers`): nothing is kept between calls but a few bytes. `run_on`, `convert_on`, `step_on` and
+//! `program_on` do the same with devices that stand in `Ports`, and also say how the calls of all
+//! three follow one another. `Converter` does the same without devices: bytes are handed in and
+//! taken out, as of a decoder or an encoder.
 //!
 //! # Use
 //!
@@ -60,16 +62,16 @@ pub mod session;
 mod verdict;
 mod writers;
 
-pub use conversion::{FAITHFUL, FAULT, NOT_FAITHFUL, convert};
+pub use conversion::{FAITHFUL, FAULT, NOT_FAITHFUL, convert, convert_on};
 pub use converter::saved_converter::{SavedConverter, SavedJob, SavedVerdict};
 pub use converter::{Converter, ConverterResult};
 pub use counts::Counts;
 // What calls take is handed on as well as what they return: a job is made from this crate alone.
 pub use encoding_front::{DecoderResult, EncoderResult, Encoding, Mark, Reference};
 pub use encoding_tables::Tables;
-pub use entry::{NOT_STARTED, REFUSED, program};
+pub use entry::{NOT_STARTED, REFUSED, program, program_on};
 pub use indexes::{IndexSource, SourceFault, StartFault, load_indexes};
 pub use job::{Buffers, Fault, Job, Pivot, Policy, Progress, Report};
-pub use recode_log::{Counted, LogLine};
+pub use recode_log::{Counted, LogLine, Ports};
 pub use recode_words::GREATEST_LIMIT;
-pub use session::{Phase, Session, run};
+pub use session::{Phase, Session, run, run_on};

@@ -13,18 +13,20 @@ ghost use Rattle.recode.specs.Session.{Fails};
 ghost use Rattle.recode.specs.declared.session.Phase.TheVariants.{Open};
 ghost use Rattle.recode.specs.Step.{Finishes, RunCalls, StepCalls, Stops, StepsOn};
 ghost use Rattle.recode.specs.RunsTold.{CompletesTold, FailsDecided, FailsTold};
-ghost use Rattle.recode.specs.Told.{TellWhatPassed, told_in};
-ghost use Rattle.recode.specs.Devices.{CountsFault, HaveFailedAtMost, devices_in, reads_of};
-ghost use Rattle.recode.specs.Devices.{written_in};
+ghost use Rattle.recode.specs.Told.{TellWhatPassed, told_at, told_in};
+ghost use Rattle.recode.specs.Devices.{CountsFault, HaveFailedAtMost, devices_at, devices_in};
+ghost use Rattle.recode.specs.Devices.{reads_of, written_in, written_of};
+ghost use Rattle.recode.specs.Order.{RunsInOrder, StepsInOrder};
+ghost use Rattle.recode_log.specs.Ports.{SameDevices, journal_of};
 ghost use Rattle.recode.specs.Work.{ReportsFewCalls};
 
 use crate::chunk::write_chunk;
 use crate::engine::Engine;
 use crate::job::{Buffers, Fault, Job, Progress, Report};
-use crate::writers::Writers;
 use encoding_front::{Decoder, StreamDecoder, VariantEncoder};
 use encoding_mem::RawEncoder;
 use recode_log::counted::Counted;
+use recode_log::ports::Ports;
 use std::io::{Read, Write};
 
 /// How far a session is, in the words of its contracts: `Session::is_over` says whether it is
@@ -136,7 +138,6 @@ impl<'t> Session<'t> {
     /// Conditions: the session is not over (`is_over`), the buffers are enough
     /// (`Buffers::is_enough`), and at most 2^64 - 2 calls of each device have failed
     /// (`Counted::failures`). Nothing stays in the buffers: each step may be lent others.
-    #[tactic(auto, using(crate::proofs::TellLemmas::step_rules))]
     pub fn step<R: Read, W: Write, L: Write>(
         &mut self,
         reader: &mut Counted<R>,
@@ -170,24 +171,60 @@ impl<'t> Session<'t> {
         ensures calls { StepCalls reader.old reader.new writer.old writer.new log.old log.new
             (length buffers.old.input.now) result }
     {
+        let mut ports = Ports::new(reader, writer, log);
+        self.step_on(&mut ports, buffers)
+    }
+
+    /// The same of devices that stand in `Ports`, whose journal has the calls of all three: the read
+    /// is the first.
+    ///
+    /// Conditions: those of `step`.
+    pub fn step_on<R: Read, W: Write, L: Write>(
+        &mut self,
+        ports: &mut Ports<'_, '_, '_, R, W, L>,
+        buffers: &mut Buffers<'_>,
+    ) -> Result<Progress, Fault>
+        requires over { ¬ (IsOver (view_of self.old).phase) }
+        requires buffers { AreEnough buffers.old }
+        requires counts { HaveFailedAtMost (2 ^ 64 - 2)
+            (devices_at ports.old).failures }
+
+        ensures more { result ≡ Ok Progress.More → StepsOn
+            (devices_at ports.old) (devices_at ports.new)
+            (view_of self.old).job.limit (view_of self.old).state (view_of self.new).state }
+        ensures done { result ≡ Ok Progress.Done → Finishes
+            (devices_at ports.old) (devices_at ports.new)
+            (view_of self.old).job.limit (view_of self.old).state (view_of self.new).state }
+        ensures told { TellWhatPassed
+            (devices_at ports.old) (devices_at ports.new)
+            (told_at R.remaining W.contents L.contents ports.old)
+            (told_at R.remaining W.contents L.contents ports.new)
+            × (result ≡ Ok Progress.Done → IsAtEnd (R.remaining (inner_of ports.old.reader.now))) }
+        ensures fault { IfErr result (Stops
+            (devices_at ports.old) (devices_at ports.new)
+            (view_of self.old).job.limit (view_of self.old).state) }
+        ensures session { IsStepped (view_of self.old) (view_of self.new) result }
+        ensures buffers { KeepSizes buffers.old buffers.new }
+        ensures failures { CountsFault (devices_at ports.old)
+            (devices_at ports.new) result }
+        ensures calls { StepCalls ports.old.reader.now ports.new.reader.now
+            ports.old.writer.now ports.new.writer.now ports.old.log.now ports.new.log.now
+            (length buffers.old.input.now) result }
+        ensures order { StepsInOrder (journal_of ports.old) (journal_of ports.new) }
+        ensures same { SameDevices ports.old ports.new }
+    {
         self.phase = Phase::Stopped;
-        let Ok(read) = reader.read(buffers.input) else {
+        let Ok(read) = ports.read(buffers.input) else {
             return Err(Fault::Read);
         };
         if read as u64 > self.job.limit - self.engine.counts.read {
             return Err(Fault::TooLong);
         }
-        let mut writers = Writers {
-            buffer: buffers.output,
-            line: None,
-            held: 0,
-            output: writer,
-            log,
-        };
         // Lent as `&mut`, since the borrow checker refuses `&` beside the other buffers.
         write_chunk(
             &mut self.engine,
-            &mut writers,
+            ports,
+            buffers.output,
             self.job.policy,
             &mut buffers.input[..read],
             &mut buffers.pivot,
@@ -260,9 +297,57 @@ pub fn run<R: Read, W: Write, L: Write>(
         (told_in R.remaining W.contents L.contents reader.old writer.old log.old)
         (told_in R.remaining W.contents L.contents reader.new writer.new log.new) }
 {
+    let mut ports = Ports::new(reader, writer, log);
+    run_on(&mut ports, job, buffers)
+}
+
+/// The same of devices that stand in `Ports`. At each call of the reader, all that is certain of what
+/// it gave before has been written and logged, in one order, and no more: its journal has the calls
+/// of all three.
+///
+/// Conditions: those of `run`.
+pub fn run_on<R: Read, W: Write, L: Write>(
+    ports: &mut Ports<'_, '_, '_, R, W, L>,
+    job: Job<'_>,
+    buffers: &mut Buffers<'_>,
+) -> Result<Report, Fault>
+    requires job { IsValidJob job }
+    requires buffers { AreEnough buffers.old }
+    requires counts { HaveFailedAtMost (2 ^ 64 - 2)
+        (devices_at ports.old).failures }
+
+    ensures completes { IfOk result (λ p. Completes
+        (reads_of ports.old.reader.now) (reads_of ports.new.reader.now)
+        (written_of ports.old) (written_of ports.new) job.entry p) }
+    ensures fails { IfErr result (λ f. Fails (devices_at ports.old)
+        (devices_at ports.new) job.entry f) }
+    ensures work { IfOk result ReportsFewCalls }
+    ensures decided { IfErr result (FailsDecided (devices_at ports.old)
+        (devices_at ports.new) job.entry) }
+    ensures completes_told { IfOk result (λ p. CompletesTold
+        (devices_at ports.old) (devices_at ports.new)
+        (told_at R.remaining W.contents L.contents ports.old)
+        (told_at R.remaining W.contents L.contents ports.new) job.entry p) }
+    ensures fails_told { IfErr result (λ f. FailsTold
+        (devices_at ports.old) (devices_at ports.new)
+        (told_at R.remaining W.contents L.contents ports.old)
+        (told_at R.remaining W.contents L.contents ports.new) job.entry f) }
+    ensures buffers { KeepSizes buffers.old buffers.new }
+    ensures failures { CountsFault (devices_at ports.old)
+        (devices_at ports.new) result }
+    ensures calls { RunCalls ports.old.reader.now ports.new.reader.now
+        ports.old.writer.now ports.new.writer.now ports.old.log.now ports.new.log.now
+        (length buffers.old.input.now) result }
+    ensures told { TellWhatPassed
+        (devices_at ports.old) (devices_at ports.new)
+        (told_at R.remaining W.contents L.contents ports.old)
+        (told_at R.remaining W.contents L.contents ports.new) }
+    ensures order { RunsInOrder (journal_of ports.old) (journal_of ports.new) job.entry }
+    ensures same { SameDevices ports.old ports.new }
+{
     let mut session = Session::new(job);
     'run: loop {
-        match session.step(reader, writer, log, buffers) {
+        match session.step_on(ports, buffers) {
             Ok(Progress::More) => {}
             Ok(Progress::Done) => return Ok(session.engine.report()),
             Err(fault) => return Err(fault),

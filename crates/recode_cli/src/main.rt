@@ -9,8 +9,8 @@ mod same_file;
 use crate::noted::Noted;
 use crate::reason::{Asked, Reason};
 use crate::same_file::is_output_the_input;
-use recode::{Counted, FAULT, NOT_STARTED, REFUSED};
-use recode_system::{SystemFiles, answer};
+use recode::{Counted, FAULT, NOT_STARTED, Ports, REFUSED};
+use recode_system::{SystemFiles, answer_on};
 use std::process::ExitCode;
 
 fn main(rt: HostRuntime) -> ExitCode {
@@ -22,7 +22,8 @@ fn main(rt: HostRuntime) -> ExitCode {
         return ExitCode::from(REFUSED);
     }
     let mut indexes = SystemFiles::new(&rt);
-    let status = answer(&rt, &mut indexes, &mut reader, &mut writer, &mut log);
+    let mut ports = Ports::new(&mut reader, &mut writer, &mut log);
+    let status = answer_on(&rt, &mut indexes, &mut ports);
     match status {
         REFUSED => {
             if let Asked::UnknownLabel(option) = Asked::of_line(&rt) {

@@ -1,7 +1,7 @@
 -- What is done and returned for the words of the command line.
 use Rattle.std.specs.Prelude.{◌≡◌, ◌⊎◌, ⊤, ℕ, List, Option, ◌∷◌, [], All, Any, IfSome, codes}
 use Rattle.std.specs.Str.{IsUtf8}
-use Rattle.recode.specs.Devices.{Ports}
+use Rattle.recode.specs.Devices.{PortsView}
 use Rattle.recode.specs.Program.{AnswersProgram, FailsToStart, FileTexts, IsLeftAlone}
 use Rattle.recode_system.specs.declared.command_line.Wordless.{Wordless}
 use Rattle.recode_system.specs.declared.command_line.Wordless.TheVariants.{NotUtf8, Memory}
@@ -23,14 +23,14 @@ words_with_name (name ∷ words) = name ∷ words
 
 -- One of the words is not UTF-8, as is seen if they are known. The status is 2, nothing is read,
 -- and nothing is written but a message to the log.
-pub record RefusesLine {R W L : Type 0} (told : Option (List (List ℕ))) (before after : Ports R W L) (status : ℕ) : Type 0 where
+pub record RefusesLine {R W L : Type 0} (told : Option (List (List ℕ))) (before after : PortsView R W L) (status : ℕ) : Type 0 where
   pub answered : status ≡ 2
   pub refused : IfSome told HasWordNotUtf8
   pub alone : IsLeftAlone before after
 
 -- Each word is UTF-8, and the program answers the words, those that are known, if they are, or
 -- `recode` if there are none, with its status, and with index files of which the source says this.
-pub record AnswersLine {R W L : Type 0} (told : Option (List (List ℕ))) (holds : FileTexts) (remaining : R → Option (List ℕ)) (contents : W → Option (List ℕ)) (logged : L → Option (List ℕ)) (before after : Ports R W L) (status : ℕ) : Type 0 where
+pub record AnswersLine {R W L : Type 0} (told : Option (List (List ℕ))) (holds : FileTexts) (remaining : R → Option (List ℕ)) (contents : W → Option (List ℕ)) (logged : L → Option (List ℕ)) (before after : PortsView R W L) (status : ℕ) : Type 0 where
   pub words : List (List ℕ)
   pub given : IfSome told (λ all. words ≡ all)
   pub texts : All IsUtf8 words
@@ -38,7 +38,7 @@ pub record AnswersLine {R W L : Type 0} (told : Option (List (List ℕ))) (holds
 
 -- What is done for a command line: one with a word that is not UTF-8 is refused, or the start
 -- fails, or the program answers its words. Each has its status.
-abbrev pub AnswersSystem : {R W L : Type 0} → Option (List (List ℕ)) → FileTexts → (R → Option (List ℕ)) → (W → Option (List ℕ)) → (L → Option (List ℕ)) → Ports R W L → Ports R W L → ℕ → Type 0
+abbrev pub AnswersSystem : {R W L : Type 0} → Option (List (List ℕ)) → FileTexts → (R → Option (List ℕ)) → (W → Option (List ℕ)) → (L → Option (List ℕ)) → PortsView R W L → PortsView R W L → ℕ → Type 0
 AnswersSystem told holds remaining contents logged before after status =
     RefusesLine told before after status
     ⊎ (FailsToStart before after status

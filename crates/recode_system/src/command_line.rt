@@ -3,14 +3,14 @@
 ghost use Rattle.std.specs.Prelude.{◌≡◌, ◌≤◌, ◌<◌, ◌^◌, ◌-◌, ℕ, List, Option, map};
 ghost use Rattle.std.specs.Prelude.{IfErr, IfOk, IfSome, length, string_bytes};
 ghost use Rattle.recode_log.specs.Counted.{failures_of};
-ghost use Rattle.recode.specs.Devices.{HaveFailedAtMost, devices_in};
-ghost use Rattle.recode.specs.Devices.{ports};
+ghost use Rattle.recode_log.specs.Ports.{CallsLog, SameDevices};
+ghost use Rattle.recode.specs.Devices.{HaveFailedAtMost, devices_at, devices_in, ports, ports_at};
 ghost use Rattle.recode.specs.Program.{TellsSome};
 ghost use Rattle.recode_system.specs.CommandLine.{AnswersSystem, IsWhy, words_with_name};
 
-use recode::{IndexSource, NOT_STARTED, REFUSED, program};
+use recode::{IndexSource, NOT_STARTED, REFUSED, program_on};
 use recode_log::counted::Counted;
-use recode_log::deliver::tell;
+use recode_log::ports::Ports;
 use std::alloc::{AllocError, Global};
 use std::io::{Read, Write};
 
@@ -53,21 +53,23 @@ fn with_name<'a>(words: &'a [&'a str]) -> &'a [&'a str]
     if words.is_empty() { &["recode"] } else { words }
 }
 
-fn refuse<L: Write>(log: &mut Counted<L>) -> u8
-    requires { failures_of log.old < 2 ^ 64 - 1 }
+fn refuse<R, W, L: Write>(ports: &mut Ports<'_, '_, '_, R, W, L>) -> u8
+    requires { failures_of ports.old.log.now < 2 ^ 64 - 1 }
     ensures status { result ≡ 2 }
-    ensures told { TellsSome log.old log.new }
+    ensures told { TellsSome ports.old.log.now ports.new.log.now }
+    ensures journal { CallsLog ports.old ports.new }
 {
-    tell(log, b"recode: a word is not UTF-8\n");
+    ports.tell_log(b"recode: a word is not UTF-8\n");
     REFUSED
 }
 
-fn out_of_memory<L: Write>(log: &mut Counted<L>) -> u8
-    requires { failures_of log.old < 2 ^ 64 - 1 }
+fn out_of_memory<R, W, L: Write>(ports: &mut Ports<'_, '_, '_, R, W, L>) -> u8
+    requires { failures_of ports.old.log.now < 2 ^ 64 - 1 }
     ensures status { result ≡ 3 }
-    ensures told { TellsSome log.old log.new }
+    ensures told { TellsSome ports.old.log.now ports.new.log.now }
+    ensures journal { CallsLog ports.old ports.new }
 {
-    tell(log, b"recode: out of memory\n");
+    ports.tell_log(b"recode: out of memory\n");
     NOT_STARTED
 }
 
@@ -94,14 +96,33 @@ pub fn answer<C: CommandLine + AllocGlobal, S: IndexSource, R: Read, W: Write, L
         result }
     ensures status { result ≤ 4 }
 {
+    let mut ports = Ports::new(reader, writer, log);
+    answer_on(line, indexes, &mut ports)
+}
+
+/// The same of devices that stand in `Ports`. If a job is run, then at each call of the reader all
+/// that is certain of what it gave before has been written and logged, in one order, and no more.
+///
+/// Conditions: those of `answer`.
+pub fn answer_on<C: CommandLine + AllocGlobal, S: IndexSource, R: Read, W: Write, L: Write>(
+    line: &C,
+    indexes: &mut S,
+    ports: &mut Ports<'_, '_, '_, R, W, L>,
+) -> u8
+    requires counts { HaveFailedAtMost (2 ^ 64 - 5) (devices_at ports.old).failures }
+    ensures answered { AnswersSystem (C.told line.now) (S.holds indexes.old) R.remaining W.contents
+        L.contents (ports_at ports.old) (ports_at ports.new) result }
+    ensures status { result ≤ 4 }
+    ensures same { SameDevices ports.old ports.new }
+{
     let owned = match line.words(line.alloc()) {
         Ok(owned) => owned,
-        Err(Wordless::NotUtf8) => return refuse(log),
-        Err(Wordless::Memory) => return out_of_memory(log),
+        Err(Wordless::NotUtf8) => return refuse(ports),
+        Err(Wordless::Memory) => return out_of_memory(ports),
     };
     let Ok(words) = slices(line.alloc(), owned.as_slice()) else {
-        return out_of_memory(log);
+        return out_of_memory(ports);
     };
     let words = with_name(words.as_slice());
-    program(line.alloc(), words, indexes, reader, writer, log)
+    program_on(line.alloc(), words, indexes, ports)
 }

@@ -9,6 +9,9 @@
 //!     let mut log = Counted::new(rt.stderr());
 //!     let status = answer(&rt, &mut indexes, &mut reader, &mut writer, &mut log);
 //!
+//! `answer_on` does the same with devices that stand in `Ports`, and also says how the calls of all
+//! three follow one another.
+//!
 //! `status` is the exit status. `rt` is what `main` is given: it has the words, the files and the
 //! allocator.
 #![tactic(auto)]
@@ -19,5 +22,5 @@ pub mod laws;
 mod system_files;
 mod system_words;
 
-pub use command_line::{CommandLine, Wordless, answer};
+pub use command_line::{CommandLine, Wordless, answer, answer_on};
 pub use system_files::{MissingFile, SystemFiles};

@@ -1,5 +1,5 @@
 -- What steps of a session have done, and what they have to write with.
-use Rattle.std.proofs.Common.{◌≡◌, ℕ, ◌+◌, ◌<◌, ◌≤◌, List, [], ◌∷◌, ◌++◌, take, Some, Result, Ok, length, refl, sym, subst, ◌∙◌, ap, arith}
+use Rattle.std.proofs.Common.{◌≡◌, ℕ, ◌+◌, ◌<◌, ◌≤◌, List, [], ◌∷◌, ◌++◌, take, None, Some, Result, Ok, length, refl, sym, subst, ◌∙◌, ap, arith}
 use Rattle.std.specs.Io.KnownBytes.{Consumes}
 use Rattle.encoding_mem.specs.Decided.{IsDecided}
 use Rattle.encoding_mem.specs.Piece.{Piece, sizes}
@@ -34,7 +34,7 @@ use Rattle.test_examples.specs.declared.session_steps.SingleBytes.{SingleBytes}
 
 -- devices before their first call
 abbrev pub devices_before : Devices
-devices_before = record { reads = []; written = record { output = []; log = [] }; failures = record { reader = 0; writer = 0; log = 0 } }
+devices_before = record { reads = []; written = record { output = []; log = []; order = None }; failures = record { reader = 0; writer = 0; log = 0 } }
 
 -- a reader of these bytes, a writer and a log that hold none, by what they say
 abbrev pub told_before : List ℕ → Told
@@ -45,7 +45,7 @@ abbrev pub told_of_steps : Counted SingleBytes → (writer log : Counted Keeper)
 told_of_steps reader writer log = record { input = Some (inner_of reader).rest.now; output = Some (inner_of writer).bytes.items; log = Some (inner_of log).bytes.items }
 
 same_devices : (reads : List (List ℕ)) (output log : List ℕ) (r w l : ℕ) → reads ≡ [] → output ≡ [] → log ≡ [] → r ≡ 0 → w ≡ 0 → l ≡ 0
-    → record { reads = reads; written = record { output = output; log = log }; failures = record { reader = r; writer = w; log = l } } ≡ devices_before
+    → record { reads = reads; written = record { output = output; log = log; order = None }; failures = record { reader = r; writer = w; log = l } } ≡ devices_before
 same_devices reads output log r w l none no_bytes no_lines r0 w0 l0 = rw (none, no_bytes, no_lines, r0, w0, l0) refl
 
 pub none_called : (reader : Counted SingleBytes) (writer log : Counted Keeper) → history_of reader ≡ [] → history_of writer ≡ [] → history_of log ≡ []

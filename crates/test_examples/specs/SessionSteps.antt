@@ -1,5 +1,5 @@
 -- What steps of a session gave.
-use Rattle.std.specs.Prelude.{◌≡◌, ◌↔◌, ℕ, ◌<◌, ◌≤◌, Bool, IsTrue, List, [], ◌∷◌, ◌++◌, length, take}
+use Rattle.std.specs.Prelude.{◌≡◌, ◌↔◌, ℕ, ◌<◌, ◌≤◌, Bool, IsTrue, List, [], ◌∷◌, ◌++◌, None, length, take}
 use Rattle.encoding_mem.specs.Piece.{Piece, text}
 use Rattle.recode.specs.Job.{Faithful, RunsThrough, input_text, log_of, lost_log_lines, output_of, target_of}
 use Rattle.recode.specs.Latency.{WroteDecided}
@@ -28,7 +28,7 @@ pub record GaveDecided (j : Job) (x : List ℕ) (steps : ℕ) (output log : List
   pub enough : steps ≤ length read
   pub pieces : List Piece
   pub counted : characters ≡ length (text pieces)
-  pub decided : WroteDecided (record { output = []; log = [] }) (record { output = output; log = log }) j read pieces
+  pub decided : WroteDecided (record { output = []; log = []; order = None }) (record { output = output; log = log; order = None }) j read pieces
 
 -- What a fault says of an input is true: it is longer than the limit, or the policy stops, and this is its first lost
 -- character. A failed call of a device says nothing of it.

@@ -4,8 +4,8 @@ use Rattle.encoding_mem.specs.Items.{Item, Byte, LostAt, MalformedAt}
 use Rattle.recode_log.specs.Line.{line_bytes}
 use Rattle.recode_log.specs.declared.line.LogLine.{LogLine}
 use Rattle.recode_log.specs.declared.line.LogLine.TheVariants.{Bad, Lost}
-use Rattle.recode.specs.Devices.{Written}
-use Rattle.recode.specs.TaggedByte.{Wrote, tagged}
+use Rattle.recode.specs.Devices.{Written, Wrote}
+use Rattle.recode.specs.TaggedByte.{tagged}
 use Rattle.recode.specs.WrittenItems.{WritesPrefix, WritesPrefixFor}
 use Rattle.recode.specs.declared.job.Fault.{Fault}
 use Rattle.recode.specs.declared.job.Policy.{Policy}

@@ -14,11 +14,11 @@ use Rattle.encoding_mem.specs.declared.codec.reference.Reference.{Reference}
 use Rattle.recode_log.specs.Call.{Call, Failed, Flush, IsWriteOfSome, Passed, failed_read}
 use Rattle.recode_log.specs.Counted.{history_of}
 use Rattle.recode_log.specs.declared.counted.Counted.{Counted}
-use Rattle.recode.specs.Devices.{Devices, Gave, Written}
+use Rattle.recode.specs.Devices.{Devices, Gave, Written, Wrote}
 use Rattle.recode.specs.Policy.{reference_form}
 use Rattle.recode.specs.State.{State, WillBeFaithful, to_write}
 use Rattle.recode.specs.Step.{Finishes, GaveSome, IsNearlyDecided, IsReadInto, RunCalls, StepCalls, Stops, StepsOn}
-use Rattle.recode.specs.TaggedByte.{Wrote, log_bytes, output_bytes, tagged}
+use Rattle.recode.specs.TaggedByte.{log_bytes, output_bytes, tagged}
 use Rattle.recode.specs.WrittenItems.{bad_line_count}
 use Rattle.recode.specs.declared.job.Fault.TheVariants.{Read, TooLong, Unmappable}
 use Rattle.recode.specs.declared.job.Policy.{Policy}

@@ -2,6 +2,7 @@ use Rattle.std.proofs.Common.{length}
 use Rattle.recode.specs.calls.EngineView.{HoldsBetween, standing}
 use Rattle.recode.specs.calls.Lent.{KeepsLent}
 use Rattle.recode.specs.calls.Turns.{CanGoOn, owed}
+use Rattle.recode.specs.calls.Writers.{writers}
 use Rattle.recode.specs.declared.job.Policy.{Policy}
 use Rattle.recode.proofs.ShellLemmas.{Pumps}
 use Rattle.recode.proofs.chunk.write_chunk.Given as goal
@@ -12,7 +13,7 @@ invariant-calls g l =
     let parts = g.E.RawEncoder.parts in
     let p = l.policy in
     record {
-      pumps : Pumps g.W.Write.contents g.L.Write.contents p l.initial.writers l.writers (standing view parts p l.initial.engine l.initial.pivot) (standing view parts p l.engine l.pivot) l.last l.initial.rest l.rest 0 0;
+      pumps : Pumps g.W.Write.contents g.L.Write.contents p (writers l.initial.held l.initial.buffer l.initial.ports) (writers l.held l.buffer l.ports) (standing view parts p l.initial.engine l.initial.pivot) (standing view parts p l.engine l.pivot) l.last l.initial.rest l.rest 0 0;
       ready : CanGoOn (standing view parts Policy.Decimal l.engine l.pivot) l.rest l.last;
       holds : HoldsBetween l.pivot l.engine.from l.engine.to;
       lent : KeepsLent l.initial.pivot l.initial.check l.pivot l.check;

@@ -1,54 +1,56 @@
-use Rattle.std.proofs.Common.{Err, Ok, refl, sym, ◌∙◌}
-use Rattle.recode_log.specs.laws.Told.{taken_then}
-use Rattle.recode.specs.Devices.{ports}
-use Rattle.recode.proofs.StepLemmas.{converts_of, conversion, faults_of}
-use Rattle.recode.proofs.TellLemmas.{tells_more}
+use Rattle.std.proofs.Common.{◌≡◌, ◌≢◌, ◌∙◌, length, sym}
+use Rattle.recode.specs.Conversion.{Converts, EndsInFault, IsConversion}
+use Rattle.recode.specs.Devices.{devices_in, ports}
+use Rattle.recode.specs.Told.{TellWhatPassed, told_in}
+use Rattle.recode.proofs.AloneLemmas.{conversion_alone, converts_alone, ends_alone, given_back}
 use Rattle.recode.proofs.conversion.convert.Goals as goal
 
-pub returns-then-report-clause-conversion : goal.returns-then-report-clause-conversion
-returns-then-report-clause-conversion g c =
-    let a = c.run-answer.ensures in
-    conversion _ (ports c.run-answer.new.reader c.run-answer.new.writer c.run-answer.new.log) _ c.flush-log_failed.new.writer c.args.job _ c.run-answer.result _ _
-    (record { completes = a.completes; fails = a.fails; counts = a.failures }) a.calls refl c.flush-writer_failed.ensures.flushed c.flush-log_failed.ensures.flushed
-    (Ok _) _ (sym c.in-Ok.is ∙ c.after_flushes.ensures) refl tt (rw c.if-report.true refl)
+pub returns-clause-conversion : goal.returns-clause-conversion
+returns-clause-conversion g c =
+    let e = c.new-ports.ensures in
+    let k = c.convert_on.ensures in
+    let same_reader = sym (k.same.reader ∙ e.same_reader) in
+    let same_writer = sym (k.same.writer ∙ e.same_writer) in
+    let same_log = sym (k.same.log ∙ e.same_log) in
+    given_back (λ r w l r' w' l'. IsConversion (ports r w l) (ports r' w' l') c.args.job (length c.args.buffers.now.input.now) c.convert_on.result) e.reader e.writer e.log (c.reader-1.given.1 same_reader) (c.writer-1.given.1 same_writer) (c.log-1.given.1 same_log)
+    (conversion_alone _ _ k.conversion)
 
-pub returns-else-report-clause-conversion : goal.returns-else-report-clause-conversion
-returns-else-report-clause-conversion g c =
-    let a = c.run-answer.ensures in
-    conversion _ (ports c.run-answer.new.reader c.run-answer.new.writer c.run-answer.new.log) _ c.flush-log_failed.new.writer c.args.job _ c.run-answer.result _ _
-    (record { completes = a.completes; fails = a.fails; counts = a.failures }) a.calls refl c.flush-writer_failed.ensures.flushed c.flush-log_failed.ensures.flushed
-    (Ok _) _ (sym c.in-Ok.is ∙ c.after_flushes.ensures) refl tt (rw c.if-report.false refl)
+pub returns-clause-converts : goal.returns-clause-converts
+returns-clause-converts g c =
+    let e = c.new-ports.ensures in
+    let k = c.convert_on.ensures in
+    let same_reader = sym (k.same.reader ∙ e.same_reader) in
+    let same_writer = sym (k.same.writer ∙ e.same_writer) in
+    let same_log = sym (k.same.log ∙ e.same_log) in
+    given_back (λ r w l r' w' l'. c.convert_on.result ≢ 4 → Converts (devices_in r w l) (devices_in r' w' l') c.args.job c.convert_on.result) e.reader e.writer e.log (c.reader-1.given.1 same_reader) (c.writer-1.given.1 same_writer) (c.log-1.given.1 same_log)
+    (λ not. converts_alone (k.converts not))
 
-pub returns-in-Err-clause-conversion : goal.returns-in-Err-clause-conversion
-returns-in-Err-clause-conversion g c =
-    let a = c.run-answer.ensures in
-    conversion _ (ports c.run-answer.new.reader c.run-answer.new.writer c.run-answer.new.log) _ c.flush-log_failed.new.writer c.args.job _ c.run-answer.result _ _
-    (record { completes = a.completes; fails = a.fails; counts = a.failures }) a.calls refl c.flush-writer_failed.ensures.flushed c.flush-log_failed.ensures.flushed
-    (Err _) _ (sym c.in-Err.is ∙ c.after_flushes.ensures) tt c.tell_fault.ensures.tells refl
+pub returns-clause-faults : goal.returns-clause-faults
+returns-clause-faults g c =
+    let e = c.new-ports.ensures in
+    let k = c.convert_on.ensures in
+    let same_reader = sym (k.same.reader ∙ e.same_reader) in
+    let same_writer = sym (k.same.writer ∙ e.same_writer) in
+    let same_log = sym (k.same.log ∙ e.same_log) in
+    given_back (λ r w l r' w' l'. c.convert_on.result ≡ 4 → EndsInFault (devices_in r w l) (devices_in r' w' l') c.args.job) e.reader e.writer e.log (c.reader-1.given.1 same_reader) (c.writer-1.given.1 same_writer) (c.log-1.given.1 same_log)
+    (λ is. ends_alone (k.faults is))
 
-pub returns-then-report-clause-converts : goal.returns-then-report-clause-converts
-returns-then-report-clause-converts g c is = converts_of _ _ _ _ _ (returns-then-report-clause-conversion g c) is
+pub returns-clause-quiet : goal.returns-clause-quiet
+returns-clause-quiet g c =
+    let e = c.new-ports.ensures in
+    let k = c.convert_on.ensures in
+    let same_reader = sym (k.same.reader ∙ e.same_reader) in
+    let same_writer = sym (k.same.writer ∙ e.same_writer) in
+    let same_log = sym (k.same.log ∙ e.same_log) in
+    given_back (λ r w l r' w' l'. c.convert_on.result ≢ 4 → (devices_in r' w' l').failures ≡ (devices_in r w l).failures) e.reader e.writer e.log (c.reader-1.given.1 same_reader) (c.writer-1.given.1 same_writer) (c.log-1.given.1 same_log)
+    (k.quiet)
 
-pub returns-else-report-clause-converts : goal.returns-else-report-clause-converts
-returns-else-report-clause-converts g c is = converts_of _ _ _ _ _ (returns-else-report-clause-conversion g c) is
-
-pub returns-then-report-clause-faults : goal.returns-then-report-clause-faults
-returns-then-report-clause-faults g c is = faults_of _ _ _ _ _ (returns-then-report-clause-conversion g c) is
-
-pub returns-else-report-clause-faults : goal.returns-else-report-clause-faults
-returns-else-report-clause-faults g c is = faults_of _ _ _ _ _ (returns-else-report-clause-conversion g c) is
-
-pub returns-in-Err-clause-faults : goal.returns-in-Err-clause-faults
-returns-in-Err-clause-faults g c is = faults_of _ _ _ _ _ (returns-in-Err-clause-conversion g c) is
-
--- Of devices that say what bytes they hold.
-
-pub returns-then-report-clause-told : goal.returns-then-report-clause-told
-returns-then-report-clause-told g c = tells_more _ _ _ _ _ _ c.run-answer.ensures.told refl refl c.flush-writer_failed.ensures.told c.flush-log_failed.ensures.told
-
-pub returns-else-report-clause-told : goal.returns-else-report-clause-told
-returns-else-report-clause-told g c = tells_more _ _ _ _ _ _ c.run-answer.ensures.told refl refl c.flush-writer_failed.ensures.told c.flush-log_failed.ensures.told
-
-pub returns-in-Err-clause-told : goal.returns-in-Err-clause-told
-returns-in-Err-clause-told g c =
-    tells_more _ _ _ _ _ _ c.run-answer.ensures.told refl refl c.flush-writer_failed.ensures.told (taken_then _ _ _ _ _ _ c.flush-log_failed.ensures.told c.tell_fault.ensures.told)
+pub returns-clause-told : goal.returns-clause-told
+returns-clause-told g c =
+    let e = c.new-ports.ensures in
+    let k = c.convert_on.ensures in
+    let same_reader = sym (k.same.reader ∙ e.same_reader) in
+    let same_writer = sym (k.same.writer ∙ e.same_writer) in
+    let same_log = sym (k.same.log ∙ e.same_log) in
+    given_back (λ r w l r' w' l'. TellWhatPassed (devices_in r w l) (devices_in r' w' l') (told_in g.R.Read.remaining g.W.Write.contents g.L.Write.contents r w l) (told_in g.R.Read.remaining g.W.Write.contents g.L.Write.contents r' w' l')) e.reader e.writer e.log (c.reader-1.given.1 same_reader) (c.writer-1.given.1 same_writer) (c.log-1.given.1 same_log)
+    (record { input = k.told.input; output = k.told.output; log = k.told.log })

@@ -1,30 +1,15 @@
-use Rattle.std.proofs.Common.{◌≡◌, ◌⊎◌, ℕ, List, Option, inl, inr, map}
-use Rattle.recode_words.specs.Request.{AsksFor}
-use Rattle.recode_words.specs.declared.request.Request.TheVariants.{Run}
-use Rattle.recode_words.specs.declared.words.Words.{Words}
-use Rattle.recode.specs.Devices.{Ports, ports}
-use Rattle.recode.specs.Program.{AnswersProgram, AnswersWords, AskForFiles, FileTexts, NeedAnIndex}
+use Rattle.std.proofs.Common.{◌∙◌, map, sym}
+use Rattle.recode.specs.Devices.{ports}
+use Rattle.recode.specs.Program.{AnswersProgram}
+use Rattle.recode.proofs.AloneLemmas.{given_back, program_alone}
 use Rattle.recode.proofs.entry.program.Goals as goal
 
-answers : {R W L : Type 0} (holds : FileTexts) (remaining : R → Option (List ℕ)) (contents : W → Option (List ℕ)) (logged : L → Option (List ℕ)) (before after : Ports R W L)
-    (words : List (List ℕ)) (w : Words) (status : ℕ) → AsksFor words (Run w) → AnswersWords holds remaining contents logged before after w status
-    → AnswersProgram holds remaining contents logged before after words status
-answers holds remaining contents logged before after words w status meant (inl (two, unknown, alone)) =
-    inl record { answered = two; refused = inr (inr record { w = w; meant = meant; unknown = unknown }); alone = alone }
-answers holds remaining contents logged before after words w status meant (inr (inl (three, alone))) =
-    inr (inl record { answered = three; alone = alone })
-answers holds remaining contents logged before after words w status meant (inr (inr (j, job, files, converted))) =
-    inr (inr (inr record { w = w; meant = meant; j = j; job = job; files = files; converted = converted }))
-
-alone : {S : Type 0} (old new : S) (words : List (List ℕ)) (w : Words) → AsksFor words (Run w) → (new ≡ old) ⊎ NeedAnIndex w → (new ≡ old) ⊎ AskForFiles words
-alone old new words w meant (inl same) = inl same
-alone old new words w meant (inr needs) = inr (w, meant, needs)
-
-pub returns-in-Ok-Run-clause-source : goal.returns-in-Ok-Run-clause-source
-returns-in-Ok-Run-clause-source g c =
-    alone c.args.source.now c.run_words.new.source (map (λ s. s.now) c.args.words.now) c.in-Ok-Run.words (rw c.in-Ok-Run.field-0-is at c.in-Ok-Run.ensures.ok) (rw c.in-Ok-Run.words-is at c.run_words.ensures.source)
-
-pub returns-in-Ok-Run-clause-answer : goal.returns-in-Ok-Run-clause-answer
-returns-in-Ok-Run-clause-answer g c =
-    answers (g.S.IndexSource.holds c.args.source.now) g.R.Read.remaining g.W.Write.contents g.L.Write.contents (ports c.args.reader.now c.args.writer.now c.args.log.now) (ports c.run_words.new.reader c.run_words.new.writer c.run_words.new.log)
-    (map (λ s. s.now) c.args.words.now) c.in-Ok-Run.words c.run_words.result (rw c.in-Ok-Run.field-0-is at c.in-Ok-Run.ensures.ok) (rw c.in-Ok-Run.words-is at c.run_words.ensures.answer)
+pub returns-clause-answer : goal.returns-clause-answer
+returns-clause-answer g c =
+    let e = c.new-ports.ensures in
+    let k = c.program_on.ensures in
+    let same_reader = sym (k.same.reader ∙ e.same_reader) in
+    let same_writer = sym (k.same.writer ∙ e.same_writer) in
+    let same_log = sym (k.same.log ∙ e.same_log) in
+    given_back (λ r w l r' w' l'. AnswersProgram (g.S.IndexSource.holds c.args.source.now) g.R.Read.remaining g.W.Write.contents g.L.Write.contents (ports r w l) (ports r' w' l') (map (λ s. s.now) c.args.words.now) c.program_on.result) e.reader e.writer e.log (c.reader-1.given.1 same_reader) (c.writer-1.given.1 same_writer) (c.log-1.given.1 same_log)
+    (program_alone _ _ g.R.Read.remaining g.W.Write.contents g.L.Write.contents (g.S.IndexSource.holds c.args.source.now) (map (λ s. s.now) c.args.words.now) c.program_on.result k.answer)

@@ -21,13 +21,13 @@ refused status x y (inr three) = inr (inl (three, y))
 pub returns-in_default-clause-answer : goal.returns-in_default-clause-answer
 returns-in_default-clause-answer g c =
     refused c.refuse_label.result (inl (unknown_of c.for_label.result c.args.words.from.now c.as_bytes.result.now c.as_bytes.ensures.value c.in_default.is c.for_label.ensures))
-    record { unread = refl; unwritten = refl; told = c.refuse_label.ensures.told } c.refuse_label.ensures.status
+    record { unread = c.refuse_label.ensures.journal.reader; unwritten = c.refuse_label.ensures.journal.writer; told = c.refuse_label.ensures.told } c.refuse_label.ensures.status
 
 pub returns-in_default-for_label-clause-answer : goal.returns-in_default-for_label-clause-answer
 returns-in_default-for_label-clause-answer g c =
     refused c.refuse_label-in_default-for_label.result
     (inr (unknown_of c.for_label-2.result c.args.words.to.now c.as_bytes-2.result.now c.as_bytes-2.ensures.value c.in_default-for_label.is c.for_label-2.ensures))
-    record { unread = refl; unwritten = refl; told = c.refuse_label-in_default-for_label.ensures.told } c.refuse_label-in_default-for_label.ensures.status
+    record { unread = c.refuse_label-in_default-for_label.ensures.journal.reader; unwritten = c.refuse_label-in_default-for_label.ensures.journal.writer; told = c.refuse_label-in_default-for_label.ensures.told } c.refuse_label-in_default-for_label.ensures.status
 
 pub returns-in_default-clause-source : goal.returns-in_default-clause-source
 returns-in_default-clause-source g c = inl refl
@@ -60,5 +60,5 @@ returns-clause-answer g c = inr (inr (
   },
   of_files_still (g.S.IndexSource.holds c.args.source.now) (g.S.IndexSource.holds c.load_both.new.source) c.args.words.indexes.now c.new-tables.result c.load_both.new.tables c.in-Ok.ensures.files
       (adds_to_none (g.S.IndexSource.holds c.args.source.now) c.args.words.indexes.now c.new-tables.result c.new-tables.ensures.flats c.new-tables.ensures.rows),
-  c.convert_in_buffers.ensures,
+  c.convert_in_buffers.ensures.conversion,
 ))

@@ -1,104 +1,88 @@
-use Rattle.std.proofs.Common.{◌∙◌, Ok, refl, ap, subst, arith}
-use Rattle.recode.specs.Session.{IsOver, phase_after}
-use Rattle.recode.specs.calls.SessionView.{view_of}
-use Rattle.recode.specs.declared.job.Job.{Job}
-use Rattle.recode_log.specs.laws.Counts.{counts_none, counts_then}
-use Rattle.recode_log.specs.laws.Told.{none_yet}
-use Rattle.recode.proofs.TellLemmas.{completes_told, fails_told, none_yet_on, reads_on, reads_start, run_calls, tells_none, tells_then}
-use Rattle.recode.proofs.WriterLemmas.{kept_enough, kept_on, kept_start}
-use Rattle.recode.proofs.LatencyLemmas.{new_settled}
-use Rattle.recode.proofs.StepLemmas.{goes_on_start, goes_on_more, goes_on_finish, goes_on_stop, completes, fails, fails_decided}
+use Rattle.std.proofs.Common.{◌∙◌, IfErr, IfOk, length, sym}
+use Rattle.recode.specs.Devices.{CountsFault, devices_in, reads_of, written_in}
+use Rattle.recode.specs.RunsTold.{CompletesTold, FailsDecided, FailsTold}
+use Rattle.recode.specs.Session.{Completes, Fails}
+use Rattle.recode.specs.Step.{RunCalls}
+use Rattle.recode.specs.Told.{TellWhatPassed, told_in}
+use Rattle.recode.proofs.AloneLemmas.{completes_alone, completes_told_alone, decided_alone, fails_alone, fails_told_alone, given_back, if_err_map, if_ok_map}
 use Rattle.recode.proofs.session.run.Goals as goal
 
-pub run-init : goal.run-init
-run-init g c = record {
-  ran = goes_on_start _ _ _ (omega (arith, c.new-session.ensures.read)) (new_settled _ c.args.job c.new-session.ensures);
-  open_ = c.new-session.ensures.open_;
-  job = c.new-session.ensures.job;
-  enough = c.requires.buffers;
-  kept = kept_start c.args.buffers.now;
-  reader_count = refl;
-  writer_count = refl;
-  log_count = refl;
-  reads = reads_start _ _;
-  writes = counts_none _;
-  lines = counts_none _;
-  yet = none_yet _;
-  told = tells_none _ _;
-}
+pub returns-clause-completes : goal.returns-clause-completes
+returns-clause-completes g c =
+    let e = c.new-ports.ensures in
+    let k = c.run_on.ensures in
+    let same_reader = sym (k.same.reader ∙ e.same_reader) in
+    let same_writer = sym (k.same.writer ∙ e.same_writer) in
+    let same_log = sym (k.same.log ∙ e.same_log) in
+    given_back (λ r w l r' w' l'. IfOk c.run_on.result (λ p. Completes (reads_of r) (reads_of r') (written_in w l) (written_in w' l') c.args.job p)) e.reader e.writer e.log (c.reader-1.given.1 same_reader) (c.writer-1.given.1 same_writer) (c.log-1.given.1 same_log)
+    (if_ok_map c.run_on.result (λ p h. completes_alone h) k.completes)
 
-pub step-requires-clause-over : goal.step-requires-clause-over
-step-requires-clause-over g c = λ h. subst IsOver c.run.invariant.open_ h
+pub returns-clause-fails : goal.returns-clause-fails
+returns-clause-fails g c =
+    let e = c.new-ports.ensures in
+    let k = c.run_on.ensures in
+    let same_reader = sym (k.same.reader ∙ e.same_reader) in
+    let same_writer = sym (k.same.writer ∙ e.same_writer) in
+    let same_log = sym (k.same.log ∙ e.same_log) in
+    given_back (λ r w l r' w' l'. IfErr c.run_on.result (λ f. Fails (devices_in r w l) (devices_in r' w' l') c.args.job f)) e.reader e.writer e.log (c.reader-1.given.1 same_reader) (c.writer-1.given.1 same_writer) (c.log-1.given.1 same_log)
+    (if_err_map c.run_on.result (λ f h. fails_alone h) k.fails)
 
-pub step-requires-clause-buffers : goal.step-requires-clause-buffers
-step-requires-clause-buffers g c = c.run.invariant.enough
+pub returns-clause-decided : goal.returns-clause-decided
+returns-clause-decided g c =
+    let e = c.new-ports.ensures in
+    let k = c.run_on.ensures in
+    let same_reader = sym (k.same.reader ∙ e.same_reader) in
+    let same_writer = sym (k.same.writer ∙ e.same_writer) in
+    let same_log = sym (k.same.log ∙ e.same_log) in
+    given_back (λ r w l r' w' l'. IfErr c.run_on.result (FailsDecided (devices_in r w l) (devices_in r' w' l') c.args.job)) e.reader e.writer e.log (c.reader-1.given.1 same_reader) (c.writer-1.given.1 same_writer) (c.log-1.given.1 same_log)
+    (if_err_map c.run_on.result (λ f h. decided_alone h) k.decided)
 
-pub step-requires-clause-counts : goal.step-requires-clause-counts
-step-requires-clause-counts g c =
-    let i = c.run.invariant in
-    omega (arith, i.reader_count, i.writer_count, i.log_count, c.requires.counts.reader, c.requires.counts.writer, c.requires.counts.log)
+pub returns-clause-completes_told : goal.returns-clause-completes_told
+returns-clause-completes_told g c =
+    let e = c.new-ports.ensures in
+    let k = c.run_on.ensures in
+    let same_reader = sym (k.same.reader ∙ e.same_reader) in
+    let same_writer = sym (k.same.writer ∙ e.same_writer) in
+    let same_log = sym (k.same.log ∙ e.same_log) in
+    given_back (λ r w l r' w' l'. IfOk c.run_on.result (λ p. CompletesTold (devices_in r w l) (devices_in r' w' l') (told_in g.R.Read.remaining g.W.Write.contents g.L.Write.contents r w l) (told_in g.R.Read.remaining g.W.Write.contents g.L.Write.contents r' w' l') c.args.job p)) e.reader e.writer e.log (c.reader-1.given.1 same_reader) (c.writer-1.given.1 same_writer) (c.log-1.given.1 same_log)
+    (if_ok_map c.run_on.result (λ p h. completes_told_alone h) k.completes_told)
 
-pub run-preserved : goal.run-preserved
-run-preserved g c =
-    let e = c.in-Ok-More.ensures in
-    record {
-      ran = goes_on_more _ _ _ _ _ _ _ c.run.invariant.ran (rw (ap (λ (j : Job). j.limit) c.run.invariant.job) at (e.more (ap Ok c.in-Ok-More.field-0-is)));
-      open_ = e.session.phase ∙ ap (λ p. phase_after (Ok p)) c.in-Ok-More.field-0-is;
-      job = e.session.job ∙ c.run.invariant.job;
-      enough = kept_enough _ _ c.run.invariant.enough e.buffers;
-      kept = kept_on _ _ _ c.run.invariant.kept e.buffers;
-      reader_count = omega (arith, e.failures.reader, c.run.invariant.reader_count);
-      writer_count = omega (arith, e.failures.writer, c.run.invariant.writer_count);
-      log_count = omega (arith, e.failures.log, c.run.invariant.log_count);
-      reads = (let on = e.more (ap Ok c.in-Ok-More.field-0-is) in reads_on _ _ _ _ _ e.calls.call on.chunk c.run.invariant.reads c.run.invariant.kept.input e.calls.is e.calls.once on.given (omega (arith, on.grows, on.counted)));
-      writes = counts_then _ _ _ c.run.invariant.writes e.calls.writes;
-      lines = counts_then _ _ _ c.run.invariant.lines e.calls.lines;
-      yet = (let on = e.more (ap Ok c.in-Ok-More.field-0-is) in none_yet_on _ _ _ _ e.calls.call on.chunk c.run.invariant.yet e.calls.is e.calls.once on.given (omega (arith, on.grows, on.counted)));
-      told = tells_then _ _ _ _ _ _ c.run.invariant.yet c.run.invariant.told e.told.0;
-    }
+pub returns-clause-fails_told : goal.returns-clause-fails_told
+returns-clause-fails_told g c =
+    let e = c.new-ports.ensures in
+    let k = c.run_on.ensures in
+    let same_reader = sym (k.same.reader ∙ e.same_reader) in
+    let same_writer = sym (k.same.writer ∙ e.same_writer) in
+    let same_log = sym (k.same.log ∙ e.same_log) in
+    given_back (λ r w l r' w' l'. IfErr c.run_on.result (λ f. FailsTold (devices_in r w l) (devices_in r' w' l') (told_in g.R.Read.remaining g.W.Write.contents g.L.Write.contents r w l) (told_in g.R.Read.remaining g.W.Write.contents g.L.Write.contents r' w' l') c.args.job f)) e.reader e.writer e.log (c.reader-1.given.1 same_reader) (c.writer-1.given.1 same_writer) (c.log-1.given.1 same_log)
+    (if_err_map c.run_on.result (λ f h. fails_told_alone h) k.fails_told)
 
-pub returns-in-Ok-Done-clause-completes : goal.returns-in-Ok-Done-clause-completes
-returns-in-Ok-Done-clause-completes g c =
-    let e = c.in-Ok-Done.ensures in
-    let all = goes_on_finish _ _ _ _ _ _ _ c.run.invariant.ran (rw (ap (λ (j : Job). j.limit) c.run.invariant.job) at (e.done (ap Ok c.in-Ok-Done.field-0-is))) in
-    (completes _ _ c.args.job (view_of c.new-session.result) (view_of c.step.new.self) _ c.requires.job c.new-session.ensures all (c.report.ensures _)).0
+pub returns-clause-failures : goal.returns-clause-failures
+returns-clause-failures g c =
+    let e = c.new-ports.ensures in
+    let k = c.run_on.ensures in
+    let same_reader = sym (k.same.reader ∙ e.same_reader) in
+    let same_writer = sym (k.same.writer ∙ e.same_writer) in
+    let same_log = sym (k.same.log ∙ e.same_log) in
+    given_back (λ r w l r' w' l'. CountsFault (devices_in r w l) (devices_in r' w' l') c.run_on.result) e.reader e.writer e.log (c.reader-1.given.1 same_reader) (c.writer-1.given.1 same_writer) (c.log-1.given.1 same_log)
+    (record { reader = k.failures.reader; writer = k.failures.writer; log = k.failures.log })
 
-pub returns-in-Ok-Done-clause-work : goal.returns-in-Ok-Done-clause-work
-returns-in-Ok-Done-clause-work g c =
-    let e = c.in-Ok-Done.ensures in
-    let all = goes_on_finish _ _ _ _ _ _ _ c.run.invariant.ran (rw (ap (λ (j : Job). j.limit) c.run.invariant.job) at (e.done (ap Ok c.in-Ok-Done.field-0-is))) in
-    (completes _ _ c.args.job (view_of c.new-session.result) (view_of c.step.new.self) _ c.requires.job c.new-session.ensures all (c.report.ensures _)).1
+pub returns-clause-calls : goal.returns-clause-calls
+returns-clause-calls g c =
+    let e = c.new-ports.ensures in
+    let k = c.run_on.ensures in
+    let same_reader = sym (k.same.reader ∙ e.same_reader) in
+    let same_writer = sym (k.same.writer ∙ e.same_writer) in
+    let same_log = sym (k.same.log ∙ e.same_log) in
+    given_back (λ r w l r' w' l'. RunCalls r r' w w' l l' (length c.args.buffers.now.input.now) c.run_on.result) e.reader e.writer e.log (c.reader-1.given.1 same_reader) (c.writer-1.given.1 same_writer) (c.log-1.given.1 same_log)
+    (k.calls)
 
-pub returns-in-Err-clause-fails : goal.returns-in-Err-clause-fails
-returns-in-Err-clause-fails g c =
-    fails _ _ c.args.job (view_of c.new-session.result) _ c.requires.job c.new-session.ensures
-    (goes_on_stop _ _ _ _ _ _ _ c.run.invariant.ran (rw (ap (λ (j : Job). j.limit) c.run.invariant.job) at c.in-Err.ensures.fault))
-
-pub returns-in-Err-clause-decided : goal.returns-in-Err-clause-decided
-returns-in-Err-clause-decided g c =
-    fails_decided _ _ c.args.job (view_of c.new-session.result) _ c.requires.job c.new-session.ensures
-    (goes_on_stop _ _ _ _ _ _ _ c.run.invariant.ran (rw (ap (λ (j : Job). j.limit) c.run.invariant.job) at c.in-Err.ensures.fault))
-
-pub returns-in-Ok-Done-clause-buffers : goal.returns-in-Ok-Done-clause-buffers
-returns-in-Ok-Done-clause-buffers g c = kept_on _ _ _ c.run.invariant.kept c.in-Ok-Done.ensures.buffers
-
-pub returns-in-Err-clause-buffers : goal.returns-in-Err-clause-buffers
-returns-in-Err-clause-buffers g c = kept_on _ _ _ c.run.invariant.kept c.in-Err.ensures.buffers
-
-pub returns-in-Ok-Done-clause-told : goal.returns-in-Ok-Done-clause-told
-returns-in-Ok-Done-clause-told g c = tells_then _ _ _ _ _ _ c.run.invariant.yet c.run.invariant.told c.in-Ok-Done.ensures.told.0
-
-pub returns-in-Err-clause-told : goal.returns-in-Err-clause-told
-returns-in-Err-clause-told g c = tells_then _ _ _ _ _ _ c.run.invariant.yet c.run.invariant.told c.in-Err.ensures.told.0
-
-pub returns-in-Ok-Done-clause-calls : goal.returns-in-Ok-Done-clause-calls
-returns-in-Ok-Done-clause-calls g c = run_calls _ _ _ _ _ _ _ _ _ _ c.run.invariant.reads c.run.invariant.writes c.run.invariant.lines c.run.invariant.kept.input c.in-Ok-Done.ensures.calls refl tt
-
-pub returns-in-Err-clause-calls : goal.returns-in-Err-clause-calls
-returns-in-Err-clause-calls g c = run_calls _ _ _ _ _ _ _ _ _ _ c.run.invariant.reads c.run.invariant.writes c.run.invariant.lines c.run.invariant.kept.input c.in-Err.ensures.calls refl c.in-Err.ensures.calls.last
-
-pub returns-in-Ok-Done-clause-completes_told : goal.returns-in-Ok-Done-clause-completes_told
-returns-in-Ok-Done-clause-completes_told g c = completes_told _ _ _ _ (returns-in-Ok-Done-clause-told g c) c.args.job _ (returns-in-Ok-Done-clause-completes g c)
-
-pub returns-in-Err-clause-fails_told : goal.returns-in-Err-clause-fails_told
-returns-in-Err-clause-fails_told g c = fails_told _ _ _ _ (returns-in-Err-clause-told g c) c.args.job _ (returns-in-Err-clause-fails g c)
+pub returns-clause-told : goal.returns-clause-told
+returns-clause-told g c =
+    let e = c.new-ports.ensures in
+    let k = c.run_on.ensures in
+    let same_reader = sym (k.same.reader ∙ e.same_reader) in
+    let same_writer = sym (k.same.writer ∙ e.same_writer) in
+    let same_log = sym (k.same.log ∙ e.same_log) in
+    given_back (λ r w l r' w' l'. TellWhatPassed (devices_in r w l) (devices_in r' w' l') (told_in g.R.Read.remaining g.W.Write.contents g.L.Write.contents r w l) (told_in g.R.Read.remaining g.W.Write.contents g.L.Write.contents r' w' l')) e.reader e.writer e.log (c.reader-1.given.1 same_reader) (c.writer-1.given.1 same_writer) (c.log-1.given.1 same_log)
+    (record { input = k.told.input; output = k.told.output; log = k.told.log })

@@ -3,4 +3,4 @@ use Rattle.recode.proofs.MessageLemmas.{line_of}
 use Rattle.recode_system.proofs.command_line.refuse.Goals as goal
 
 pub returns-clause-told : goal.returns-clause-told
-returns-clause-told g c = (_, line_of _ refl, c.tell.ensures.tells)
+returns-clause-told g c = (_, line_of _ refl, c.tell_log.ensures.tells)
