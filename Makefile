@@ -56,7 +56,7 @@ clean:
 generate:
 	@python3 tools/generate_encodings.py
 	@python3 tools/pages/reference.py
-	@python3 tools/pages/headline.py
+	@python3 tools/pages/theorem.py
 	@python3 tools/pages/crates.py
 	@python3 tools/pages/definitions_page.py
 	@python3 tools/pages/c_header.py

@@ -7,7 +7,7 @@
 - No function has more than 13 clauses, and no contract more than 30 lines.
 - Each definition of `specs/` has a line of its own above it. None has a name of the standard library's, and a function
   of the code that has the name of one cites it in its contract.
-- What `make generate` writes is of these sources: docs/HEADLINE.md, docs/reference, the drawing of
+- What `make generate` writes is of these sources: docs/reference, the drawing of
   docs/ARCHITECTURE.md, include/jillapun.h, and the parts of the man pages that say what the help and the header say.
 - Each root file begins its code with the tactic that proofs are found by, and no handle is allowed.
 - Each public item of a library has a doc comment. No public contract cites a word that stands among theorems
@@ -38,10 +38,10 @@ import crates
 import definitions
 import definitions_page
 import documents
-import headline
 import python_manual
 import reference
 import rust_crate
+import theorem
 import usage
 
 CRATES = os.path.join(TOP, "crates")
@@ -272,7 +272,7 @@ CHECKS = (
     example,
     reference.faults,
     reference.hidden_words,
-    headline.faults,
+    theorem.faults,
     crates.faults,
     c_header.faults,
     c_manual.faults,

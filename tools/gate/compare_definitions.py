@@ -1,5 +1,5 @@
 #!/usr/bin/env python3
-"""Runs the definitions of docs/HEADLINE.md beside a plain program: `make definitions`.
+"""Runs the definitions of docs/THEOREM.md beside a plain program: `make definitions`.
 
     python3 tools/gate/compare_definitions.py [--all] [SEED]
 
@@ -12,7 +12,8 @@ which has a whole input at once; over the index texts of `indexes`. Compared are
 - what is written for scalars in each output encoding, from each set in force: of a sample (with `--all` of every scalar);
 - whole jobs at random: output, log, how the two are interleaved, verdict and counts;
 - the records of the theorem of a whole run, `Completes` and `ReportsFewCalls`: they must hold of the outcome that the plain
-  program gives, and of none that is wrong in one place.
+  program gives, and of none that is wrong in one place;
+- all clauses of the theorem, on outcomes that were worked by hand, right and wrong ones (`outcomes.py`).
 
 What differs is printed, and the status is then 1.
 """
@@ -31,7 +32,8 @@ sys.setrecursionlimit(100_000)
 
 from steps import TOP
 
-import headline
+import theorem
+import outcomes
 import plain_recode
 import run_definitions
 import standard
@@ -59,11 +61,11 @@ class Page:
     """The definitions of the page, with the standard's indexes and encodings in their words."""
 
     def __init__(self):
-        clauses = [line for name in ("completes", "work") for line in headline.clause("recode", "run", name)[0]]
+        clauses = [line for name in (*theorem.CLAUSES, "work") for line in theorem.clause("recode", theorem.FUNCTION, name)]
         words = [word for line in clauses for word in WORD.findall(line)]
         places = read(os.path.join(TOP, "crates", "encoding_labels", "src", "places.rt"))
         constants = {name: int(place) for name, place in re.findall(r"pub const (\w+): usize = (\d+);", places)}
-        self.definitions = run_definitions.Definitions(words, [crate for crate, _ in headline.GROUPS], constants)
+        self.definitions = run_definitions.Definitions(words, [crate for crate, _ in theorem.GROUPS], constants)
         self.run = self.definitions.run
         self.lists = self.lists_of_indexes()
         self.encodings = {}
@@ -211,15 +213,13 @@ class Comparison:
 
     def completes(self, job, data, outcome):
         """Whether an outcome of a run meets the theorem: what calls of the reader gave, and those of the writers took."""
-        before, written = ((0x21,),), Record(output=(0x21,), log=())
-        after, written_after = before + ((data,) if data else ()) + (outcome["last"],), Record(output=(0x21,) + outcome["output"], log=outcome["log"])
+        before, written = ((0x21,),), Record(output=(0x21,), log=(), order=Made("None"))
+        after, written_after = before + ((data,) if data else ()) + (outcome["last"],), Record(output=(0x21,) + outcome["output"], log=outcome["log"], order=Made("None"))
         report = Record(**{name: outcome[name] for name in ("read", "bad", "lost", "calls", "faithful")})
         report.encoding = self.page.encodings[outcome["encoding"]]
-        is_whole = self.page.definitions.holds_of(
-            "Completes", before, after, written, written_after, self.page.job(job, outcome["limit"]), report,
-            given=Record(input=data),
-        )  # fmt: skip
-        return is_whole and self.page.definitions.holds_of("ReportsFewCalls", report)
+        words = self.page.job(job, outcome["limit"])
+        is_whole = self.page.run("Completes", before, after, written, written_after, words, report)
+        return is_whole and self.page.run("ReportsFewCalls", report)
 
 
 def bytes_at_random(chance):
@@ -285,7 +285,7 @@ def faults():
     """For the gate: a sample from a fixed seed."""
     found = sampled(1)
     print("%d values of the definitions beside those of a plain program" % found.count)
-    return found.faults[:20]
+    return [*outcomes.faults(found.page), *found.faults][:20]
 
 
 def main():
@@ -296,6 +296,7 @@ def main():
     seed = random.randrange(10**6) if words.seed is None else words.seed
     start = time.monotonic()
     found = compared_whole(seed) if words.all else sampled(seed)
+    found.faults += outcomes.faults(found.page)
     for fault in found.faults[:50]:
         print(fault)
     print(

@@ -4,7 +4,8 @@
 a tuple, a natural number an `int`, a Boolean a `bool`, a record a `Record`, and what a `data` or a type of the code makes a
 `Made`. A type that says that something holds is a Boolean, too: `≡` is equality, `×` *and*, `→` *if .. then*, `↔` *exactly
 if*, `Unit` true and `⊥` false; a record of such types holds if each of its fields does. A field that is data says *there is*,
-so a caller has to name it. The words of the standard library are in `LIBRARY`, each as its page in the kit says it.
+and `WITNESSES` finds it. *For each list of bytes* is tried with some hundreds of lists (`FOLLOWING`). The words of the standard
+library are in `LIBRARY`, each as its page in the kit says it.
 
 The equations of a definition are tried from the first on, as in the language. Each part of an expression becomes one of
 Python's, so a definition runs as it stands, and no faster: lists are taken apart element by element. One thing is not: the
@@ -12,6 +13,7 @@ first of many entries that equal a number (`position (λ v. v == c)`) is looked 
 """
 
 import functools
+import itertools
 import keyword
 import re
 
@@ -23,7 +25,7 @@ TOKEN = re.compile(
     (?P<hex>0x[0-9A-Fa-f]+) |
     (?P<number>[0-9]+(?![\w.])) |
     (?P<word>[A-Za-z_⊥ℕ][\w']*(?:\.[A-Za-z0-9_][\w']*)*) |
-    (?P<sign>\+\+|∷|&&|\|\||==|≡|≤|×|→|↔|⊎|¬|λ|\[\]|[-+*/%(){}=.,;:])
+    (?P<sign>\+\+|∷|&&|\|\||==|≡|≢|≤|<|×|→|↔|⊎|¬|λ|\[\]|[-+*/%(){}=.,;:])
     )""",
     re.VERBOSE,
 )
@@ -35,7 +37,9 @@ SIGNS = {
     "×": (2, "right", "((%s) and (%s))"),
     "⊎": (2, "right", "((%s) or (%s))"),
     "≡": (3, "none", "((%s) == (%s))"),
+    "≢": (3, "none", "((%s) != (%s))"),
     "≤": (3, "none", "((%s) <= (%s))"),
+    "<": (3, "none", "((%s) < (%s))"),
     "||": (4, "right", "((%s) or (%s))"),
     "&&": (5, "right", "((%s) and (%s))"),
     "==": (6, "none", "((%s) == (%s))"),
@@ -154,8 +158,15 @@ def utf8(scalar):
     return tuple(chr(scalar).encode("utf-8"))
 
 
+# What may follow an input: nothing, each byte, and a byte that opens a sequence with one that goes on.
+FOLLOWING = ((), *((byte,) for byte in range(256)), *((one, two) for one in (0x83, 0x8F, 0xC2, 0xE4, 0xF0) for two in (0x30, 0x41, 0x6E, 0x90, 0xA5)))
+
+
 # The words of the standard library: how many arguments each takes, and what it is.
 LIBRARY = {
+    "All": (2, lambda test, entries: all(map(test, entries))),
+    "IfErr": (2, lambda result, says: result.maker != "Err" or says(result.parts[0])),
+    "IfOk": (2, lambda result, says: result.maker != "Ok" or says(result.parts[0])),
     "codes": (1, lambda text: tuple(map(ord, text))),
     "concat": (1, lambda lists: tuple(entry for entries in lists for entry in entries)),
     "cond": (3, lambda test, one, other: one if test else other),
@@ -189,6 +200,7 @@ LIBRARY = {
     "slice_range": (3, slice_range),
     "starts_with": (3, lambda same, entries, front: entries[: len(front)] == front),
     "suc": (1, lambda n: n + 1),
+    "take": (2, lambda count, entries: entries[:count]),
     "surrogate_pair_char": (2, lambda high, low: 0x10000 + (high - 0xD800) * 0x400 + (low - 0xDC00)),
     "true": (0, True),
     "tt": (0, ()),
@@ -200,14 +212,77 @@ LIBRARY = {
 }
 
 
-def gave_then(before, after, data, last):
-    """Whether there are reads, with one more that gave the last, after those before, and these bytes are theirs."""
+def gave_then(page, before, after, data, last):
+    """There are reads, with one more that gave the last, after those before, and these bytes are theirs."""
     reads = after[len(before) :]
     return after[: len(before)] == before and reads[-1:] == (last,) and sum(reads[:-1], ()) == data
 
 
-# The definitions that say *there is*: how many arguments each takes, and whether there is.
-FOUND = {"GaveThen": (4, gave_then)}
+def is_prefix(page, front, entries):
+    return entries[: len(front)] == front
+
+
+def is_stop(page, fault, taken, written):
+    return fault.maker != "Unmappable" or page.run("StopsAtLoss", *fault.parts, taken, written)
+
+
+def took_certain(page, job, data, taken):
+    """What was taken is the longest list of items with which what is written begins, whatever follows these bytes."""
+    traces = [page.run("open_trace", job, data + rest) for rest in FOLLOWING]
+    items = itertools.takewhile(lambda column: column.count(column[0]) == len(column), zip(*traces))
+    return taken == page.run("tagged", tuple(column[0] for column in items))
+
+
+def keep_up(page, job, entries):
+    parts = (entries[:place] for place, entry in enumerate(entries) if entry.maker == "AtReader")
+    return all(took_certain(page, job, page.run("given_by", part), page.run("order_of", part)) for part in parts)
+
+
+# The definitions that say *there is* or *for each* of more than bytes: how many arguments each takes, and what it says.
+FOUND = {
+    "GaveThen": (4, gave_then), "IsPrefix": (2, is_prefix), "IsStop": (3, is_stop), "KeepUp": (2, keep_up),
+    "TookCertain": (3, took_certain),
+}  # fmt: skip
+
+
+def added(before, after):
+    return after[len(before) :]
+
+
+def parted(entries):
+    """All but the last of some calls, and the last; one that is neither a read nor a write in its place if there is none."""
+    return entries[:-1], entries[-1] if entries else Made("Flush", False)
+
+
+def added_calls(page, before, after):
+    return added(page.run("history_of", before), page.run("history_of", after))
+
+
+def reads_of(page, reader, reader_after, *others):
+    earlier, call = parted(added_calls(page, reader, reader_after))
+    return Record(earlier=earlier, call=call)
+
+
+def read_and_taken(page, before, after, job, fault):
+    order = added(before.written.order.parts[0], after.written.order.parts[0])
+    return Record(reads=added(before.reads, after.reads), taken=order)
+
+
+def failed_write(page, calls):
+    earlier, last = parted(calls)
+    return Record(earlier=earlier, last=last)
+
+
+# The records with fields that are data: of their parameters, the only data of which the other fields can hold.
+WITNESSES = {
+    "Completes": lambda page, reads, after, *others: Record(input=sum(added(reads, after)[:-1], ())),
+    "CountsWrites": lambda page, before, after: Record(calls=added_calls(page, before, after)),
+    "EndsInFailedWrite": failed_write,
+    "Fails": read_and_taken,
+    "RunCalls": reads_of,
+    "RunsInOrder": lambda page, before, after, job: Record(entries=added(before, after)),
+    "StopsAtLoss": lambda page, index, scalar, taken, written: Record(items=written[:-1]),
+}  # fmt: skip
 
 
 def minus(a, b):
@@ -254,6 +329,8 @@ class Reader:
     def expression(self, least=0):
         if self.next_is("λ"):
             return self.function()
+        if self.binds():
+            return self.scoped(self.each)
         if self.next_is("let"):
             return self.binding()
         if self.next_is("if"):
@@ -293,6 +370,18 @@ class Reader:
         if len(variables) == 1 and len(equal) == 3 and equal[1][1] == "==" and "v_" + equal[0][1] == variables[0]:
             return "IsEqualTo(%s)" % self.word(equal[2][1])
         return "(%s(%s))" % ("".join("lambda %s: " % variable for variable in variables), body)
+
+    def binds(self):
+        """Whether `(NAME : TYPE) →` begins here."""
+        return self.next_is("(") and [text for _, text in self.tokens[self.at + 2 : self.at + 3]] == [":"]
+
+    def each(self):
+        """`(r : List ℕ) → ..`: what is said of each list of bytes that may follow."""
+        self.take("(")
+        variable = self.name()
+        for text in (":", "List", "ℕ", ")", "→"):
+            self.take(text)
+        return "all(map(lambda %s: %s, FOLLOWING))" % (variable, self.expression())
 
     def binding(self):
         return self.scoped(self.binding_body)
@@ -489,13 +578,14 @@ class Definitions:
         self.found = {definition.name: definition for definition in seen}
         self.constants, self.counts, self.records, self.imports = constants, {}, {}, imports
         # The makers of each type, and how many parts each has; those of the types of `specs/` stand under no type.
-        self.makers = {"": {"None": 0, "Some": 1}}
+        self.makers = {"": {"None": 0, "Some": 1, "Ok": 1, "Err": 1}}
         self.space = {"LIBRARY": LIBRARY, "Made": Made, "Record": Record, "IsEqualTo": IsEqualTo}
-        self.space |= {"curried": curried, "functools": functools, "minus": minus}
+        self.space |= {"curried": curried, "functools": functools, "minus": minus, "FOLLOWING": FOLLOWING}
         for module in self.types:
             self.read_type(module)
         for name in self.found.keys() & FOUND.keys():
-            self.counts[name], self.space[self.python_name(name)] = FOUND[name]
+            self.counts[name], said = FOUND[name]
+            self.space[self.python_name(name)] = functools.partial(said, self)
             del self.found[name]
         for definition in self.found.values():
             self.read_head(definition)
@@ -519,10 +609,6 @@ class Definitions:
         for argument in arguments[count:]:
             value = value(argument)
         return value
-
-    def holds_of(self, name, *arguments, given=None):
-        """Whether a record of the definitions holds of its parameters, with the fields that are data as given."""
-        return self.space[self.python_name(name)](*arguments, given=given)
 
     def read_type(self, module):
         """The constructors of a type of the code, from its source."""
@@ -553,7 +639,7 @@ class Definitions:
                 self.makers[""][maker[1]] = sum(len(group.split()) for group in groups) + plain.count("→") - (1 if groups and plain.strip().startswith("→") else 0)
         elif re.match(r"(?:pub )?record\b", first):
             self.records[definition.name] = definition
-            names = re.findall(r"\(([^:()]*):", first.split(" : Type")[0])
+            names = re.findall(r"\(([^:()]*):", head_of(definition))
             self.counts[definition.name] = sum(len(group.split()) for group in names)
         else:
             equation = next(line for line in definition.source[1:] if line.startswith(definition.name + " "))
@@ -602,7 +688,7 @@ class Definitions:
 
     def read_record(self, definition):
         """Whether each field of a record holds: a function of its parameters and of a record with the fields that are data."""
-        head = definition.source[0].split(" : Type")[0]
+        head = head_of(definition)
         parameters = [word for group in re.findall(r"\(([^:()]*):", head) for word in group.split()]
         reader_names = {word: "v_" + word.replace("'", "_") for word in parameters}
         fields, data = [], []
@@ -610,14 +696,18 @@ class Definitions:
             field = re.match(r"  pub (\S+) : (.*)", line)
             if not field:
                 continue
-            if re.match(r"(?:List|ℕ|Bool|Option)\b", field[2]) or field[2] in self.records and not self.holds(field[2]):
+            if re.match(r"(?:List|ℕ|Bool|Option|Call)\b", field[2]) or field[2] in self.records and not self.holds(field[2]):
                 data.append(field[1])
                 reader_names[field[1]] = "given.%s" % field[1]
                 continue
             fields.append((field[1], field[2]))
         if not parameters:
             return
-        lines = ["def %s(%s):" % (self.python_name(definition.name), ", ".join(reader_names[word] for word in parameters + []) + ", given=None")]
+        values = ", ".join(reader_names[word] for word in parameters)
+        lines = ["def %s(%s):" % (self.python_name(definition.name), values)]
+        if definition.name in WITNESSES:
+            self.space["given_" + definition.name] = functools.partial(WITNESSES[definition.name], self)
+            lines.append("    given = given_%s(%s)" % (definition.name, values))
         for name, text in fields:
             reader = Reader(tokens_of(text), self, reader_names)
             body = reader.expression()
@@ -630,7 +720,12 @@ class Definitions:
 
     def holds(self, name):
         """Whether a record says something of parameters, and is no data itself."""
-        return "(" in self.records[name].source[0].split(" : Type")[0]
+        return "(" in head_of(self.records[name])
+
+
+def head_of(record):
+    """The name and the parameters of a record, but for those in braces."""
+    return re.sub(r"\{[^}]*\}", "", record.source[0]).split(" : Type")[0]
 
 
 def patterns_in(text):

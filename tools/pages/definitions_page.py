@@ -35,14 +35,14 @@ PARTS = [
 
 HEAD = """# Definitions
 
-What the contracts speak of, and so what has to be read to trust a claim: the files of `specs/` in each crate, below in the order to read them in. What the headline stands on is picked out of them, definition by definition, in [HEADLINE.md](../../docs/HEADLINE.md). Each file opens with a paragraph that says what it defines, and with the section of the standard that it follows. Worked rows stand in `specs/examples/`, most of them under the name of their file; they and the theorems in `specs/laws/` and `proofs/` are proved and need not be read.
+What the contracts speak of, and so what has to be read to trust a claim: the files of `specs/` in each crate, below in the order to read them in. What [the theorem](../../docs/THEOREM.md) stands on is picked out of them in [theorem.md](../docs/theorem.md). Each file opens with a paragraph that says what it defines, and with the section of the standard that it follows. Worked rows stand in `specs/examples/`, most of them under the name of their file; they and the theorems in `specs/laws/` and `proofs/` are proved and need not be read.
 
 From the standard library come scalars, the bytes of a text in UTF-8 (RFC 3629) and its units in UTF-16 (Unicode).
 """
 
 CALLS = """## What calls and layers promise one another
 
-`specs/calls/` of each crate: how much room is enough, where a call stops, what is pending between two calls. A caller reads what the contract of its call cites; a reader of the headline needs none of them.
+`specs/calls/` of each crate: how much room is enough, where a call stops, what is pending between two calls. A caller reads what the contract of its call cites; a reader of the theorem needs none of them.
 """
 
 

@@ -6,12 +6,11 @@ use Rattle.recode.specs.Conversion.{Converts, EndsInFault, IsConversion}
 use Rattle.recode.specs.Devices.{Devices, KeepsWritten, PortsView, Written, Wrote, ports}
 use Rattle.recode.specs.Program.{AnswersProgram, FileTexts, IsConversionOn, IsLeftAlone}
 use Rattle.recode.specs.Runs.{RunReturns}
-use Rattle.recode.specs.RunsTold.{CompletesTold, FailsDecided, FailsTold}
+use Rattle.recode.specs.RunsTold.{FailsDecided}
 use Rattle.recode.specs.Session.{Completes, Fails, WroteWhole}
 use Rattle.recode.specs.State.{State}
 use Rattle.recode.specs.Step.{Finishes, Stops, StepsOn}
 use Rattle.recode.specs.TaggedByte.{TaggedByte}
-use Rattle.recode.specs.Told.{Told}
 use Rattle.recode.specs.WrittenItems.{WritesItems, WritesItemsFor, WritesPrefixFor}
 use Rattle.recode.specs.declared.counts.Counts.{Counts}
 use Rattle.recode.specs.declared.job.Fault.{Fault}
@@ -117,14 +116,6 @@ fails_alone h = record {
 pub decided_alone : {d d' : Devices} {j : Job} {f : Fault} → FailsDecided d d' j f → FailsDecided (each d) (each d') j f
 unfolding fails_alone
 decided_alone h = record { fails = fails_alone h.fails; decided = λ is. let k = h.decided is in (k.0, record { decided = k.1.decided; longest = k.1.longest; soon = k.1.soon; output = k.1.output; logged = k.1.logged }) }
-
-pub completes_told_alone : {d d' : Devices} {t t' : Told} {j : Job} {p : Report} → CompletesTold d d' t t' j p → CompletesTold (each d) (each d') t t' j p
-unfolding completes_alone
-completes_told_alone h = record { completes = completes_alone h.completes; consumed = h.consumed; end = h.end; output = h.output; logged = h.logged }
-
-pub fails_told_alone : {d d' : Devices} {t t' : Told} {j : Job} {f : Fault} → FailsTold d d' t t' j f → FailsTold (each d) (each d') t t' j f
-unfolding fails_alone
-fails_told_alone h = record { fails = fails_alone h.fails; consumed = h.consumed; end = h.end; output = h.output; logged = h.logged }
 
 pub if_err_map : {T E : Type 0} {P Q : E → Type 0} (r : Result T E) → ((e : E) → P e → Q e) → IfErr r P → IfErr r Q
 if_err_map (Ok x) f h = tt

@@ -55,6 +55,7 @@ ghost use Rattle.recode.specs.TaggedByte.{IsPrefix, TaggedByte, log_bytes, order
 ghost use Rattle.recode_log.specs.Counted.{passed_of};
 ghost use Rattle.recode_log.specs.Journal.{Entry};
 ghost use Rattle.recode_log.specs.Ports.{journal_of};
+ghost use Rattle.recode.specs.RunsTold.{CompletesTold, FailsTold};
 ghost use Rattle.recode.specs.Told.{TellWhatPassed, Told};
 ghost use Rattle.recode_log.specs.Told.{TellsReads, TellsTaken};
 ghost use Rattle.recode.specs.Work.{ReportsFewCalls};
@@ -176,7 +177,9 @@ pub fn known_input()
 /// `TellsTaken`). The reader lost the bytes that its calls gave, and has none left if the last of
 /// them gave none. If it said before which bytes it has, what its calls gave is of these. A writer
 /// holds what it held before, and then the bytes that its calls took. After calls in a row devices
-/// say what passed in all of them, if the reader said before the first which bytes it has.
+/// say what passed in all of them, if the reader said before the first which bytes it has. After a
+/// run the reader lost what was read, and has none left if the end was. The writer and the log hold
+/// what they held before, and then what the run wrote.
 pub fn devices_tell()
     ensures begins { (d : Devices) (t : Told) → TellWhatPassed d d t t }
     ensures goes_on { (d e f : Devices) (t u v : Told) (x : List ℕ) → t.input ≡ Some x
@@ -189,6 +192,10 @@ pub fn devices_tell()
         → t ≡ Some x → TellsReads a b t u → IsOf a b x }
     ensures took { (a b : List ℕ) (t u : Option (List ℕ)) (x : List ℕ)
         → TellsTaken a b t u → Grew a b x → Appends t u x }
+    ensures completes { (d e : Devices) (t u : Told) (j : Job) (p : Report) → TellWhatPassed d e t u
+        → Completes d.reads e.reads d.written e.written j p → CompletesTold d e t u j p }
+    ensures fails { (d e : Devices) (t u : Told) (j : Job) (f : Fault) → TellWhatPassed d e t u
+        → Fails d e j f → FailsTold d e t u j f }
 {}
 
 /// The pieces of an input, the mark that is taken among them, stand for some bytes each, and for no

@@ -12,7 +12,7 @@ ghost use Rattle.recode.specs.Session.{View, IsOver, IsNewSession, IsStepped, Te
 ghost use Rattle.recode.specs.Session.{Fails};
 ghost use Rattle.recode.specs.declared.session.Phase.TheVariants.{Open};
 ghost use Rattle.recode.specs.Step.{Finishes, RunCalls, StepCalls, Stops, StepsOn};
-ghost use Rattle.recode.specs.RunsTold.{CompletesTold, FailsDecided, FailsTold};
+ghost use Rattle.recode.specs.RunsTold.{FailsDecided};
 ghost use Rattle.recode.specs.Told.{TellWhatPassed, told_at, told_in};
 ghost use Rattle.recode.specs.Devices.{CountsFault, HaveFailedAtMost, devices_at, devices_in};
 ghost use Rattle.recode.specs.Devices.{reads_of, written_in, written_of};
@@ -210,8 +210,8 @@ impl<'t> Session<'t> {
         ensures calls { StepCalls ports.old.reader.now ports.new.reader.now
             ports.old.writer.now ports.new.writer.now ports.old.log.now ports.new.log.now
             (length buffers.old.input.now) result }
-        ensures order { StepsInOrder (journal_of ports.old) (journal_of ports.new) }
-        ensures same { SameDevices ports.old ports.new }
+        ensures order { SameDevices ports.old ports.new
+            × StepsInOrder (journal_of ports.old) (journal_of ports.new) }
     {
         self.phase = Phase::Stopped;
         let Ok(read) = ports.read(buffers.input) else {
@@ -279,14 +279,6 @@ pub fn run<R: Read, W: Write, L: Write>(
     ensures work { IfOk result ReportsFewCalls }
     ensures decided { IfErr result (FailsDecided (devices_in reader.old writer.old log.old)
         (devices_in reader.new writer.new log.new) job.entry) }
-    ensures completes_told { IfOk result (λ p. CompletesTold
-        (devices_in reader.old writer.old log.old) (devices_in reader.new writer.new log.new)
-        (told_in R.remaining W.contents L.contents reader.old writer.old log.old)
-        (told_in R.remaining W.contents L.contents reader.new writer.new log.new) job.entry p) }
-    ensures fails_told { IfErr result (λ f. FailsTold
-        (devices_in reader.old writer.old log.old) (devices_in reader.new writer.new log.new)
-        (told_in R.remaining W.contents L.contents reader.old writer.old log.old)
-        (told_in R.remaining W.contents L.contents reader.new writer.new log.new) job.entry f) }
     ensures buffers { KeepSizes buffers.old buffers.new }
     ensures failures { CountsFault (devices_in reader.old writer.old log.old)
         (devices_in reader.new writer.new log.new) result }
@@ -324,14 +316,6 @@ pub fn run_on<R: Read, W: Write, L: Write>(
     ensures work { IfOk result ReportsFewCalls }
     ensures decided { IfErr result (FailsDecided (devices_at ports.old)
         (devices_at ports.new) job.entry) }
-    ensures completes_told { IfOk result (λ p. CompletesTold
-        (devices_at ports.old) (devices_at ports.new)
-        (told_at R.remaining W.contents L.contents ports.old)
-        (told_at R.remaining W.contents L.contents ports.new) job.entry p) }
-    ensures fails_told { IfErr result (λ f. FailsTold
-        (devices_at ports.old) (devices_at ports.new)
-        (told_at R.remaining W.contents L.contents ports.old)
-        (told_at R.remaining W.contents L.contents ports.new) job.entry f) }
     ensures buffers { KeepSizes buffers.old buffers.new }
     ensures failures { CountsFault (devices_at ports.old)
         (devices_at ports.new) result }
@@ -342,8 +326,8 @@ pub fn run_on<R: Read, W: Write, L: Write>(
         (devices_at ports.old) (devices_at ports.new)
         (told_at R.remaining W.contents L.contents ports.old)
         (told_at R.remaining W.contents L.contents ports.new) }
-    ensures order { RunsInOrder (journal_of ports.old) (journal_of ports.new) job.entry }
-    ensures same { SameDevices ports.old ports.new }
+    ensures order { SameDevices ports.old ports.new
+        × RunsInOrder (journal_of ports.old) (journal_of ports.new) job.entry }
 {
     let mut session = Session::new(job);
     'run: loop {

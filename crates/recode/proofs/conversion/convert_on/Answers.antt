@@ -92,23 +92,23 @@ returns-in-Err-clause-told g c =
 -- The order of the calls.
 
 pub returns-then-report-clause-order : goal.returns-then-report-clause-order
-returns-then-report-clause-order g c = runs_flushed c.args.ports.now c.run_on-answer.new.ports c.flush-writer_failed.new.ports c.flush_log-log_failed.new.ports c.args.job c.run_on-answer.ensures.order c.flush-writer_failed.ensures.journal c.flush_log-log_failed.ensures.journal
+returns-then-report-clause-order g c = runs_flushed c.args.ports.now c.run_on-answer.new.ports c.flush-writer_failed.new.ports c.flush_log-log_failed.new.ports c.args.job c.run_on-answer.ensures.order.1 c.flush-writer_failed.ensures.journal c.flush_log-log_failed.ensures.journal
 
 pub returns-else-report-clause-order : goal.returns-else-report-clause-order
-returns-else-report-clause-order g c = runs_flushed c.args.ports.now c.run_on-answer.new.ports c.flush-writer_failed.new.ports c.flush_log-log_failed.new.ports c.args.job c.run_on-answer.ensures.order c.flush-writer_failed.ensures.journal c.flush_log-log_failed.ensures.journal
+returns-else-report-clause-order g c = runs_flushed c.args.ports.now c.run_on-answer.new.ports c.flush-writer_failed.new.ports c.flush_log-log_failed.new.ports c.args.job c.run_on-answer.ensures.order.1 c.flush-writer_failed.ensures.journal c.flush_log-log_failed.ensures.journal
 
 pub returns-in-Err-clause-order : goal.returns-in-Err-clause-order
 returns-in-Err-clause-order g c =
-    runs_told c.args.ports.now c.flush_log-log_failed.new.ports c.tell_fault.new.ports c.args.job (runs_flushed c.args.ports.now c.run_on-answer.new.ports c.flush-writer_failed.new.ports c.flush_log-log_failed.new.ports c.args.job c.run_on-answer.ensures.order c.flush-writer_failed.ensures.journal c.flush_log-log_failed.ensures.journal) c.tell_fault.ensures.journal
+    runs_told c.args.ports.now c.flush_log-log_failed.new.ports c.tell_fault.new.ports c.args.job (runs_flushed c.args.ports.now c.run_on-answer.new.ports c.flush-writer_failed.new.ports c.flush_log-log_failed.new.ports c.args.job c.run_on-answer.ensures.order.1 c.flush-writer_failed.ensures.journal c.flush_log-log_failed.ensures.journal) c.tell_fault.ensures.journal
 
 -- The devices are the same.
 
 pub returns-then-report-clause-same : goal.returns-then-report-clause-same
-returns-then-report-clause-same g c = same_then _ _ _ (same_then _ _ _ c.run_on-answer.ensures.same c.flush-writer_failed.ensures.journal.same) c.flush_log-log_failed.ensures.journal.same
+returns-then-report-clause-same g c = same_then _ _ _ (same_then _ _ _ c.run_on-answer.ensures.order.0 c.flush-writer_failed.ensures.journal.same) c.flush_log-log_failed.ensures.journal.same
 
 pub returns-else-report-clause-same : goal.returns-else-report-clause-same
-returns-else-report-clause-same g c = same_then _ _ _ (same_then _ _ _ c.run_on-answer.ensures.same c.flush-writer_failed.ensures.journal.same) c.flush_log-log_failed.ensures.journal.same
+returns-else-report-clause-same g c = same_then _ _ _ (same_then _ _ _ c.run_on-answer.ensures.order.0 c.flush-writer_failed.ensures.journal.same) c.flush_log-log_failed.ensures.journal.same
 
 pub returns-in-Err-clause-same : goal.returns-in-Err-clause-same
 returns-in-Err-clause-same g c =
-    same_then _ _ _ (same_then _ _ _ (same_then _ _ _ c.run_on-answer.ensures.same c.flush-writer_failed.ensures.journal.same) c.flush_log-log_failed.ensures.journal.same) c.tell_fault.ensures.journal.same
+    same_then _ _ _ (same_then _ _ _ (same_then _ _ _ c.run_on-answer.ensures.order.0 c.flush-writer_failed.ensures.journal.same) c.flush_log-log_failed.ensures.journal.same) c.tell_fault.ensures.journal.same

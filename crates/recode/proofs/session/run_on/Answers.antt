@@ -4,7 +4,7 @@ use Rattle.recode.specs.calls.SessionView.{view_of}
 use Rattle.recode.specs.declared.job.Job.{Job}
 use Rattle.recode_log.specs.laws.Counts.{counts_none, counts_then}
 use Rattle.recode_log.specs.laws.Told.{none_yet}
-use Rattle.recode.proofs.TellLemmas.{completes_told, fails_told, none_yet_on, reads_on, reads_start, run_calls, tells_none, tells_then}
+use Rattle.recode.proofs.TellLemmas.{none_yet_on, reads_on, reads_start, run_calls, tells_none, tells_then}
 use Rattle.recode.proofs.WriterLemmas.{kept_enough, kept_on, kept_start}
 use Rattle.recode.proofs.LatencyLemmas.{new_settled}
 use Rattle.recode.proofs.StepLemmas.{goes_on_start, goes_on_more, goes_on_finish, goes_on_stop, completes, fails, fails_decided, keeps_pace}
@@ -58,8 +58,8 @@ run-preserved g c =
       writes = counts_then _ _ _ c.run.invariant.writes e.calls.writes;
       lines = counts_then _ _ _ c.run.invariant.lines e.calls.lines;
       yet = (let on = e.more (ap Ok c.in-Ok-More.field-0-is) in none_yet_on _ _ _ _ e.calls.call on.chunk c.run.invariant.yet e.calls.is e.calls.once on.given (omega (arith, on.grows, on.counted)));
-      paced = runs_on c.args.ports.now c.run.ports c.args.job c.run.invariant.paced (keeps_pace _ _ c.args.job (view_of c.new-session.result) _ c.requires.job c.new-session.ensures c.run.invariant.ran) _ e.order;
-      same = same_then _ _ _ c.run.invariant.same e.same;
+      paced = runs_on c.args.ports.now c.run.ports c.args.job c.run.invariant.paced (keeps_pace _ _ c.args.job (view_of c.new-session.result) _ c.requires.job c.new-session.ensures c.run.invariant.ran) _ e.order.1;
+      same = same_then _ _ _ c.run.invariant.same e.order.0;
       told = tells_then _ _ _ _ _ _ c.run.invariant.yet c.run.invariant.told e.told.0;
     }
 
@@ -103,22 +103,12 @@ returns-in-Ok-Done-clause-calls g c = run_calls _ _ _ _ _ _ _ _ _ _ c.run.invari
 pub returns-in-Err-clause-calls : goal.returns-in-Err-clause-calls
 returns-in-Err-clause-calls g c = run_calls _ _ _ _ _ _ _ _ _ _ c.run.invariant.reads c.run.invariant.writes c.run.invariant.lines c.run.invariant.kept.input c.in-Err.ensures.calls refl c.in-Err.ensures.calls.last
 
-pub returns-in-Ok-Done-clause-completes_told : goal.returns-in-Ok-Done-clause-completes_told
-returns-in-Ok-Done-clause-completes_told g c = completes_told _ _ _ _ (returns-in-Ok-Done-clause-told g c) c.args.job _ (returns-in-Ok-Done-clause-completes g c)
-
-pub returns-in-Err-clause-fails_told : goal.returns-in-Err-clause-fails_told
-returns-in-Err-clause-fails_told g c = fails_told _ _ _ _ (returns-in-Err-clause-told g c) c.args.job _ (returns-in-Err-clause-fails g c)
-
 pub returns-in-Ok-Done-clause-order : goal.returns-in-Ok-Done-clause-order
-returns-in-Ok-Done-clause-order g c =
-    runs_on c.args.ports.now c.run.ports c.args.job c.run.invariant.paced (keeps_pace _ _ c.args.job (view_of c.new-session.result) _ c.requires.job c.new-session.ensures c.run.invariant.ran) _ c.in-Ok-Done.ensures.order
+returns-in-Ok-Done-clause-order g c = (
+    same_then _ _ _ c.run.invariant.same c.in-Ok-Done.ensures.order.0,
+    runs_on c.args.ports.now c.run.ports c.args.job c.run.invariant.paced (keeps_pace _ _ c.args.job (view_of c.new-session.result) _ c.requires.job c.new-session.ensures c.run.invariant.ran) _ c.in-Ok-Done.ensures.order.1)
 
 pub returns-in-Err-clause-order : goal.returns-in-Err-clause-order
-returns-in-Err-clause-order g c =
-    runs_on c.args.ports.now c.run.ports c.args.job c.run.invariant.paced (keeps_pace _ _ c.args.job (view_of c.new-session.result) _ c.requires.job c.new-session.ensures c.run.invariant.ran) _ c.in-Err.ensures.order
-
-pub returns-in-Ok-Done-clause-same : goal.returns-in-Ok-Done-clause-same
-returns-in-Ok-Done-clause-same g c = same_then _ _ _ c.run.invariant.same c.in-Ok-Done.ensures.same
-
-pub returns-in-Err-clause-same : goal.returns-in-Err-clause-same
-returns-in-Err-clause-same g c = same_then _ _ _ c.run.invariant.same c.in-Err.ensures.same
+returns-in-Err-clause-order g c = (
+    same_then _ _ _ c.run.invariant.same c.in-Err.ensures.order.0,
+    runs_on c.args.ports.now c.run.ports c.args.job c.run.invariant.paced (keeps_pace _ _ c.args.job (view_of c.new-session.result) _ c.requires.job c.new-session.ensures c.run.invariant.ran) _ c.in-Err.ensures.order.1)

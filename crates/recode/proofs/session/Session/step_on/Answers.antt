@@ -122,36 +122,25 @@ returns-then-read-eq0-clause-failures g c =
     let k = c.in_ok-write_chunk.ensures.failures in
     counts_chunk _ _ c.in-Ok.ensures.journal _ c.in-Ok.ensures.ok k.journal refl k.writer k.log
 
--- Their order.
+-- Their order, and that the devices are the same.
 
 pub returns-in_default-clause-order : goal.returns-in_default-clause-order
-returns-in_default-clause-order g c = order_read _ _ _ c.in_default.ensures.journal c.in_default.ensures.call
+returns-in_default-clause-order g c = (c.in_default.ensures.journal.same, order_read _ _ _ c.in_default.ensures.journal c.in_default.ensures.call)
 
 pub returns-then-read-self-clause-order : goal.returns-then-read-self-clause-order
-returns-then-read-self-clause-order g c = order_read _ _ _ c.in-Ok.ensures.journal c.in-Ok.ensures.call
+returns-then-read-self-clause-order g c = (c.in-Ok.ensures.journal.same, order_read _ _ _ c.in-Ok.ensures.journal c.in-Ok.ensures.call)
 
 pub returns-in_err-write_chunk-clause-order : goal.returns-in_err-write_chunk-clause-order
-returns-in_err-write_chunk-clause-order g c = order_chunk _ _ _ c.in-Ok.ensures.journal c.in-Ok.ensures.call _ c.in_err-write_chunk.ensures.failures.journal
+returns-in_err-write_chunk-clause-order g c = (
+    same_then _ _ _ c.in-Ok.ensures.journal.same c.in_err-write_chunk.ensures.failures.journal.same,
+    order_chunk _ _ _ c.in-Ok.ensures.journal c.in-Ok.ensures.call _ c.in_err-write_chunk.ensures.failures.journal)
 
 pub returns-else-read-eq0-clause-order : goal.returns-else-read-eq0-clause-order
-returns-else-read-eq0-clause-order g c = order_chunk _ _ _ c.in-Ok.ensures.journal c.in-Ok.ensures.call _ c.in_ok-write_chunk.ensures.failures.journal
+returns-else-read-eq0-clause-order g c = (
+    same_then _ _ _ c.in-Ok.ensures.journal.same c.in_ok-write_chunk.ensures.failures.journal.same,
+    order_chunk _ _ _ c.in-Ok.ensures.journal c.in-Ok.ensures.call _ c.in_ok-write_chunk.ensures.failures.journal)
 
 pub returns-then-read-eq0-clause-order : goal.returns-then-read-eq0-clause-order
-returns-then-read-eq0-clause-order g c = order_chunk _ _ _ c.in-Ok.ensures.journal c.in-Ok.ensures.call _ c.in_ok-write_chunk.ensures.failures.journal
-
--- The devices are the same.
-
-pub returns-in_default-clause-same : goal.returns-in_default-clause-same
-returns-in_default-clause-same g c = c.in_default.ensures.journal.same
-
-pub returns-then-read-self-clause-same : goal.returns-then-read-self-clause-same
-returns-then-read-self-clause-same g c = c.in-Ok.ensures.journal.same
-
-pub returns-in_err-write_chunk-clause-same : goal.returns-in_err-write_chunk-clause-same
-returns-in_err-write_chunk-clause-same g c = same_then _ _ _ c.in-Ok.ensures.journal.same c.in_err-write_chunk.ensures.failures.journal.same
-
-pub returns-else-read-eq0-clause-same : goal.returns-else-read-eq0-clause-same
-returns-else-read-eq0-clause-same g c = same_then _ _ _ c.in-Ok.ensures.journal.same c.in_ok-write_chunk.ensures.failures.journal.same
-
-pub returns-then-read-eq0-clause-same : goal.returns-then-read-eq0-clause-same
-returns-then-read-eq0-clause-same g c = same_then _ _ _ c.in-Ok.ensures.journal.same c.in_ok-write_chunk.ensures.failures.journal.same
+returns-then-read-eq0-clause-order g c = (
+    same_then _ _ _ c.in-Ok.ensures.journal.same c.in_ok-write_chunk.ensures.failures.journal.same,
+    order_chunk _ _ _ c.in-Ok.ensures.journal c.in-Ok.ensures.call _ c.in_ok-write_chunk.ensures.failures.journal)
