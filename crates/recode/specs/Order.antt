@@ -23,10 +23,10 @@ pub record RunsInOrder (before after : List Entry) (j : Job) : Type 0 where
   pub paced : KeepUp j entries
 
 -- the calls of one journal keep up, if there is one
-abbrev pub KeepsOrder : (before after : Option (List Entry)) → Job → Type 0
-KeepsOrder None after j = ⊤
-KeepsOrder (Some before) None j = ⊤
-KeepsOrder (Some before) (Some after) j = RunsInOrder before after j
+abbrev pub IsPaced : (before after : Option (List Entry)) → Job → Type 0
+IsPaced None after j = ⊤
+IsPaced (Some before) None j = ⊤
+IsPaced (Some before) (Some after) j = RunsInOrder before after j
 
 -- One call of the reader was made, and after it calls of the writer and of the log alone.
 pub record StepsInOrder (before after : List Entry) : Type 0 where

@@ -20,7 +20,7 @@ use Rattle.recode_words.specs.declared.words.Words.{Words}
 use Rattle.recode.specs.Conversion.{Converts, EndsInFault, IsConversion}
 use Rattle.recode.specs.Devices.{Devices, GaveToEnd, PortsView, devices_of}
 use Rattle.recode.specs.Job.{Faithful, IsValidJob}
-use Rattle.recode.specs.Order.{KeepsOrder}
+use Rattle.recode.specs.Order.{IsPaced}
 use Rattle.recode.specs.Session.{WroteWhole}
 use Rattle.recode.specs.Told.{TellWhatPassed, told_in}
 use Rattle.recode.specs.declared.job.Job.{Job}
@@ -136,7 +136,7 @@ pub record IsConversionOn {R W L : Type 0} (remaining : R → Option (List ℕ))
   pub quiet : status ≢ 4 → (devices_of after).failures ≡ (devices_of before).failures
   pub told : TellWhatPassed (devices_of before) (devices_of after)
       (told_in remaining contents logged before.reader before.writer before.log) (told_in remaining contents logged after.reader after.writer after.log)
-  pub order : KeepsOrder before.journal after.journal j
+  pub order : IsPaced before.journal after.journal j
 
 -- a message, which ends with a line feed, was written to a writer
 abbrev pub TellsSome : {T : Type 0} → (before after : Counted T) → Type 0
