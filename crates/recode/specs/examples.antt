@@ -1,6 +1,7 @@
 -- Worked rows: what the definitions of `specs/` come to on inputs that a reader can work by hand.
 pub mod Devices
 pub mod Order
+pub mod Outcomes
 pub mod Leavings
 pub mod Statuses
 pub mod Certain
