@@ -213,12 +213,14 @@ class Comparison:
 
     def completes(self, job, data, outcome):
         """Whether an outcome of a run meets the theorem: what calls of the reader gave, and those of the writers took."""
-        before, written = ((0x21,),), Record(output=(0x21,), log=(), order=Made("None"))
-        after, written_after = before + ((data,) if data else ()) + (outcome["last"],), Record(output=(0x21,) + outcome["output"], log=outcome["log"], order=Made("None"))
+        reads, no_order = ((0x21,),), Made("None")
+        before = Record(reads=reads, written=Record(output=(0x21,), log=(), order=no_order))
+        written = Record(output=(0x21,) + outcome["output"], log=outcome["log"], order=no_order)
+        after = Record(reads=reads + ((data,) if data else ()) + (outcome["last"],), written=written)
         report = Record(**{name: outcome[name] for name in ("read", "bad", "lost", "calls", "faithful")})
         report.encoding = self.page.encodings[outcome["encoding"]]
         words = self.page.job(job, outcome["limit"])
-        is_whole = self.page.run("Completes", before, after, written, written_after, words, report)
+        is_whole = self.page.run("Completes", before, after, words, report)
         return is_whole and self.page.run("ReportsFewCalls", report)
 
 

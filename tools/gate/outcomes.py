@@ -63,12 +63,11 @@ def result_of(page, job, text):
 
 def allows(page, job, after, result):
     """Whether the clauses of a run allow this, of a job and of devices that were not called before."""
-    before, is_ok, said = Ports(page, ()), result.maker == "Ok", result.parts[0]
+    before, said = Ports(page, ()), result.parts[0]
     return (
-        not (is_ok and not page.run("Completes", before.devices.reads, after.devices.reads, before.devices.written, after.devices.written, job, said))
-        and not (not is_ok and not page.run("Fails", before.devices, after.devices, job, said))
+        page.run("Completes" if result.maker == "Ok" else "Fails", before.devices, after.devices, job, said)
         and page.run("CountsFault", before.devices, after.devices, result)
-        and page.run("RunCalls", before.reader, after.reader, before.writer, after.writer, before.log, after.log, ROOM, result)
+        and page.run("RunCalls", before, after, ROOM, result)
         and page.run("RunsInOrder", before.entries, after.entries, job)
     )
 

@@ -258,8 +258,8 @@ def added_calls(page, before, after):
     return added(page.run("history_of", before), page.run("history_of", after))
 
 
-def reads_of(page, reader, reader_after, *others):
-    earlier, call = parted(added_calls(page, reader, reader_after))
+def reads_of(page, before, after, *others):
+    earlier, call = parted(added_calls(page, before.reader, after.reader))
     return Record(earlier=earlier, call=call)
 
 
@@ -275,7 +275,7 @@ def failed_write(page, calls):
 
 # The records with fields that are data: of their parameters, the only data of which the other fields can hold.
 WITNESSES = {
-    "Completes": lambda page, reads, after, *others: Record(input=sum(added(reads, after)[:-1], ())),
+    "Completes": lambda page, before, after, *others: Record(input=sum(added(before.reads, after.reads)[:-1], ())),
     "CountsWrites": lambda page, before, after: Record(calls=added_calls(page, before, after)),
     "EndsInFailedWrite": failed_write,
     "Fails": read_and_taken,

@@ -9,7 +9,7 @@ use Rattle.recode.specs.Runs.{RunReturns}
 use Rattle.recode.specs.RunsTold.{FailsDecided}
 use Rattle.recode.specs.Session.{Completes, Fails, WroteWhole}
 use Rattle.recode.specs.State.{State}
-use Rattle.recode.specs.Step.{Finishes, Stops, StepsOn}
+use Rattle.recode.specs.Step.{Finishes, RunCalls, StepCalls, Stops, StepsOn}
 use Rattle.recode.specs.TaggedByte.{TaggedByte}
 use Rattle.recode.specs.WrittenItems.{WritesItems, WritesItemsFor, WritesPrefixFor}
 use Rattle.recode.specs.declared.counts.Counts.{Counts}
@@ -47,6 +47,14 @@ items_for_alone h = record { written_items = h.written_items; wrote = wrote_alon
 
 prefix_alone : {w w' : Written} {p : Policy} {f : Fault} {last : Bool} {x : List ℕ → List Item} → WritesPrefixFor w w' p f last x → WritesPrefixFor (alone w) (alone w') p f last x
 prefix_alone h = record { taken = h.taken; wrote = wrote_alone h.wrote; left = h.left }
+
+-- ---- calls
+
+pub step_calls_alone : {R W L T : Type 0} {p q : PortsView R W L} {room : ℕ} {r : Result T Fault} → StepCalls p q room r → StepCalls (apart p) (apart q) room r
+step_calls_alone h = record { call = h.call; once = h.once; is = h.is; failed = h.failed; writes = h.writes; lines = h.lines; last = h.last }
+
+pub run_calls_alone : {R W L T : Type 0} {p q : PortsView R W L} {room : ℕ} {r : Result T Fault} → RunCalls p q room r → RunCalls (apart p) (apart q) room r
+run_calls_alone h = record { earlier = h.earlier; call = h.call; calls = h.calls; some = h.some; is = h.is; failed = h.failed; writes = h.writes; lines = h.lines; last = h.last }
 
 -- ---- a step
 
@@ -97,7 +105,7 @@ module _ (before after : Devices) (limit : ℕ) (s : State) where
 
 -- ---- a run
 
-pub completes_alone : {reads reads' : List (List ℕ)} {w w' : Written} {j : Job} {p : Report} → Completes reads reads' w w' j p → Completes reads reads' (alone w) (alone w') j p
+pub completes_alone : {d d' : Devices} {j : Job} {p : Report} → Completes d d' j p → Completes (each d) (each d') j p
 completes_alone h = record { input = h.input; given = h.given; converted = record { whole = whole_alone h.converted.whole; report = h.converted.report } }
 
 pub fails_alone : {d d' : Devices} {j : Job} {f : Fault} → Fails d d' j f → Fails (each d) (each d') j f
@@ -156,7 +164,7 @@ module _ {R W L : Type 0} (p q : PortsView R W L) where
     ran = apart h.ran;
     answer = h.answer;
     returns = returns_alone h.answer h.returns;
-    calls = h.calls;
+    calls = run_calls_alone h.calls;
     unread = h.unread;
     writer_failed = h.writer_failed;
     writer = h.writer;

@@ -109,7 +109,7 @@ kept_log j x kept from to u =
     quiet_where_kept j x well_formed_text (mapped_in_utf8 j x to)
 
 -- A reader whose bytes are known.
-pub known_completes : (x : List ℕ) (s t : Devices) (j : Job) (p : Report) → IsOf s.reads t.reads x → Completes s.reads t.reads s.written t.written j p → IsConverted s.written t.written j x p
+pub known_completes : (x : List ℕ) (s t : Devices) (j : Job) (p : Report) → IsOf s.reads t.reads x → Completes s t j p → IsConverted s.written t.written j x p
 known_completes x s t j p is k = subst (λ y. IsConverted s.written t.written j y p) (is.whole k.input k.given) k.converted
 
 pub known_fails : (x : List ℕ) (s t : Devices) (j : Job) (f : Fault) → IsOf s.reads t.reads x → Fails s t j f → WrotePrefix s.written t.written j.policy f (trace j x)
@@ -224,7 +224,7 @@ same_reports j x w w' v v' p q one another =
     (b.read ∙ sym a.read) (b.bad ∙ sym a.bad) (b.lost ∙ sym a.lost) (b.encoding ∙ sym a.encoding) (same_truth q.faithful p.faithful _ b.faithful a.faithful)
 
 -- with readers whose contracts say their bytes
-pub same_runs : (j : Job) (x : List ℕ) (s s' t t' : Devices) (p q : Report) → IsOf s.reads s'.reads x → IsOf t.reads t'.reads x → Completes s.reads s'.reads s.written s'.written j p → Completes t.reads t'.reads t.written t'.written j q
+pub same_runs : (j : Job) (x : List ℕ) (s s' t t' : Devices) (p q : Report) → IsOf s.reads s'.reads x → IsOf t.reads t'.reads x → Completes s s' j p → Completes t t' j q
     → WroteTheSame s.written s'.written t.written t'.written × AgreeButForCalls p q
 same_runs j x s s' t t' p q is are a b =
     let one = known_completes x s s' j p is a in

@@ -15,7 +15,7 @@ use Rattle.recode_log.specs.laws.Calls.{passed_calls}
 use Rattle.recode_log.specs.laws.Counts.{counts_none}
 use Rattle.recode_log.specs.laws.Journal.{history_of_log, history_of_reader, history_of_writer, reader_at_log, reader_at_writer, reader_calls-append}
 use Rattle.recode_log.specs.laws.Told.{reads_one, taken_none, taken_then}
-use Rattle.recode.specs.Devices.{CountsFault, Devices, Grew, Written, Wrote, devices_at, reads_of, written_of}
+use Rattle.recode.specs.Devices.{CountsFault, Devices, Grew, Written, Wrote, devices_at, ports_at, reads_of, written_of}
 use Rattle.recode.specs.Fault.{EndsAtFault, log_failures, reader_failures, writer_failures}
 use Rattle.recode.specs.Order.{StepsInOrder}
 use Rattle.recode.specs.Step.{IsReadInto, StepCalls}
@@ -219,11 +219,11 @@ module _ {R W L : Type 0} (a b : Ports R W L) (call : Call) (h : CallsReader a b
 
   -- what calls were made
   pub calls_read : {T : Type 0} {room : ℕ} {answer : Result T Fault} → IsReadInto room call → failed_read call ≡ reader_failures answer → IfErr answer (EndsAtFault (history_of b.writer.now) (history_of b.log.now))
-      → StepCalls a.reader.now b.reader.now a.writer.now b.writer.now a.log.now b.log.now room answer
+      → StepCalls (ports_at a) (ports_at b) room answer
   calls_read is failed last = record { call = call; once = once; is = is; failed = failed; writes = counts_same a.writer.now b.writer.now h.writer; lines = counts_same a.log.now b.log.now h.log; last = last }
 
   pub calls_chunk : {T : Type 0} {room : ℕ} {answer : Result T Fault} (c : Ports R W L) → IsReadInto room call → failed_read call ≡ reader_failures answer → OnlyWrites b c → CountsWrites b.writer.now c.writer.now → CountsWrites b.log.now c.log.now
-      → IfErr answer (EndsAtFault (history_of c.writer.now) (history_of c.log.now)) → StepCalls a.reader.now c.reader.now a.writer.now c.writer.now a.log.now c.log.now room answer
+      → IfErr answer (EndsAtFault (history_of c.writer.now) (history_of c.log.now)) → StepCalls (ports_at a) (ports_at c) room answer
   calls_chunk c is failed k writes lines last = record {
     call = call;
     once = ap history_of k.reader ∙ once;

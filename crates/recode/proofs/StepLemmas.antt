@@ -230,7 +230,7 @@ whole_items : {before after : Devices} {j : Job} {v : View} (u : View) → IsNew
 whole_items u b f = sym (append-nil f.pays.written_items) ∙ sym f.pays.equals ∙ b.owes_trace f.chunk
 
 pub completes : (before after : Devices) (j : Job) (v u : View) (p : Report) → IsValidJob j → IsNewSession v j → Finishes before after j.limit v.state u.state → Tells u p
-    → Completes before.reads after.reads before.written after.written j p × ReportsFewCalls p
+    → Completes before after j p × ReportsFewCalls p
 completes before after j v u p valid b f t =
     let x : List ℕ = f.chunk in
     let items = whole_items u b f in
@@ -328,7 +328,7 @@ fails_decided before after j v f valid b s =
 
 module _ (before ran : Devices) (j : Job) where
   -- a whole run, after which a writer failed, left what that fault may leave
-  whole_fails : (p : Report) (f : Fault) → of_other {T = Report} (Err f) ≡ 0 → ((index scalar : ℕ) → f ≡ Unmappable index scalar → ⊥) → Completes before.reads ran.reads before.written ran.written j p → Fails before ran j f
+  whole_fails : (p : Report) (f : Fault) → of_other {T = Report} (Err f) ≡ 0 → ((index scalar : ℕ) → f ≡ Unmappable index scalar → ⊥) → Completes before ran j p → Fails before ran j f
   whole_fails p f writing unstopped k =
       let w = k.converted.whole in
       let all : List TaggedByte = tagged (trace j k.input) in
@@ -354,7 +354,7 @@ module _ (before ran : Devices) (j : Job) where
   broke (Ok p) false false h = tt
 
   -- the status says whether anything was lost
-  pub converts_whole : (after : Devices) (p : Report) (status : ℕ) → Completes before.reads ran.reads before.written ran.written j p → after.reads ≡ ran.reads → KeepsWritten ran.written after.written → status ≡ status_of (Ok p)
+  pub converts_whole : (after : Devices) (p : Report) (status : ℕ) → Completes before ran j p → after.reads ≡ ran.reads → KeepsWritten ran.written after.written → status ≡ status_of (Ok p)
       → Converts before after j status
   converts_whole after p status k same kept is =
       let w = k.converted.whole in
@@ -378,7 +378,7 @@ pub record ConversionAt {R W L : Type 0} (before after : Ports R W L) (j : Job) 
   pub ran : Ports R W L
   pub answer : Result Report Fault
   pub returns : RunReturns (devices_at before) (devices_at ran) j answer
-  pub calls : RunCalls before.reader.now ran.reader.now before.writer.now ran.writer.now before.log.now ran.log.now room answer
+  pub calls : RunCalls (ports_at before) (ports_at ran) room answer
   pub unread : after.reader.now ≡ ran.reader.now
   pub writer_failed : Bool
   pub writer : IsFlushed ran.writer.now after.writer.now writer_failed
@@ -418,7 +418,7 @@ conversion_of c = record {
 
 -- a run, the flushes and the message that was written
 module _ {R W L : Type 0} (before ran after : Ports R W L) (flushed : Counted L) (j : Job) (room : ℕ) (answer : Result Report Fault) (writer_failed log_failed : Bool)
-    (returns : RunReturns (devices_at before) (devices_at ran) j answer) (calls : RunCalls before.reader.now ran.reader.now before.writer.now ran.writer.now before.log.now ran.log.now room answer)
+    (returns : RunReturns (devices_at before) (devices_at ran) j answer) (calls : RunCalls (ports_at before) (ports_at ran) room answer)
     (unread : after.reader.now ≡ ran.reader.now) (writer : IsFlushed ran.writer.now after.writer.now writer_failed) (log : IsFlushed ran.log.now flushed log_failed)
     (told : List Call) (made : journal_of after ≡ journal_of ran ++ (AtWriter (Flush writer_failed) ∷ AtLog (Flush log_failed) ∷ map AtLog told)) where
   pub conversion : (came_to : Result Report Fault) (status : ℕ) → came_to ≡ after_flushes answer writer_failed log_failed → OnOk came_to (after.log.now ≡ flushed) → IfErr came_to (λ f. TellsMessage flushed after.log.now (message_of f)) → status ≡ status_of came_to
@@ -450,7 +450,7 @@ one_flush before after calls failed made once = append_cancel_left before calls 
 
 -- a run, a flush of the writer, and one of the log
 module _ {R W L : Type 0} (before ran p q : Ports R W L) (j : Job) (room : ℕ) (answer : Result Report Fault) (writer_failed log_failed : Bool)
-    (returns : RunReturns (devices_at before) (devices_at ran) j answer) (calls : RunCalls before.reader.now ran.reader.now before.writer.now ran.writer.now before.log.now ran.log.now room answer)
+    (returns : RunReturns (devices_at before) (devices_at ran) j answer) (calls : RunCalls (ports_at before) (ports_at ran) room answer)
     (a : CallsWriter ran p) (writer : IsFlushed ran.writer.now p.writer.now writer_failed) (b : CallsLog p q) (log : IsFlushed p.log.now q.log.now log_failed) where
   log_flushed : IsFlushed ran.log.now q.log.now log_failed
   log_flushed = subst (λ (l : Counted L). IsFlushed l q.log.now log_failed) a.log log
@@ -551,7 +551,7 @@ module _ {R W L : Type 0} (before after : Ports R W L) (j : Job) (room status : 
 
   pub converts_of : Converts (devices_at before) (devices_at after) j status
   converts_of =
-      let all : Completes (devices_at before).reads (devices_at c.ran).reads (devices_at before).written (devices_at c.ran).written j q.report =
-      subst (λ (r : Result Report Fault). IfOk r (Completes (devices_at before).reads (devices_at c.ran).reads (devices_at before).written (devices_at c.ran).written j)) q.returned c.returns.completes in
+      let all : Completes (devices_at before) (devices_at c.ran) j q.report =
+      subst (λ (r : Result Report Fault). IfOk r (Completes (devices_at before) (devices_at c.ran) j)) q.returned c.returns.completes in
       let kept : KeepsWritten (devices_at c.ran).written (devices_at after).written = record { output = flushed_nothing c.ran.writer.now after.writer.now c.writer_failed c.writer; log = ap passed_of unlogged ∙ flushed_nothing c.ran.log.now c.flushed c.log_failed c.log; order = ap (λ l. Some l) unordered } in
       converts_whole (devices_at before) (devices_at c.ran) j (devices_at after) q.report status all (ap reads_of c.unread) kept (c.answered ∙ ap status_of q.comes)

@@ -13,7 +13,7 @@ use Rattle.recode_log.specs.declared.counted.Counted.{Counted}
 use Rattle.recode_log.specs.laws.Calls.{passed_failed, passed_one}
 use Rattle.recode_log.specs.laws.Counts.{counts_none, counts_then}
 use Rattle.recode.specs.Conversion.{IsFlushed}
-use Rattle.recode.specs.Devices.{Devices, Gave, GaveToEnd, Grew, IsOf, devices_at, reads_of}
+use Rattle.recode.specs.Devices.{Devices, Gave, GaveToEnd, Grew, IsOf, PortsView, devices_at, reads_of}
 use Rattle.recode.specs.Fault.{EndsAtFault, reader_failures}
 use Rattle.recode.specs.Step.{GaveSome, IsReadInto, RunCalls, StepCalls}
 use Rattle.recode_log.specs.Told.{TellsReads, TellsTaken}
@@ -143,30 +143,23 @@ pub last_failed : {T : Type 0} (g : Fault) (r : Result T Fault) (writer log : Li
 last_failed g (Ok x) writer log is h = tt
 last_failed g (Err f) writer log is h = rw is h
 
--- the calls of a step
-pub step_calls : {R W L T : Type 0} {r r' : Counted R} {w w' : Counted W} {l l' : Counted L} {room : ℕ} {answer : Result T Fault} (call : Call) → history_of r' ≡ history_of r ++ (call ∷ []) → IsReadInto room call
-    → failed_read call ≡ reader_failures answer → CountsWrites w w' → CountsWrites l l' → IfErr answer (EndsAtFault (history_of w') (history_of l')) → StepCalls r r' w w' l l' room answer
-step_calls call once is failed writes lines last = record { call = call; once = once; is = is; failed = failed; writes = writes; lines = lines; last = last }
-
-pub ruleset step_rules = (step_calls, counts_none, reads_one, taken_none)
-
 -- the calls of a run whose last step made these
-pub run_calls : {R W L S T : Type 0} (r0 r r' : Counted R) (w0 w w' : Counted W) (l0 l l' : Counted L) (room : ℕ) {room' : ℕ} {s : Result S Fault} {result : Result T Fault} → ReadsSome (history_of r0) (history_of r) room
-    → CountsWrites w0 w → CountsWrites l0 l → room' ≡ room → StepCalls r r' w w' l l' room' s → reader_failures s ≡ reader_failures result → IfErr result (EndsAtFault (history_of w') (history_of l')) → RunCalls r0 r' w0 w' l0 l' room result
-run_calls r0 r r' w0 w w' l0 l l' room h writes lines same k failed last = record {
+pub run_calls : {R W L S T : Type 0} (p q t : PortsView R W L) (room : ℕ) {room' : ℕ} {s : Result S Fault} {result : Result T Fault} → ReadsSome (history_of p.reader) (history_of q.reader) room
+    → CountsWrites p.writer q.writer → CountsWrites p.log q.log → room' ≡ room → StepCalls q t room' s → reader_failures s ≡ reader_failures result → IfErr result (EndsAtFault (history_of t.writer) (history_of t.log)) → RunCalls p t room result
+run_calls p q t room h writes lines same k failed last = record {
   earlier = h.earlier;
   call = k.call;
-  calls = k.once ∙ ap (λ x. x ++ (k.call ∷ [])) h.calls ∙ append_assoc (history_of r0) h.earlier (k.call ∷ []);
+  calls = k.once ∙ ap (λ x. x ++ (k.call ∷ [])) h.calls ∙ append_assoc (history_of p.reader) h.earlier (k.call ∷ []);
   some = h.some;
   is = rw same at k.is;
   failed = k.failed ∙ failed;
-  writes = counts_then w0 w w' writes k.writes;
-  lines = counts_then l0 l l' lines k.lines;
+  writes = counts_then p.writer q.writer t.writer writes k.writes;
+  lines = counts_then p.log q.log t.log lines k.lines;
   last = last;
 }
 
 module _ (d e : Devices) (t u : Told) (tells : TellWhatPassed d e t u) (j : Job) where
-  pub completes_told : (p : Report) → Completes d.reads e.reads d.written e.written j p → CompletesTold d e t u j p
+  pub completes_told : (p : Report) → Completes d e j p → CompletesTold d e t u j p
   completes_told p k = record {
     completes = k;
     consumed = reads_are d.reads e.reads t.input u.input k.input tells.input (GaveToEnd-is d.reads e.reads k.input k.given);

@@ -72,7 +72,7 @@ pub record IsConversion {R W L : Type 0} (before after : PortsView R W L) (j : J
   pub ran : PortsView R W L
   pub answer : Result Report Fault
   pub returns : RunReturns (devices_of before) (devices_of ran) j answer
-  pub calls : RunCalls before.reader ran.reader before.writer ran.writer before.log ran.log room answer
+  pub calls : RunCalls before ran room answer
   pub unread : after.reader ≡ ran.reader
   pub writer_failed : Bool
   pub writer : IsFlushed ran.writer after.writer writer_failed

@@ -78,10 +78,6 @@ pub record Devices : Type 0 where
 abbrev pub reads_of : {R : Type 0} → Counted R → List (List ℕ)
 reads_of reader = passed_by (history_of reader)
 
--- the bytes that calls of a writer and of a log have taken, of each
-abbrev pub written_in : {W L : Type 0} → Counted W → Counted L → Written
-written_in writer log = record { output = passed_of writer; log = passed_of log; order = None }
-
 -- a reader, a writer and a log, as they are at one moment, and their calls in one order, if one journal has them
 pub record PortsView (R W L : Type 0) : Type 0 where
   pub reader : Counted R

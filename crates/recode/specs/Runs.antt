@@ -35,6 +35,6 @@ IsStopped p (Err (Unmappable index scalar)) = p ≡ Policy.Stop
 
 -- what `run` ensures of its result
 pub record RunReturns (before after : Devices) (j : Job) (answer : Result Report Fault) : Type 0 where
-  pub completes : IfOk answer (Completes before.reads after.reads before.written after.written j)
+  pub completes : IfOk answer (Completes before after j)
   pub fails : IfErr answer (Fails before after j)
   pub counts : CountsFault before after answer

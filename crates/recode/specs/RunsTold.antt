@@ -18,7 +18,7 @@ use Rattle.recode.specs.declared.job.Report.{Report}
 -- A run that came to its end: the reader lost the input, and has no more. The output grew by the job's output of it, and the
 -- log by its log.
 pub record CompletesTold (before after : Devices) (told told' : Told) (j : Job) (p : Report) : Type 0 where
-  pub completes : Completes before.reads after.reads before.written after.written j p
+  pub completes : Completes before after j p
   pub consumed : Consumes told.input told'.input completes.input
   pub end : IsAtEnd told'.input
   pub output : Appends told.output told'.output (output_of j completes.input)

@@ -98,10 +98,10 @@ pub record IsConverted (before after : Written) (j : Job) (x : List ℕ) (p : Re
   pub report : IsReport j x p
 
 -- A run that came to its end: the input was read to its end, converted and reported.
-pub record Completes (reads reads' : List (List ℕ)) (before after : Written) (j : Job) (p : Report) : Type 0 where
+pub record Completes (before after : Devices) (j : Job) (p : Report) : Type 0 where
   pub input : List ℕ
-  pub given : GaveToEnd reads reads' input
-  pub converted : IsConverted before after j input p
+  pub given : GaveToEnd before.reads after.reads input
+  pub converted : IsConverted before.written after.written j input p
 
 -- what was converted of these reads up to a fault: the bytes of all, but, if the input is too long, of all but the last
 abbrev pub input_of : Fault → List (List ℕ) → List ℕ

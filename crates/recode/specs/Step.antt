@@ -14,7 +14,7 @@ use Rattle.recode.specs.Fault.{EndsAtFault, reader_failures}
 use Rattle.recode.specs.Job.{log_lines}
 use Rattle.recode.specs.Policy.{reference_form}
 use Rattle.recode.specs.State.{State, WillBeFaithful, characters_with, to_write}
-use Rattle.recode.specs.Devices.{Devices, Gave, GaveThen, GaveToEnd, Grew, KeepsWritten, Written, Wrote}
+use Rattle.recode.specs.Devices.{Devices, Gave, GaveThen, GaveToEnd, Grew, KeepsWritten, PortsView, Written, Wrote}
 use Rattle.recode.specs.TaggedByte.{TaggedByte, IsPrefix, tagged}
 use Rattle.recode.specs.calls.TraceToWrite.{AreSound}
 use Rattle.recode.specs.Work.{TakesAtLeast, TakesCalls}
@@ -134,23 +134,23 @@ GaveSome room (Flush failed) = ⊥
 -- The reader was called at least once, each time by a read with room for so many bytes. Each call but the last gave
 -- some, and the last failed exactly if the fault is of the reader. The writer and the log were called by writes of some
 -- bytes, and their counts rose by as many as failed. If one of them failed, its last call is the one that did.
-pub record RunCalls {R W L T : Type 0} (reader reader' : Counted R) (writer writer' : Counted W) (log log' : Counted L) (room : ℕ) (result : Result T Fault) : Type 0 where
+pub record RunCalls {R W L T : Type 0} (before after : PortsView R W L) (room : ℕ) (result : Result T Fault) : Type 0 where
   pub earlier : List Call
   pub call : Call
-  pub calls : history_of reader' ≡ history_of reader ++ (earlier ++ (call ∷ []))
+  pub calls : history_of after.reader ≡ history_of before.reader ++ (earlier ++ (call ∷ []))
   pub some : All (GaveSome room) earlier
   pub is : IsReadInto room call
   pub failed : failed_read call ≡ reader_failures result
-  pub writes : CountsWrites writer writer'
-  pub lines : CountsWrites log log'
-  pub last : IfErr result (EndsAtFault (history_of writer') (history_of log'))
+  pub writes : CountsWrites before.writer after.writer
+  pub lines : CountsWrites before.log after.log
+  pub last : IfErr result (EndsAtFault (history_of after.writer) (history_of after.log))
 
 -- A step called the reader once, with room for so many bytes; the rest as of a run.
-pub record StepCalls {R W L T : Type 0} (reader reader' : Counted R) (writer writer' : Counted W) (log log' : Counted L) (room : ℕ) (result : Result T Fault) : Type 0 where
+pub record StepCalls {R W L T : Type 0} (before after : PortsView R W L) (room : ℕ) (result : Result T Fault) : Type 0 where
   pub call : Call
-  pub once : history_of reader' ≡ history_of reader ++ (call ∷ [])
+  pub once : history_of after.reader ≡ history_of before.reader ++ (call ∷ [])
   pub is : IsReadInto room call
   pub failed : failed_read call ≡ reader_failures result
-  pub writes : CountsWrites writer writer'
-  pub lines : CountsWrites log log'
-  pub last : IfErr result (EndsAtFault (history_of writer') (history_of log'))
+  pub writes : CountsWrites before.writer after.writer
+  pub lines : CountsWrites before.log after.log
+  pub last : IfErr result (EndsAtFault (history_of after.writer) (history_of after.log))

@@ -164,7 +164,7 @@ pub fn log_is_empty()
 /// One that the policy stopped wrote all of them.
 pub fn known_input()
     ensures completes { (x : List ℕ) (s s' : Devices) (j : Job) (p : Report)
-        → IsOf s.reads s'.reads x → Completes s.reads s'.reads s.written s'.written j p
+        → IsOf s.reads s'.reads x → Completes s s' j p
         → IsConverted s.written s'.written j x p }
     ensures fails { (x : List ℕ) (s s' : Devices) (j : Job) (f : Fault)
         → IsOf s.reads s'.reads x → Fails s s' j f
@@ -193,7 +193,7 @@ pub fn devices_tell()
     ensures took { (a b : List ℕ) (t u : Option (List ℕ)) (x : List ℕ)
         → TellsTaken a b t u → Grew a b x → Appends t u x }
     ensures completes { (d e : Devices) (t u : Told) (j : Job) (p : Report) → TellWhatPassed d e t u
-        → Completes d.reads e.reads d.written e.written j p → CompletesTold d e t u j p }
+        → Completes d e j p → CompletesTold d e t u j p }
     ensures fails { (d e : Devices) (t u : Told) (j : Job) (f : Fault) → TellWhatPassed d e t u
         → Fails d e j f → FailsTold d e t u j f }
 {}
@@ -289,8 +289,8 @@ pub fn runs_agree()
         → IsConverted w w' j x p → IsConverted v v' j x q → AgreeButForCalls p q }
     ensures known { (j : Job) (x : List ℕ) (s s' t t' : Devices) (p q : Report)
         → IsOf s.reads s'.reads x → IsOf t.reads t'.reads x
-        → Completes s.reads s'.reads s.written s'.written j p
-        → Completes t.reads t'.reads t.written t'.written j q
+        → Completes s s' j p
+        → Completes t t' j q
         → WroteTheSame s.written s'.written t.written t'.written × AgreeButForCalls p q }
     ensures bytes { (j : Job) (x : List ℕ) (w w' v' : Written) (p q : Report)
         → IsConverted w w' j x p → IsConverted w v' j x q
@@ -355,7 +355,7 @@ pub fn steps_are_a_run()
     ensures completes { (t t1 t2 : Devices) (j : Job) (v w : View) (s : State) (p : Report)
         → IsValidJob j → IsNewSession v j → HasRun t t1 j.limit v.state s
         → Finishes t1 t2 j.limit s w.state → Tells w p
-        → Completes t.reads t2.reads t.written t2.written j p × ReportsFewCalls p }
+        → Completes t t2 j p × ReportsFewCalls p }
     ensures fails { (t t1 t2 : Devices) (j : Job) (v : View) (s : State) (f : Fault)
         → IsValidJob j → IsNewSession v j → HasRun t t1 j.limit v.state s
         → Stops t1 t2 j.limit s f → Fails t t2 j f }

@@ -14,8 +14,8 @@ ghost use Rattle.recode.specs.declared.session.Phase.TheVariants.{Open};
 ghost use Rattle.recode.specs.Step.{Finishes, RunCalls, StepCalls, Stops, StepsOn};
 ghost use Rattle.recode.specs.RunsTold.{FailsDecided};
 ghost use Rattle.recode.specs.Told.{TellWhatPassed, told_at, told_in};
-ghost use Rattle.recode.specs.Devices.{CountsFault, HaveFailedAtMost, devices_at, devices_in};
-ghost use Rattle.recode.specs.Devices.{reads_of, written_in, written_of};
+ghost use Rattle.recode.specs.Devices.{CountsFault, HaveFailedAtMost, devices_at, devices_in, ports};
+ghost use Rattle.recode.specs.Devices.{ports_at};
 ghost use Rattle.recode.specs.Order.{RunsInOrder, StepsInOrder};
 ghost use Rattle.recode_log.specs.Ports.{SameDevices, journal_of};
 ghost use Rattle.recode.specs.Work.{ReportsFewCalls};
@@ -168,8 +168,8 @@ impl<'t> Session<'t> {
         ensures buffers { KeepSizes buffers.old buffers.new }
         ensures failures { CountsFault (devices_in reader.old writer.old log.old)
             (devices_in reader.new writer.new log.new) result }
-        ensures calls { StepCalls reader.old reader.new writer.old writer.new log.old log.new
-            (length buffers.old.input.now) result }
+        ensures calls { StepCalls (ports reader.old writer.old log.old)
+            (ports reader.new writer.new log.new) (length buffers.old.input.now) result }
     {
         let mut ports = Ports::new(reader, writer, log);
         self.step_on(&mut ports, buffers)
@@ -207,8 +207,7 @@ impl<'t> Session<'t> {
         ensures buffers { KeepSizes buffers.old buffers.new }
         ensures failures { CountsFault (devices_at ports.old)
             (devices_at ports.new) result }
-        ensures calls { StepCalls ports.old.reader.now ports.new.reader.now
-            ports.old.writer.now ports.new.writer.now ports.old.log.now ports.new.log.now
+        ensures calls { StepCalls (ports_at ports.old) (ports_at ports.new)
             (length buffers.old.input.now) result }
         ensures order { SameDevices ports.old ports.new
             × StepsInOrder (journal_of ports.old) (journal_of ports.new) }
@@ -272,18 +271,18 @@ pub fn run<R: Read, W: Write, L: Write>(
     requires counts { HaveFailedAtMost (2 ^ 64 - 2)
         (devices_in reader.old writer.old log.old).failures }
 
-    ensures completes { IfOk result (λ p. Completes (reads_of reader.old) (reads_of reader.new)
-        (written_in writer.old log.old) (written_in writer.new log.new) job.entry p) }
-    ensures fails { IfErr result (λ f. Fails (devices_in reader.old writer.old log.old)
-        (devices_in reader.new writer.new log.new) job.entry f) }
+    ensures completes { IfOk result (Completes (devices_in reader.old writer.old log.old)
+        (devices_in reader.new writer.new log.new) job.entry) }
+    ensures fails { IfErr result (Fails (devices_in reader.old writer.old log.old)
+        (devices_in reader.new writer.new log.new) job.entry) }
     ensures work { IfOk result ReportsFewCalls }
     ensures decided { IfErr result (FailsDecided (devices_in reader.old writer.old log.old)
         (devices_in reader.new writer.new log.new) job.entry) }
     ensures buffers { KeepSizes buffers.old buffers.new }
     ensures failures { CountsFault (devices_in reader.old writer.old log.old)
         (devices_in reader.new writer.new log.new) result }
-    ensures calls { RunCalls reader.old reader.new writer.old writer.new log.old log.new
-        (length buffers.old.input.now) result }
+    ensures calls { RunCalls (ports reader.old writer.old log.old)
+        (ports reader.new writer.new log.new) (length buffers.old.input.now) result }
     ensures told { TellWhatPassed
         (devices_in reader.old writer.old log.old) (devices_in reader.new writer.new log.new)
         (told_in R.remaining W.contents L.contents reader.old writer.old log.old)
@@ -308,19 +307,17 @@ pub fn run_on<R: Read, W: Write, L: Write>(
     requires counts { HaveFailedAtMost (2 ^ 64 - 2)
         (devices_at ports.old).failures }
 
-    ensures completes { IfOk result (λ p. Completes
-        (reads_of ports.old.reader.now) (reads_of ports.new.reader.now)
-        (written_of ports.old) (written_of ports.new) job.entry p) }
-    ensures fails { IfErr result (λ f. Fails (devices_at ports.old)
-        (devices_at ports.new) job.entry f) }
+    ensures completes { IfOk result (Completes (devices_at ports.old)
+        (devices_at ports.new) job.entry) }
+    ensures fails { IfErr result (Fails (devices_at ports.old) (devices_at ports.new)
+        job.entry) }
     ensures work { IfOk result ReportsFewCalls }
     ensures decided { IfErr result (FailsDecided (devices_at ports.old)
         (devices_at ports.new) job.entry) }
     ensures buffers { KeepSizes buffers.old buffers.new }
     ensures failures { CountsFault (devices_at ports.old)
         (devices_at ports.new) result }
-    ensures calls { RunCalls ports.old.reader.now ports.new.reader.now
-        ports.old.writer.now ports.new.writer.now ports.old.log.now ports.new.log.now
+    ensures calls { RunCalls (ports_at ports.old) (ports_at ports.new)
         (length buffers.old.input.now) result }
     ensures told { TellWhatPassed
         (devices_at ports.old) (devices_at ports.new)

@@ -10,7 +10,7 @@ use Rattle.recode_log.specs.Counted.{CountsWrites, history_of}
 use Rattle.recode_log.specs.Journal.{AtReader, Entry}
 use Rattle.recode_log.specs.declared.counted.Counted.{Counted}
 use Rattle.recode.specs.Conversion.{Converts, EndsInFault, IsConversion, IsFlushed, message_of}
-use Rattle.recode.specs.Devices.{CountsFault, Devices, PortsView, Written}
+use Rattle.recode.specs.Devices.{CountsFault, Devices, PortsView}
 use Rattle.recode.specs.Job.{Faithful, output_of}
 use Rattle.recode.specs.Latency.{ComeFirst, TookCertain, open_trace}
 use Rattle.recode.specs.Order.{KeepUp}
@@ -25,15 +25,15 @@ use Rattle.recode.specs.declared.job.Report.{Report}
 -- ---- a run that ends well
 
 -- one read was made, and it gave a byte: the end of the input was not read
-end_is_not_read : (reads reads' : List (List ℕ)) (w w' : Written) (j : Job) (p : Report) → Completes reads reads' w w' j p → reads' ≡ reads ++ ((0x41 ∷ []) ∷ []) → ⊥
-end_is_not_read reads reads' w w' j p h is =
-    let last = (same_from_push h.given.0 [] [] (0x41 ∷ []) (append_cancel_left reads (h.given.0 ++ ([] ∷ [])) ((0x41 ∷ []) ∷ []) (sym h.given.1 ∙ is))).1 in
+end_is_not_read : (s s' : Devices) (j : Job) (p : Report) → Completes s s' j p → s'.reads ≡ s.reads ++ ((0x41 ∷ []) ∷ []) → ⊥
+end_is_not_read s s' j p h is =
+    let last = (same_from_push h.given.0 [] [] (0x41 ∷ []) (append_cancel_left s.reads (h.given.0 ++ ([] ∷ [])) ((0x41 ∷ []) ∷ []) (sym h.given.1 ∙ is))).1 in
     absurd (omega (arith, ap length last))
 
 -- the output of the input has a byte, and none was written
-nothing_is_written : (reads reads' : List (List ℕ)) (w w' : Written) (j : Job) (p : Report) (h : Completes reads reads' w w' j p) → 0 < length (output_of j h.input) → w'.output ≡ w.output → ⊥
-nothing_is_written reads reads' w w' j p h some same =
-    absurd (omega (arith, some, ap length same, ap length h.converted.whole.output, length-append w.output (output_of j h.input)))
+nothing_is_written : (s s' : Devices) (j : Job) (p : Report) (h : Completes s s' j p) → 0 < length (output_of j h.input) → s'.written.output ≡ s.written.output → ⊥
+nothing_is_written s s' j p h some same =
+    absurd (omega (arith, some, ap length same, ap length h.converted.whole.output, length-append s.written.output (output_of j h.input)))
 
 -- ---- a run that a fault ends
 
@@ -73,9 +73,9 @@ two_calls_failed s s' h more = absurd (omega (arith, h.writer, more))
 -- ---- calls
 
 -- the reader was called after a read that gave nothing
-read_after_the_end : (r r' w w' l l' : Counted ℕ) → RunCalls {T = ℕ} r r' w w' l l' 4 (Ok 0) → history_of r' ≡ history_of r ++ (Passed 4 [] ∷ Passed 4 [] ∷ []) → ⊥
-read_after_the_end r r' w w' l l' h is =
-    let both : h.earlier ++ (h.call ∷ []) ≡ (Passed 4 [] ∷ []) ++ (Passed 4 [] ∷ []) = append_cancel_left (history_of r) (h.earlier ++ (h.call ∷ [])) (Passed 4 [] ∷ Passed 4 [] ∷ []) (sym h.calls ∙ is) in
+read_after_the_end : (p q : PortsView ℕ ℕ ℕ) → RunCalls {T = ℕ} p q 4 (Ok 0) → history_of q.reader ≡ history_of p.reader ++ (Passed 4 [] ∷ Passed 4 [] ∷ []) → ⊥
+read_after_the_end p q h is =
+    let both : h.earlier ++ (h.call ∷ []) ≡ (Passed 4 [] ∷ []) ++ (Passed 4 [] ∷ []) = append_cancel_left (history_of p.reader) (h.earlier ++ (h.call ∷ [])) (Passed 4 [] ∷ Passed 4 [] ∷ []) (sym h.calls ∙ is) in
     let earlier : h.earlier ≡ Passed 4 [] ∷ [] = (same_from_push h.earlier (Passed 4 [] ∷ []) h.call (Passed 4 []) both).0 in
     let gave = All-head (GaveSome 4) (Passed 4 []) [] (subst (λ (c : List Call). All (GaveSome 4) c) earlier h.some) in
     absurd (omega (arith, gave.1))
@@ -87,8 +87,8 @@ flush_is_no_write w w' h is =
     All-head IsWriteOfSome (Flush false) [] (subst (λ (c : List Call). All IsWriteOfSome c) calls h.some)
 
 -- a run flushed the writer
-flushed_in_a_run : (r r' w w' l l' : Counted ℕ) → RunCalls {T = ℕ} r r' w w' l l' 4 (Ok 0) → history_of w' ≡ history_of w ++ (Flush false ∷ []) → ⊥
-flushed_in_a_run r r' w w' l l' h is = flush_is_no_write w w' h.writes is
+flushed_in_a_run : (p q : PortsView ℕ ℕ ℕ) → RunCalls {T = ℕ} p q 4 (Ok 0) → history_of q.writer ≡ history_of p.writer ++ (Flush false ∷ []) → ⊥
+flushed_in_a_run p q h is = flush_is_no_write p.writer q.writer h.writes is
 
 -- after a read that gave a byte the reader was called again, and `A`, which comes first whatever follows, was not written
 read_before_it_wrote : (j : Job) (call : Call) → KeepUp j (AtReader (Passed 4 (0x41 ∷ [])) ∷ AtReader call ∷ []) → ComeFirst j (0x41 ∷ []) (Byte 0x41 ∷ []) → ⊥

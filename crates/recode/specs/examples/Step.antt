@@ -14,7 +14,7 @@ use Rattle.encoding_mem.specs.declared.codec.reference.Reference.{Reference}
 use Rattle.recode_log.specs.Call.{Call, Failed, Flush, IsWriteOfSome, Passed, failed_read}
 use Rattle.recode_log.specs.Counted.{history_of}
 use Rattle.recode_log.specs.declared.counted.Counted.{Counted}
-use Rattle.recode.specs.Devices.{Devices, Gave, Written, Wrote}
+use Rattle.recode.specs.Devices.{Devices, Gave, PortsView, Written, Wrote, ports}
 use Rattle.recode.specs.Policy.{reference_form}
 use Rattle.recode.specs.State.{State, WillBeFaithful, to_write}
 use Rattle.recode.specs.Step.{Finishes, GaveSome, IsNearlyDecided, IsReadInto, RunCalls, StepCalls, Stops, StepsOn}
@@ -37,7 +37,7 @@ is_read_into-flush : IsReadInto 4 (Flush false) → ⊥
 is_read_into-flush h = h
 
 -- a read gave a byte, which was written, and the next read failed
-run_calls-read_fault : RunCalls {T = ℕ} (counted [] 0) (counted (Passed 4 (1 ∷ []) ∷ Failed 4 ∷ []) 1) (counted [] 0) (counted (Passed 1 (1 ∷ []) ∷ []) 0) (counted [] 0) (counted [] 0) 4 (Err Read)
+run_calls-read_fault : RunCalls {T = ℕ} (ports (counted [] 0) (counted [] 0) (counted [] 0)) (ports (counted (Passed 4 (1 ∷ []) ∷ Failed 4 ∷ []) 1) (counted (Passed 1 (1 ∷ []) ∷ []) 0) (counted [] 0)) 4 (Err Read)
 run_calls-read_fault = record {
   earlier = Passed 4 (1 ∷ []) ∷ [];
   call = Failed 4;
@@ -169,20 +169,18 @@ stop_under_decimal before after limit s h decimal =
     let stop : s.policy ≡ Policy.Stop = (h.pays.left [] (λ last. refl)).policy 0 232 refl in cc
 
 -- a failed read is taken for the end
-failed_read_is_the_end : (reader reader' writer writer' log log' : Counted ℕ) → StepCalls reader reader' writer writer' log log' 4 (Ok Done)
-    → history_of reader' ≡ history_of reader ++ (Failed 4 ∷ []) → ⊥
-failed_read_is_the_end reader reader' writer writer' log log' h calls =
-    let same : h.call ∷ [] ≡ Failed 4 ∷ [] = append_cancel_left (history_of reader) (h.call ∷ []) (Failed 4 ∷ []) (sym h.once ∙ calls) in
+failed_read_is_the_end : (p q : PortsView ℕ ℕ ℕ) → StepCalls p q 4 (Ok Done) → history_of q.reader ≡ history_of p.reader ++ (Failed 4 ∷ []) → ⊥
+failed_read_is_the_end p q h calls =
+    let same : h.call ∷ [] ≡ Failed 4 ∷ [] = append_cancel_left (history_of p.reader) (h.call ∷ []) (Failed 4 ∷ []) (sym h.once ∙ calls) in
     let failed : failed_read h.call ≡ 1 = ap failed_read (let one : h.call ≡ Failed 4 = cc in one) in
     absurd (omega (arith, failed, h.failed))
 
 -- a step does not call the reader
-no_read : (reader reader' writer writer' log log' : Counted ℕ) → StepCalls reader reader' writer writer' log log' 4 (Ok More) → history_of reader' ≡ history_of reader → ⊥
-no_read reader reader' writer writer' log log' h same =
-    absurd (omega (arith, ap length same, ap length h.once, length-append (history_of reader) (h.call ∷ [])))
+no_read : (p q : PortsView ℕ ℕ ℕ) → StepCalls p q 4 (Ok More) → history_of q.reader ≡ history_of p.reader → ⊥
+no_read p q h same =
+    absurd (omega (arith, ap length same, ap length h.once, length-append (history_of p.reader) (h.call ∷ [])))
 
 -- a step calls the reader twice
-two_reads : (reader reader' writer writer' log log' : Counted ℕ) → StepCalls reader reader' writer writer' log log' 4 (Ok More)
-    → history_of reader' ≡ history_of reader ++ (Passed 4 (1 ∷ []) ∷ Passed 4 (2 ∷ []) ∷ []) → ⊥
-two_reads reader reader' writer writer' log log' h calls =
-    let same : h.call ∷ [] ≡ Passed 4 (1 ∷ []) ∷ Passed 4 (2 ∷ []) ∷ [] = append_cancel_left (history_of reader) (h.call ∷ []) (Passed 4 (1 ∷ []) ∷ Passed 4 (2 ∷ []) ∷ []) (sym h.once ∙ calls) in cc
+two_reads : (p q : PortsView ℕ ℕ ℕ) → StepCalls p q 4 (Ok More) → history_of q.reader ≡ history_of p.reader ++ (Passed 4 (1 ∷ []) ∷ Passed 4 (2 ∷ []) ∷ []) → ⊥
+two_reads p q h calls =
+    let same : h.call ∷ [] ≡ Passed 4 (1 ∷ []) ∷ Passed 4 (2 ∷ []) ∷ [] = append_cancel_left (history_of p.reader) (h.call ∷ []) (Passed 4 (1 ∷ []) ∷ Passed 4 (2 ∷ []) ∷ []) (sym h.once ∙ calls) in cc

@@ -1,4 +1,5 @@
 use Rattle.std.proofs.Common.{◌∙◌, Ok, refl, ap, subst, arith}
+use Rattle.recode.specs.Devices.{ports_at}
 use Rattle.recode.specs.Session.{IsOver, phase_after}
 use Rattle.recode.specs.calls.SessionView.{view_of}
 use Rattle.recode.specs.declared.job.Job.{Job}
@@ -98,10 +99,10 @@ pub returns-in-Err-clause-told : goal.returns-in-Err-clause-told
 returns-in-Err-clause-told g c = tells_then _ _ _ _ _ _ c.run.invariant.yet c.run.invariant.told c.in-Err.ensures.told.0
 
 pub returns-in-Ok-Done-clause-calls : goal.returns-in-Ok-Done-clause-calls
-returns-in-Ok-Done-clause-calls g c = run_calls _ _ _ _ _ _ _ _ _ _ c.run.invariant.reads c.run.invariant.writes c.run.invariant.lines c.run.invariant.kept.input c.in-Ok-Done.ensures.calls refl tt
+returns-in-Ok-Done-clause-calls g c = run_calls (ports_at c.args.ports.now) (ports_at c.run.ports) _ _ c.run.invariant.reads c.run.invariant.writes c.run.invariant.lines c.run.invariant.kept.input c.in-Ok-Done.ensures.calls refl tt
 
 pub returns-in-Err-clause-calls : goal.returns-in-Err-clause-calls
-returns-in-Err-clause-calls g c = run_calls _ _ _ _ _ _ _ _ _ _ c.run.invariant.reads c.run.invariant.writes c.run.invariant.lines c.run.invariant.kept.input c.in-Err.ensures.calls refl c.in-Err.ensures.calls.last
+returns-in-Err-clause-calls g c = run_calls (ports_at c.args.ports.now) (ports_at c.run.ports) _ _ c.run.invariant.reads c.run.invariant.writes c.run.invariant.lines c.run.invariant.kept.input c.in-Err.ensures.calls refl c.in-Err.ensures.calls.last
 
 pub returns-in-Ok-Done-clause-order : goal.returns-in-Ok-Done-clause-order
 returns-in-Ok-Done-clause-order g c = (

@@ -1,12 +1,12 @@
 use Rattle.std.proofs.Common.{◌≡◌, ◌∙◌, IfErr, Ok, length, sym}
 use Rattle.std.specs.Io.KnownBytes.{IsAtEnd}
 use Rattle.recode_log.specs.Counted.{inner_of}
-use Rattle.recode.specs.Devices.{CountsFault, devices_in}
+use Rattle.recode.specs.Devices.{CountsFault, devices_in, ports}
 use Rattle.recode.specs.Step.{Finishes, StepCalls, Stops, StepsOn}
 use Rattle.recode.specs.Told.{TellWhatPassed, told_in}
 use Rattle.recode.specs.calls.SessionView.{view_of}
 use Rattle.recode.specs.declared.job.Progress.{Progress}
-use Rattle.recode.proofs.AloneLemmas.{finishes_alone, given_back, if_err_map, steps_alone, stops_alone}
+use Rattle.recode.proofs.AloneLemmas.{finishes_alone, given_back, if_err_map, step_calls_alone, steps_alone, stops_alone}
 use Rattle.recode.proofs.session.Session.step.Goals as goal
 
 pub returns-clause-more : goal.returns-clause-more
@@ -66,5 +66,5 @@ returns-clause-calls g c =
     let same_reader = sym (k.order.0.reader ∙ e.same_reader) in
     let same_writer = sym (k.order.0.writer ∙ e.same_writer) in
     let same_log = sym (k.order.0.log ∙ e.same_log) in
-    given_back (λ r w l r' w' l'. StepCalls r r' w w' l l' (length c.args.buffers.now.input.now) c.step_on.result) e.reader e.writer e.log (c.reader-1.given.1 same_reader) (c.writer-1.given.1 same_writer) (c.log-1.given.1 same_log)
-    (k.calls)
+    given_back (λ r w l r' w' l'. StepCalls (ports r w l) (ports r' w' l') (length c.args.buffers.now.input.now) c.step_on.result) e.reader e.writer e.log (c.reader-1.given.1 same_reader) (c.writer-1.given.1 same_writer) (c.log-1.given.1 same_log)
+    (step_calls_alone k.calls)
