@@ -5,13 +5,13 @@ use Rattle.std.specs.Io.KnownBytes.{Appends, Consumes, IsAtEnd}
 use Rattle.std.specs.List.{All, concat}
 use Rattle.std.proofs.lemmas.List.{append_cancel_left, same_from_push}
 use Rattle.std.proofs.lemmas.List.Elements.{All-append, All-cons, All-nil}
-use Rattle.recode_log.specs.Call.{Call, Failed, Flush, FlushesOnce, Passed, passed_by, failed_read}
+use Rattle.recode_log.specs.Call.{Call, Failed, Flush, FlushesOnce, Passed, passed_by}
 use Rattle.recode_log.specs.Counted.{CountsWrites, failures_of, history_of, inner_of, passed_of}
 use Rattle.recode_log.specs.Ports.{CallsLog, CallsWriter}
 use Rattle.recode_log.specs.declared.ports.Ports.{Ports}
 use Rattle.recode_log.specs.declared.counted.Counted.{Counted}
 use Rattle.recode_log.specs.laws.Calls.{passed_failed, passed_one}
-use Rattle.recode_log.specs.laws.Counts.{counts_none, counts_then}
+use Rattle.recode_log.specs.laws.Counts.{counts_then}
 use Rattle.recode.specs.Conversion.{IsFlushed}
 use Rattle.recode.specs.Devices.{Devices, Gave, GaveToEnd, Grew, IsOf, PortsView, devices_at, reads_of}
 use Rattle.recode.specs.Fault.{EndsAtFault, reader_failures}

@@ -8,7 +8,6 @@ use Rattle.encoding_mem.specs.Piece.{Piece, text}
 use Rattle.encoding_mem.specs.declared.codec.form.EscapeState.{EscapeState}
 use Rattle.recode_log.specs.Call.{Call, Passed, Failed, Flush, failed_read}
 use Rattle.recode_log.specs.Counted.{CountsWrites, history_of}
-use Rattle.recode_log.specs.declared.counted.Counted.{Counted}
 use Rattle.recode_log.specs.Line.{line_bytes}
 use Rattle.recode.specs.Fault.{EndsAtFault, reader_failures}
 use Rattle.recode.specs.Job.{log_lines}

@@ -1,22 +1,22 @@
 -- Wrong outcomes of a run and of a conversion, which `specs/Session.antt`, `Step.antt`, `Order.antt` and `Conversion.antt`
 -- refuse.
-use Rattle.std.proofs.Common.{◌≡◌, ◌∙◌, ℕ, ◌+◌, ◌<◌, ◌≤◌, List, [], ◌∷◌, ◌++◌, length, take, Result, Err, Ok, ap, arith, append-nil, false, inl, inr, length-append, refl, subst, sym}
+use Rattle.std.proofs.Common.{◌≡◌, ◌∙◌, ℕ, ◌+◌, ◌<◌, ◌≤◌, List, [], ◌∷◌, ◌++◌, length, take, Err, Ok, ap, arith, false, inl, inr, length-append, refl, subst, sym}
 use Rattle.std.specs.List.{concat, All}
 use Rattle.std.proofs.lemmas.List.{append_cancel_left, same_from_push}
 use Rattle.std.proofs.lemmas.List.Elements.{All-head}
 use Rattle.encoding_mem.specs.Items.{Byte, Item}
 use Rattle.recode_log.specs.Call.{Call, Flush, IsWriteOfSome, Passed}
 use Rattle.recode_log.specs.Counted.{CountsWrites, history_of}
-use Rattle.recode_log.specs.Journal.{AtReader, Entry}
+use Rattle.recode_log.specs.Journal.{AtReader}
 use Rattle.recode_log.specs.declared.counted.Counted.{Counted}
-use Rattle.recode.specs.Conversion.{Converts, EndsInFault, IsConversion, IsFlushed, message_of}
+use Rattle.recode.specs.Conversion.{Converts, EndsInFault, IsConversion, message_of}
 use Rattle.recode.specs.Devices.{CountsFault, Devices, PortsView}
 use Rattle.recode.specs.Job.{Faithful, output_of}
 use Rattle.recode.specs.Latency.{ComeFirst, TookCertain, open_trace}
 use Rattle.recode.specs.Order.{KeepUp}
 use Rattle.recode.specs.Session.{Completes, Fails, input_of}
 use Rattle.recode.specs.Step.{GaveSome, RunCalls}
-use Rattle.recode.specs.TaggedByte.{Out, TaggedByte, output_bytes, tagged}
+use Rattle.recode.specs.TaggedByte.{Out, TaggedByte, tagged}
 use Rattle.recode.specs.declared.job.Fault.{Fault}
 use Rattle.recode.specs.declared.job.Fault.TheVariants.{Read, Write, Log, TooLong, Unmappable}
 use Rattle.recode.specs.declared.job.Job.{Job}

@@ -106,10 +106,12 @@ returns-in-Err-clause-calls g c = run_calls (ports_at c.args.ports.now) (ports_a
 
 pub returns-in-Ok-Done-clause-order : goal.returns-in-Ok-Done-clause-order
 returns-in-Ok-Done-clause-order g c = (
-    same_then _ _ _ c.run.invariant.same c.in-Ok-Done.ensures.order.0,
-    runs_on c.args.ports.now c.run.ports c.args.job c.run.invariant.paced (keeps_pace _ _ c.args.job (view_of c.new-session.result) _ c.requires.job c.new-session.ensures c.run.invariant.ran) _ c.in-Ok-Done.ensures.order.1)
+  same_then _ _ _ c.run.invariant.same c.in-Ok-Done.ensures.order.0,
+  runs_on c.args.ports.now c.run.ports c.args.job c.run.invariant.paced (keeps_pace _ _ c.args.job (view_of c.new-session.result) _ c.requires.job c.new-session.ensures c.run.invariant.ran) _ c.in-Ok-Done.ensures.order.1,
+)
 
 pub returns-in-Err-clause-order : goal.returns-in-Err-clause-order
 returns-in-Err-clause-order g c = (
-    same_then _ _ _ c.run.invariant.same c.in-Err.ensures.order.0,
-    runs_on c.args.ports.now c.run.ports c.args.job c.run.invariant.paced (keeps_pace _ _ c.args.job (view_of c.new-session.result) _ c.requires.job c.new-session.ensures c.run.invariant.ran) _ c.in-Err.ensures.order.1)
+  same_then _ _ _ c.run.invariant.same c.in-Err.ensures.order.0,
+  runs_on c.args.ports.now c.run.ports c.args.job c.run.invariant.paced (keeps_pace _ _ c.args.job (view_of c.new-session.result) _ c.requires.job c.new-session.ensures c.run.invariant.ran) _ c.in-Err.ensures.order.1,
+)

@@ -132,15 +132,18 @@ returns-then-read-self-clause-order g c = (c.in-Ok.ensures.journal.same, order_r
 
 pub returns-in_err-write_chunk-clause-order : goal.returns-in_err-write_chunk-clause-order
 returns-in_err-write_chunk-clause-order g c = (
-    same_then _ _ _ c.in-Ok.ensures.journal.same c.in_err-write_chunk.ensures.failures.journal.same,
-    order_chunk _ _ _ c.in-Ok.ensures.journal c.in-Ok.ensures.call _ c.in_err-write_chunk.ensures.failures.journal)
+  same_then _ _ _ c.in-Ok.ensures.journal.same c.in_err-write_chunk.ensures.failures.journal.same,
+  order_chunk _ _ _ c.in-Ok.ensures.journal c.in-Ok.ensures.call _ c.in_err-write_chunk.ensures.failures.journal,
+)
 
 pub returns-else-read-eq0-clause-order : goal.returns-else-read-eq0-clause-order
 returns-else-read-eq0-clause-order g c = (
-    same_then _ _ _ c.in-Ok.ensures.journal.same c.in_ok-write_chunk.ensures.failures.journal.same,
-    order_chunk _ _ _ c.in-Ok.ensures.journal c.in-Ok.ensures.call _ c.in_ok-write_chunk.ensures.failures.journal)
+  same_then _ _ _ c.in-Ok.ensures.journal.same c.in_ok-write_chunk.ensures.failures.journal.same,
+  order_chunk _ _ _ c.in-Ok.ensures.journal c.in-Ok.ensures.call _ c.in_ok-write_chunk.ensures.failures.journal,
+)
 
 pub returns-then-read-eq0-clause-order : goal.returns-then-read-eq0-clause-order
 returns-then-read-eq0-clause-order g c = (
-    same_then _ _ _ c.in-Ok.ensures.journal.same c.in_ok-write_chunk.ensures.failures.journal.same,
-    order_chunk _ _ _ c.in-Ok.ensures.journal c.in-Ok.ensures.call _ c.in_ok-write_chunk.ensures.failures.journal)
+  same_then _ _ _ c.in-Ok.ensures.journal.same c.in_ok-write_chunk.ensures.failures.journal.same,
+  order_chunk _ _ _ c.in-Ok.ensures.journal c.in-Ok.ensures.call _ c.in_ok-write_chunk.ensures.failures.journal,
+)
