@@ -61,7 +61,8 @@ class Page:
     """The definitions of the page, with the standard's indexes and encodings in their words."""
 
     def __init__(self):
-        clauses = [line for name in (*theorem.CLAUSES, "work") for line in theorem.clause("recode", theorem.FUNCTION, name)]
+        names = ("completes", "fails", "failures", "calls", "order", "work")
+        clauses = [line for name in names for line in theorem.clause("recode", theorem.FUNCTION, name)]
         words = [word for line in clauses for word in WORD.findall(line)]
         places = read(os.path.join(TOP, "crates", "encoding_labels", "src", "places.rt"))
         constants = {name: int(place) for name, place in re.findall(r"pub const (\w+): usize = (\d+);", places)}

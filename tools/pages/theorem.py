@@ -17,9 +17,13 @@ from definitions import CRATES, TOP, WORD, closure, definitions, read
 PAGE = os.path.join(TOP, "docs", "THEOREM.md")
 LIST = os.path.join(TOP, "out", "docs", "theorem.md")
 
-# The function whose contract is the theorem, and its clauses that are.
+# The function whose contract is the theorem, and its clauses that are; and the laws that the page has beside it.
 FUNCTION = "run_on"
-CLAUSES = ("completes", "fails", "failures", "calls", "order")
+CLAUSES = ("completes", "fails", "decided", "failures", "calls", "order")
+LAWS = (
+    "statuses_say_what_was_done", "what_each_fault_leaves", "trace_of_input", "answers_without_faults",
+    "faithful_output_reads_back",
+)  # fmt: skip
 
 # What the definitions of each crate are about, in the order to read them in.
 GROUPS = [
@@ -29,6 +33,9 @@ GROUPS = [
     ("encoding_mem", "Pieces, texts and what is written for them"),
     ("encoding_tables", "Indexes, and the encodings of one byte, UTF-16 and replacement"),
     ("encoding_codecs", "The encodings of two and more bytes"),
+    ("recode_words", "Arguments"),
+    ("encoding_index", "Index texts"),
+    ("encoding_labels", "Labels"),
 ]  # fmt: skip
 
 # A name of a definition, a function or a type, as the page has it in code.
@@ -52,12 +59,21 @@ def clause(crate, function, name, kind="ensures"):
     return taken
 
 
-def stands_on(premises=True):
-    """The definitions that the clauses, and with them the premises, stand on, each with how far it is from them."""
+def stands_on(lines):
+    """The definitions that clauses stand on, each with how far it is from them."""
     found, imports = definitions([crate for crate, _ in GROUPS])
-    lines = [line for name in CLAUSES for line in clause("recode", FUNCTION, name)]
-    lines += clause("recode", FUNCTION, None, "requires") if premises else []
     return closure([word for line in lines for word in WORD.findall(line)], found, imports)[0]
+
+
+def clauses():
+    """The clauses of the theorem."""
+    return [line for name in CLAUSES for line in clause("recode", FUNCTION, name)]
+
+
+def beside():
+    """The premises of the theorem, what `convert_on` adds, and the laws beside it."""
+    lines = clause("recode", FUNCTION, None, "requires") + clause("recode", FUNCTION, "work") + clause("recode", "convert_on", None)
+    return lines + [line for law in LAWS for line in clause("recode", law, None)]
 
 
 def listed(seen):
@@ -87,14 +103,14 @@ def faults():
     for name in NAME.findall(read(PAGE)):
         if name not in known:
             yield "docs/THEOREM.md names %s, which is not there" % name
-    for path in sorted({definition.path for definition in stands_on(premises=False) if "/calls/" in definition.path}):
+    for path in sorted({definition.path for definition in stands_on(clauses()) if "/calls/" in definition.path}):
         yield "the theorem stands on %s, which is no part of what it means" % path
 
 
 def main():
     os.makedirs(os.path.dirname(LIST), exist_ok=True)
     with open(LIST, "w", encoding="utf-8") as file:
-        file.write("\n".join(listed(stands_on())))
+        file.write("\n".join(listed(stands_on(clauses() + beside()))))
 
 
 if __name__ == "__main__":
