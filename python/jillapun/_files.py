@@ -266,19 +266,22 @@ def _put_all(
     return conversion.report
 
 
-def _is_utf_8(given: BinaryIO) -> bool:
-    """Whether a file is well-formed UTF-8, and not all ASCII. The file is at its start, and stays there."""
+def _is_utf_8(given: BinaryIO, from_utf_16: bool) -> bool:
+    """Whether a file is well-formed UTF-8, and not all ASCII, unless it would be read as UTF-16: then it is enough that some
+    byte is there, and none is NUL. The file is at its start, and stays there."""
     decoder, is_ascii, data = codecs.getincrementaldecoder("utf-8")(), True, b"\0"
+    is_text = False
     try:
         while data:
             data = chunk_of(given)
             decoder.decode(data, not data)
             is_ascii = is_ascii and data.isascii()
+            from_utf_16, is_text = from_utf_16 and b"\0" not in data, is_text or bool(data)
     except UnicodeDecodeError:
         return False
     finally:
         given.seek(0)
-    return not is_ascii
+    return not is_ascii or (from_utf_16 and is_text)
 
 
 class _Work:
@@ -297,7 +300,7 @@ class _Work:
             return False
         is_marked = job.mark == "sniff" and given.read(len(_MARK)) == _MARK
         given.seek(0)
-        return not is_marked and _is_utf_8(given)
+        return not is_marked and _is_utf_8(given, name(job.source).startswith("UTF-16"))
 
     def put(self, given: BinaryIO, before: os.stat_result, made: BinaryIO) -> ConvertedFile:
         """Converts a file to its end. Raises an error if it is no longer what it was before."""
@@ -409,8 +412,9 @@ def convert_file(
 
     To convert a file in place, pass its path twice, and `in_place=True` or `backup`. It is replaced only if nothing is
     lost, or with `lossy` or `backup`. Otherwise it stays as it was, and `NotReplaced` is raised, which has the counts. A
-    file that is well-formed UTF-8 already, and not all ASCII, is not converted from another encoding to UTF-8, which
-    would encode it twice: `AlreadyUtf8` is raised, unless `force` is given. Other hard links keep the old content.
+    file that is well-formed UTF-8 already is not converted from another encoding to UTF-8, which would encode it twice:
+    `AlreadyUtf8` is raised, unless `force` is given. One that is all ASCII is converted, except from UTF-16. Other hard
+    links keep the old content.
 
     Each loss, a `Bad` or a `Lost`, is counted and passed to `on_loss` in the order of the text; the first `keep_losses`
     are kept. `progress` is called after each chunk with the number of bytes read so far.

@@ -27,10 +27,11 @@ another output or an input, nothing is written.
 
 With --in-place, a file is replaced if nothing is lost. Otherwise it stays as it was, and the status
 is 1: --lossy replaces it all the same, and so does --backup, which keeps the original. A file that
-is UTF-8 already, and not all ASCII, is not converted to UTF-8 again from another encoding, so you
-can restart an interrupted conversion to UTF-8; --force converts it. This is checked only in place.
-Owner (if it can be set), permissions and extended attributes are kept; the time of change is new,
-and other hard links keep the old content. A symbolic link is refused, also as an output of --into.
+is UTF-8 already is not converted to UTF-8 again from another encoding, so you can restart an
+interrupted conversion to UTF-8; --force converts it. One that is all ASCII is converted, except
+from UTF-16. This is checked only in place. Owner (if it can be set), permissions and extended
+attributes are kept; the time of change is new, and other hard links keep the old content. A
+symbolic link is refused, also as an output of --into.
 
 Each loss is a line, NAME: bad OFFSET LENGTH or NAME: lost INDEX SCALAR, as in the log of recode, on
 standard output, or on standard error if the conversion goes to standard output. Control characters

@@ -218,6 +218,17 @@ class InPlace(Folder):
         jillapun.convert_file(self.path, self.path, "windows-1252", "utf-8", in_place=True, force=True)
         self.holds(a=twice(data))
 
+    def test_ascii_is_not_read_in_pairs(self) -> None:
+        """ASCII is UTF-8 already where UTF-16 would be read; an empty file, or one with NUL bytes, is not."""
+        for data, made in ((b"price", None), (b"", b""), (b"a\0b\0", b"ab")):
+            self.put("a", data)
+            words = self.path, self.path, "utf-16le", "utf-8"
+            if made is None:
+                self.assertRaises(jillapun.AlreadyUtf8, jillapun.convert_file, *words, in_place=True)
+            else:
+                jillapun.convert_file(*words, in_place=True)
+            self.holds(a=data if made is None else made)
+
     def test_what_is_no_utf_8_yet(self) -> None:
         """ASCII, other bytes, a sequence that ends too early, also in a second chunk; a mark, which names UTF-8; and
         other outputs and other places."""
