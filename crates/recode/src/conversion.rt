@@ -153,9 +153,9 @@ pub fn convert<R: Read, W: Write, L: Write>(
     convert_on(&mut ports, job, buffers)
 }
 
-/// The same of devices that stand in `Ports`. At each call of the reader, all that is certain of what
-/// it gave before has been written and logged, in one order, and no more. The writer's flush comes
-/// before the log's, and both come before the message.
+/// Like `convert`, over `Ports`: at each call of the reader, the writer and the log have taken all
+/// that is certain of what it gave before, in one order, and no more. The writer is flushed before
+/// the log, and both before the message.
 ///
 /// Conditions: those of `convert`.
 pub fn convert_on<R: Read, W: Write, L: Write>(

@@ -281,8 +281,8 @@ pub fn program<S: IndexSource, R: Read, W: Write, L: Write>(
     program_on(alloc, words, source, &mut ports)
 }
 
-/// The same of devices that stand in `Ports`. If a job is run, then at each call of the reader all
-/// that is certain of what it gave before has been written and logged, in one order, and no more.
+/// Like `program`, over `Ports`. If a job is run, then at each call of the reader the writer and the
+/// log have taken all that is certain of what it gave before, in one order, and no more.
 ///
 /// Conditions: those of `program`.
 pub fn program_on<S: IndexSource, R: Read, W: Write, L: Write>(

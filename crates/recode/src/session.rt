@@ -175,8 +175,8 @@ impl<'t> Session<'t> {
         self.step_on(&mut ports, buffers)
     }
 
-    /// The same of devices that stand in `Ports`, whose journal has the calls of all three: the read
-    /// is the first.
+    /// Like `step`, over `Ports`. Its journal grows by one call of the reader, then by calls of the
+    /// writer and the log.
     ///
     /// Conditions: those of `step`.
     pub fn step_on<R: Read, W: Write, L: Write>(
@@ -292,9 +292,9 @@ pub fn run<R: Read, W: Write, L: Write>(
     run_on(&mut ports, job, buffers)
 }
 
-/// The same of devices that stand in `Ports`. At each call of the reader, all that is certain of what
-/// it gave before has been written and logged, in one order, and no more: its journal has the calls
-/// of all three.
+/// Like `run`, over `Ports`, whose journal has the calls of all three devices in their order: at each
+/// call of the reader, the writer and the log have taken all that is certain of what it gave before,
+/// in one order, and no more.
 ///
 /// Conditions: those of `run`.
 pub fn run_on<R: Read, W: Write, L: Write>(

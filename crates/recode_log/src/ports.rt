@@ -1,5 +1,5 @@
-//! A reader, a writer and a log with one journal of their calls. No call of a device of these goes
-//! round it.
+//! A reader, a writer and a log with one journal of their calls. Each call that is made of them here
+//! is in it.
 
 ghost use Rattle.std.specs.Prelude.{◌≡◌, ℕ, ◌+◌, ◌-◌, ◌^◌, ◌<◌, [], ◌++◌, take, length};
 ghost use Rattle.std.specs.Prelude.{IsOk, OnOk, OnErr, IfErr};
@@ -21,8 +21,8 @@ use std::io::{Read, Write};
 /// A reader, a writer of output and a log, and one journal of their calls, in their one order.
 ///
 /// Each function calls one of the three, and puts its calls at the end of the journal. Nothing else
-/// has a way to them or to the journal, which takes no memory: clauses alone read it. The history
-/// of each device is what the journal has of it.
+/// can reach them or the journal, which takes no memory: only clauses read it. The history of each
+/// device is what the journal has of it.
 #[derive(Drop)]
 pub struct Ports<'r, 'w, 'l, R, W, L> {
     reader: &'r mut Counted<R>,

@@ -100,8 +100,8 @@ pub fn answer<C: CommandLine + AllocGlobal, S: IndexSource, R: Read, W: Write, L
     answer_on(line, indexes, &mut ports)
 }
 
-/// The same of devices that stand in `Ports`. If a job is run, then at each call of the reader all
-/// that is certain of what it gave before has been written and logged, in one order, and no more.
+/// Like `answer`, over `Ports`. If a job is run, then at each call of the reader the writer and the
+/// log have taken all that is certain of what it gave before, in one order, and no more.
 ///
 /// Conditions: those of `answer`.
 pub fn answer_on<C: CommandLine + AllocGlobal, S: IndexSource, R: Read, W: Write, L: Write>(
