@@ -64,7 +64,7 @@ impl<'a> Read for Broken<'a> {
 }
 
 // Joins a log that is refused for this fault, after these bytes.
-fn refuses<R: Read>(reader: R, fault: JoinFault, joined: &[u8], alloc: Global) -> bool {
+fn refuses<R: Read + Drop>(reader: R, fault: JoinFault, joined: &[u8], alloc: Global) -> bool {
     let mut part = Counted::new(reader);
     let mut whole = Counted::new(Vec::new(alloc));
     let before = Before {
