@@ -92,13 +92,13 @@ pub(crate) fn refuses_a_broken_log(alloc: Global) -> bool {
     true
 }
 
-/// Joins texts that end within a line, or have a line that is none of a log. Each is refused, after
-/// the lines before it.
+/// Joins texts that end within a line, or have a line that is none of a log. Each is refused, with a
+/// prefix of its lines written.
 pub(crate) fn refuses_a_text(alloc: Global) -> bool {
     let rows: [(&[u8], &[u8]); 4] = [
         (b"bad 6 1", b""),
         (b"bad 6 1\nlost 7 12", b"bad 1006 1\n"),
-        (b"bad 6 1\nrecode: read fault\n", b"bad 1006 1\n"),
+        (b"bad 6 1\nrecode: read fault\n", b""),
         (b"bad 281474976710000 1\n", b""),
     ];
     for (text, joined) in rows {
