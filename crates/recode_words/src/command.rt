@@ -180,7 +180,7 @@ pub(crate) fn command<'a>(alloc: Global) -> Result<Command<'a>, AllocError>
             "pivot",
             "utf8",
             "FORM",
-            "Text in between: utf8 or utf16, with the same output",
+            "Decoded text: utf8 or utf16, with the same output",
         ))?
         .arg(default_option(
             alloc,
