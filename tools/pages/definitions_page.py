@@ -1,5 +1,5 @@
 #!/usr/bin/env python3
-"""The files of definitions, `out/pages/definitions.md`, each with what it says of itself: `make generate`.
+"""The files of definitions, `out/docs/definitions.md`, each with what it says of itself: `make generate`.
 
     python3 tools/pages/definitions_page.py
 
@@ -12,7 +12,7 @@ import sys
 
 from definitions import CRATES, TOP, read
 
-PAGE = os.path.join(TOP, "out", "pages", "definitions.md")
+PAGE = os.path.join(TOP, "out", "docs", "definitions.md")
 
 # The crates in the order to read them in, each with what its definitions are of.
 PARTS = [
@@ -35,7 +35,7 @@ PARTS = [
 
 HEAD = """# Definitions
 
-What the contracts speak of, and so what has to be read to trust a claim: the files of `specs/` in each crate, below in the order to read them in. What [the theorem](../../docs/THEOREM.md) stands on is picked out of them in [theorem.md](../docs/theorem.md). Each file opens with a paragraph that says what it defines, and with the section of the standard that it follows. Worked rows stand in `specs/examples/`, most of them under the name of their file; they and the theorems in `specs/laws/` and `proofs/` are proved and need not be read.
+What the contracts speak of, and so what has to be read to trust a claim: the files of `specs/` in each crate, below in the order to read them in. What [the theorem](../../docs/THEOREM.md) stands on is picked out of them in [theorem.md](theorem.md). Each file opens with a paragraph that says what it defines, and with the section of the standard that it follows. Worked rows stand in `specs/examples/`, most of them under the name of their file; they and the theorems in `specs/laws/` and `proofs/` are proved and need not be read.
 
 From the standard library come scalars, the bytes of a text in UTF-8 (RFC 3629) and its units in UTF-16 (Unicode).
 """

@@ -340,13 +340,12 @@ pub fn steps_add_up()
         → HasReached t t2 j s1 (x ++ p.chunk) (ps ++ p.advances.taken) }
 {}
 
-/// A session stepped by hand keeps the promise of `run`: steps that went on, and the one that ended
-/// them, are a run. At the start there are none, and each that returns `More` is added. With one
-/// that returns `Done`, and with the session's report, they are a run that came to its end; with
-/// one that returns a fault, a run that it ended. The report says as few calls as one of `run`. At
-/// the end the session has counted the characters of the text of what was read. After each step
-/// that went on, what was written is all that is certain of what was read, output and log in one
-/// order.
+/// A session that is stepped by hand keeps the promise of `run`. The steps that returned `More`, and
+/// the one that ended them, are a run: a complete one if the last returned `Done`, with the report
+/// of the session; a failed one if it returned a fault. The report counts as few calls as one of
+/// `run`. At the end the session has counted the characters of the text of what was read. After
+/// each `More`, the writer and the log have taken, in one order, all that is certain of what was
+/// read.
 pub fn steps_are_a_run()
     ensures begins { (t : Devices) (j : Job) (v : View) → IsNewSession v j
         → HasRun t t j.limit v.state v.state }
@@ -500,9 +499,9 @@ pub fn statuses_say_what_was_done<R, W, L>()
         → StatusSays holds before after words status }
 {}
 
-/// What is certain (`TookCertain`) is told of what is written without the escape at its end. It is
-/// the front of the trace, and all of it in an output encoding that is compatible with ASCII: there
-/// no escape is written.
+/// `TookCertain` leaves out the escape sequence at the end of a trace. What remains is a prefix of
+/// the trace, and all of it if the output encoding is compatible with ASCII, as there is no escape
+/// sequence then.
 pub fn certain_is_of_the_trace()
     ensures front { (j : Job) (x : List ℕ) → IsPrefix (open_trace j x) (trace j x) }
     ensures same { (j : Job) (x : List ℕ)
@@ -527,10 +526,10 @@ pub fn what_each_fault_leaves()
     ensures { (s s' : Devices) (j : Job) (f : Fault) → Fails s s' j f → FaultLeaves s s' j f }
 {}
 
-/// How the calls of steps follow one another (`Ports`). There are none at the start. If the calls
-/// so far kept up, and what was written so far is all that is certain (`steps_are_a_run`), those
-/// of one step more keep up too: its read comes first. What the writer and the log have taken up
-/// to any call is a prefix of what they take in all.
+/// The order of the calls of steps, over `Ports`. It holds before the first step. If it holds of the
+/// calls so far, and all that is certain was taken (`steps_are_a_run`), it holds after one more
+/// step, which begins with a read. What the writer and the log took up to any call is a prefix of
+/// what they took in all.
 pub fn steps_keep_up<R, W, L>()
     ensures begins { (es : List Entry) (j : Job) → RunsInOrder es es j }
     ensures goes_on { (a b : Ports R W L) (j : Job) (after : List Entry)

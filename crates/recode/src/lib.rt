@@ -7,9 +7,9 @@
 //! to a writer and a log; `Session` makes it step by step; `program` does what the words of a
 //! command line ask for. Readers and writers are wrapped in `Counted`, and buffers are lent
 //! (`Buffers`): nothing is kept between calls but a few bytes. `run_on`, `convert_on`, `step_on` and
-//! `program_on` do the same with devices that stand in `Ports`, and also say how the calls of all
-//! three follow one another. `Converter` does the same without devices: bytes are handed in and
-//! taken out, as of a decoder or an encoder.
+//! `program_on` do the same over `Ports`, and also promise the order of the calls of all three
+//! devices. `Converter` does the same without I/O: pass it input and an output buffer, as a decoder
+//! or an encoder.
 //!
 //! # Use
 //!

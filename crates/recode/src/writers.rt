@@ -20,8 +20,8 @@ pub struct MalformedLine {
 
 // Bytes are held here, not by a writer with a buffer of its own: that would have to know of the log
 // to write the bytes that come before a line ahead of it.
-/// What is held of what a conversion writes: the line of a malformed sequence, and behind it bytes
-/// of the output, at the start of a buffer that each call is lent.
+/// Output that is not delivered yet: the line of a malformed sequence, and after it bytes at the
+/// start of the buffer that the caller passes to each call.
 ///
 /// It is delivered before the next line, so that each line is written after the bytes that come
 /// before it; if the buffer has little room left; and at the end of a step. All bytes that are held
