@@ -306,7 +306,7 @@ typedef struct {
     jillapun_bytes text;
 } jillapun_index_file;
 
-/** The index file that was not loaded. */
+/** The index file at which loading failed. */
 typedef struct {
     /**
      * Its position in `files`, from 0; `files_len` if only the last allocation failed, after all
@@ -675,8 +675,8 @@ jillapun_status jillapun_tables_is_ready(jillapun_tables tables, uint8_t encodin
  * handle. A decoder or an encoder needs only the indexes of its encoding; a conversion needs
  * those of both encodings in one handle.
  *
- * After an error `out` is unchanged, and `fault` gives the first file that was not loaded.
- * Otherwise `fault` is unchanged. Errors:
+ * After an error nothing is loaded, `out` is unchanged, and `fault` has the file at which
+ * loading failed. Otherwise `fault` is unchanged. Errors:
  *
  * - `JILLAPUN_IN_USE`: `out` is not empty. `fault` is unchanged.
  * - `JILLAPUN_UNKNOWN`: no index has a file of this name.

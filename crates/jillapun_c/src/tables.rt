@@ -10,7 +10,7 @@ use crate::tables_handle::TablesHandle;
 use encoding_tables::Tables;
 use std::alloc::Global;
 
-/// The index file that was not loaded.
+/// The index file at which loading failed.
 #[repr(C)]
 #[derive(Clone, Copy)]
 pub struct IndexFault {
@@ -28,8 +28,8 @@ pub struct IndexFault {
 /// handle. A decoder or an encoder needs only the indexes of its encoding; a conversion needs those
 /// of both encodings in one handle.
 ///
-/// After an error `out` is unchanged, and `fault` gives the first file that was not loaded.
-/// Otherwise `fault` is unchanged. Errors:
+/// After an error nothing is loaded, `out` is unchanged, and `fault` has the file at which loading
+/// failed. Otherwise `fault` is unchanged. Errors:
 ///
 /// - `IN_USE`: `out` is not empty. `fault` is unchanged.
 /// - `UNKNOWN`: no index has a file of this name.
